@@ -1,0 +1,9 @@
+-- Mathematics that is not ours: what the other crates' definitions and proofs lean on.
+pub mod Test
+pub mod Tests
+pub mod Integer
+pub mod Gcd
+pub mod Tabulate
+pub mod Front
+pub mod Over
+pub mod Tail

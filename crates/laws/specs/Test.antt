@@ -1,0 +1,100 @@
+-- Tests that compute, and what they say.
+use mathlib.Core.Path.{_≡_, refl, sym, subst, ap, ap₂}
+use mathlib.Core.Bool.{Bool, true, false, not, _&&_}
+use mathlib.Core.List.{List, [], _∷_, _++_}
+use mathlib.Core.Logic.{_⊎_, inl, inr, ⊎-elim}
+use Prim.Native.Nat.{ℕ, zero, suc, _+_, _<_, _≤_}
+use native.Mathlib.Nat.{not-suc-le-zero, le-of-suc-le-suc, eq-or-lt-of-le, zero-lt-suc}
+use native.Mathlib.Omega.{arith}
+use native.Mathlib.Numerals.{add-one}
+use lib.Dec.{T, eqb, eqb-refl, ltb, ltb→lt, nltb→le}
+use lib.ListN.{length, getD}
+
+infixr 1 if_then_else_
+-- one of two, by a test
+abbrev pub if_then_else_ {ℓ} : {A : Type ℓ} → Bool → A → A → A
+if true then a else b = a
+if false then a else b = b
+
+pub and-left : (a b : Bool) → T (a && b) → T a
+and-left true b t = tt
+and-left false b t = absurd t
+
+pub and-right : (a b : Bool) → T (a && b) → T b
+and-right true b t = t
+and-right false b t = absurd t
+
+pub and-both : (a b : Bool) → T a → T b → T (a && b)
+and-both true b s t = t
+and-both false b s t = absurd s
+
+-- of every index below n
+unfoldable pub allb : ℕ → (ℕ → Bool) → Bool
+allb zero f = true
+allb (suc n) f = let r = allb n f in f n && r
+
+pub allb-at : (n : ℕ) (f : ℕ → Bool) → T (allb n f) → (i : ℕ) → i < n → T (f i)
+unfolding allb
+allb-at zero f t i h = absurd (not-suc-le-zero h)
+allb-at (suc n) f t i h =
+    ⊎-elim (λ (e : i ≡ n). subst (λ (k : ℕ). T (f k)) (sym e) (and-left (f n) (allb n f) t))
+    (λ (l : i < n). allb-at n f (and-right (f n) (allb n f) t) i l)
+    (eq-or-lt-of-le (le-of-suc-le-suc h))
+
+pub allb-all : (n : ℕ) (f : ℕ → Bool) → ((i : ℕ) → i < n → T (f i)) → T (allb n f)
+unfolding allb
+allb-all zero f h = tt
+allb-all (suc n) f h = and-both (f n) (allb n f) (h n (omega arith)) (allb-all n f (λ i l. h i (omega arith)))
+
+-- an order is decided
+pub lt-or-le : (a b : ℕ) → (a < b) ⊎ (b ≤ a)
+lt-or-le a b = by (ltb a b) (ltb→lt a b) (nltb→le a b)
+  where
+    by : (t : Bool) → (T t → a < b) → (T (not t) → b ≤ a) → (a < b) ⊎ (b ≤ a)
+    by true f g = inl (f tt)
+    by false f g = inr (g tt)
+
+pub eqb-of : (a b : ℕ) → a ≡ b → T (eqb a b)
+eqb-of a b e = subst (λ (k : ℕ). T (eqb a k)) e (eqb-refl a)
+
+pub eq-or-ne : (a b : ℕ) → (a ≡ b) ⊎ (a ≡ b → ⊥)
+eq-or-ne a b = ⊎-elim (λ (l : a < b). inr (λ e. omega arith)) (λ (l : b ≤ a). ⊎-elim (λ (k : b < a). inr (λ e. omega arith)) (λ (k : a ≤ b). inl (omega arith)) (lt-or-le b a)) (lt-or-le a b)
+
+-- a test goes one way or the other, with the equation
+pub decide : (b : Bool) → (b ≡ true) ⊎ (b ≡ false)
+decide true = inl refl
+decide false = inr refl
+
+pub T-is : (b : Bool) → T b → b ≡ true
+T-is true t = refl
+T-is false t = absurd t
+
+pub is-T : (b : Bool) → b ≡ true → T b
+is-T b e = subst T (sym e) tt
+
+-- the default does not matter within the list
+pub getD-any {ℓ} : {A : Type ℓ} (l : List A) (i : ℕ) (a b : A) → i < length l → getD l i a ≡ getD l i b
+getD-any [] i a b h = absurd (not-suc-le-zero h)
+getD-any (x ∷ l) zero a b h = refl
+getD-any (x ∷ l) (suc i) a b h = getD-any l i a b (le-of-suc-le-suc h)
+
+-- what holds of both holds of the one chosen
+pub if-both {ℓ} : {A : Type ℓ} (Q : A → Type 0) (b : Bool) {x y : A} → Q x → Q y → Q (if b then x else y)
+if-both Q true f g = f
+if-both Q false f g = g
+
+-- a loop that tests f at 0, 1, .. : all so far, and one that fails
+pub allb-more : (n : ℕ) (f : ℕ → Bool) → allb n f ≡ true → f n ≡ true → allb (n + 1) f ≡ true
+unfolding allb
+allb-more n f a b = rw (add-one, b, a)
+
+pub allb-fails : (n i : ℕ) (f : ℕ → Bool) → i < n → f i ≡ false → allb n f ≡ false
+allb-fails n i f h e = T-not-is (allb n f) (λ t. subst T e (allb-at n f t i h))
+  where
+    T-not-is : (b : Bool) → (T b → ⊥) → b ≡ false
+    T-not-is true g = absurd (g tt)
+    T-not-is false g = refl
+
+pub allb-none : (f : ℕ → Bool) → allb 0 f ≡ true
+unfolding allb
+allb-none f = refl
