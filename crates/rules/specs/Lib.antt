@@ -1,3 +1,5 @@
 -- The rules of document 01 as definitions, a file for each part of it.
 pub mod Circuit
+pub mod Form
+pub mod CircuitText
 pub mod Network
