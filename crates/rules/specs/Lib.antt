@@ -1,4 +1,8 @@
 -- The rules of document 01 as definitions, a file for each part of it.
+pub mod Outcome
+pub mod Rotation
+pub mod Span
+pub mod Builder
 pub mod Circuit
 pub mod Form
 pub mod CircuitText
