@@ -7,3 +7,4 @@ pub mod Circuit
 pub mod Form
 pub mod CircuitText
 pub mod Network
+pub mod Scale
