@@ -5,12 +5,13 @@ use mathlib.Core.Option.{Option, none, some}
 use Prim.Native.Nat.{ℕ, suc, _+_, _*_}
 use lib.Dec.{leb, eqb}
 use lib.ListN.{length}
-use Rattle.laws.specs.Test.{if_then_else_}
+use Rattle.laws.specs.Test.{isSome}
 use Rattle.rules.specs.declared.Policy.{Policy}
 use Rattle.rules.specs.declared.Policy.the-variants.{Basic, Naive, Span}
 use Rattle.rules.specs.declared.Settings.{Settings}
 use Rattle.rules.specs.declared.Wire.{Wire}
 use Rattle.rules.specs.declared.Wire.the-variants.{Const, Node}
+use Rattle.rules.specs.Builder.{tableLimits}
 use Rattle.rules.specs.Circuit.{Name, Gate, Output, Circuit}
 use Rattle.rules.specs.Form.{Reader, give, _>>=_, _>>_, _or_, whole, many, word, number, name, bits, wire, norm, inLine, outLine, lines, Condition, _when_, Reading, Good, Refused, readLines}
 
@@ -32,31 +33,31 @@ tables = (word "one" >> give false) or (word "many" >> give true)
 -- `(fbs P M T NORM POLICY TABLES)`
 unfoldable pub fbsLine : Reader Settings
 fbsLine = do
-    word "(fbs "
-    p ← number
-    word " "
-    m ← number
-    word " "
-    t ← number
-    word " "
-    l ← norm
-    word " "
-    q ← policy
-    word " "
-    b ← tables
-    word ")\n"
-    give (record { p = p; m = m; t = t; norm = l; policy = q; many = b })
+  word "(fbs "
+  p ← number
+  word " "
+  m ← number
+  word " "
+  t ← number
+  word " "
+  l ← norm
+  word " "
+  q ← policy
+  word " "
+  b ← tables
+  word ")\n"
+  give (record { p = p; m = m; t = t; norm = l; policy = q; many = b })
 
 -- `(gate NAME BITS WIRE ..)`
 unfoldable pub gateLine : Reader CircuitLine
 gateLine = do
-    word "(gate "
-    name
-    word " "
-    b ← bits
-    ws ← many (word " " >> wire)
-    word ")\n"
-    give (GateLine b ws)
+  word "(gate "
+  name
+  word " "
+  b ← bits
+  ws ← many (word " " >> wire)
+  word ")\n"
+  give (GateLine b ws)
 
 unfoldable pub circuitLine : List ℕ → Option CircuitLine
 circuitLine =
@@ -72,17 +73,9 @@ pub record Prefix : Type 0 where
   pub gates : List Gate
   pub outputs : List Output
 
--- P from 2 to 16, M from P to 2P.
-unfoldable pub tableLimits : ℕ → ℕ → Bool
-tableLimits p m = leb 2 p && leb p 16 && (leb p m && leb m (2 * p))
-
--- and T from 1 to 10
+-- P and M as the builder has them, T from 1 to 10.
 unfoldable pub inLimits : Settings → Bool
 inLimits s = tableLimits (s .p) (s .m) && (leb 1 (s .t) && leb (s .t) 10)
-
-unfoldable pub missing : {A : Type 0} → Option A → Bool
-missing none = true
-missing (some a) = false
 
 unfoldable pub some? : {A : Type 0} → List A → Bool
 some? [] = false
@@ -116,21 +109,21 @@ matching b ws = (eqb (length ws) 1 && eqb (length b) 2) || (eqb (length ws) 2 &&
 
 -- Conditions 2 to 7 of a form, lowest first.
 unfoldable pub conditions : Prefix → CircuitLine → List Condition
-conditions c (FbsLine s) = (2 when not (inLimits s)) ∷ (4 when not (missing (c .settings))) ∷ []
+conditions c (FbsLine s) = (2 when not (inLimits s)) ∷ (4 when isSome (c .settings)) ∷ []
 conditions c (InLine n) =
     (3 when leb 32 (length (c .inputs)))
-    ∷ (4 when (missing (c .settings) || (some? (c .gates) || some? (c .outputs))))
+    ∷ (4 when (not (isSome (c .settings)) || (some? (c .gates) || some? (c .outputs))))
     ∷ (5 when listed n (c .inputs))
     ∷ []
 conditions c (GateLine b ws) =
     (3 when leb 96 (length (c .gates)))
-    ∷ (4 when (missing (c .settings) || some? (c .outputs)))
+    ∷ (4 when (not (isSome (c .settings)) || some? (c .outputs)))
     ∷ (6 when anyNoNode (nodeCount c) ws)
     ∷ (7 when not (matching b ws))
     ∷ []
 conditions c (OutLine o) =
     (3 when leb 32 (length (c .outputs)))
-    ∷ (4 when missing (c .settings))
+    ∷ (4 when not (isSome (c .settings)))
     ∷ (6 when noNode (nodeCount c) (o .wire))
     ∷ []
 
@@ -141,11 +134,12 @@ unfoldable pub withLine : ℕ → Prefix → CircuitLine → Prefix
 withLine i c (FbsLine s) = record { settings = some s; inputs = c .inputs; gates = c .gates; outputs = c .outputs }
 withLine i c (InLine n) = record { settings = c .settings; inputs = c .inputs ++ (n ∷ []); gates = c .gates; outputs = c .outputs }
 withLine i c (GateLine b ws) =
-    record
-    { settings = c .settings
-    ; inputs = c .inputs
-    ; gates = c .gates ++ (record { bits = b; wires = ws; line = i } ∷ [])
-    ; outputs = c .outputs }
+    record {
+      settings = c .settings;
+      inputs = c .inputs;
+      gates = c .gates ++ (record { bits = b; wires = ws; line = i } ∷ []);
+      outputs = c .outputs;
+    }
 withLine i c (OutLine o) = record { settings = c .settings; inputs = c .inputs; gates = c .gates; outputs = c .outputs ++ (o ∷ []) }
 
 -- At the text's end the `fbs` line must be there.

@@ -207,17 +207,17 @@ norm = (word "none" >> give Unlimited) or (number >>= upTo4096)
 -- `(in NAME)`
 unfoldable pub inLine : Reader Name
 inLine = do
-    word "(in "
-    n ← name
-    word ")\n"
-    give n
+  word "(in "
+  n ← name
+  word ")\n"
+  give n
 
 -- `(out NAME WIRE)`
 unfoldable pub outLine : Reader Output
 outLine = do
-    word "(out "
-    n ← name
-    word " "
-    w ← wire
-    word ")\n"
-    give (record { name = n; wire = w })
+  word "(out "
+  n ← name
+  word " "
+  w ← wire
+  word ")\n"
+  give (record { name = n; wire = w })

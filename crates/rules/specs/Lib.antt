@@ -6,5 +6,8 @@ pub mod Builder
 pub mod Circuit
 pub mod Form
 pub mod CircuitText
-pub mod Network
 pub mod Scale
+pub mod Network
+pub mod NetworkText
+pub mod Writing
+pub mod Runs

@@ -46,3 +46,35 @@ pub enum BuilderReply {
     // more bits than the answer buffer has bytes
     ShortBuffer,
 }
+
+// What admission tells of a network, recounted from its nodes (MappingStats in the Rust).
+pub struct Stats {
+    pub inputs: usize,
+    pub sums: usize,
+    pub boots: usize,
+    // different sources of boots
+    pub sources: usize,
+    pub longest: usize,
+    pub norm: usize,
+    pub outputs: usize,
+}
+
+// What admission answers: the statistics, or the number and the line of the refusal.
+pub enum AdmitReply {
+    Admitted(Stats),
+    Refused(usize, usize),
+}
+
+// What a run answers.
+pub enum RunReply {
+    // the count of values written, one an output
+    Ran(usize),
+    // the text's refusal: number and line
+    Unreadable(usize, usize),
+    // not a bit for each input
+    BadBits,
+    // more outputs than the buffer has places
+    ShortBuffer,
+    // a boot broke off
+    BrokenOff,
+}
