@@ -6,12 +6,13 @@ use mathlib.Core.Logic.{_⊎_, ⊎-elim, _≢_}
 use mathlib.Core.Option.{Option, none, some}
 use Prim.Native.Nat.{ℕ, zero, suc, _+_, _<_, _≤_}
 use native.Mathlib.Nat.{not-suc-le-zero, le-of-suc-le-suc}
+use native.Mathlib.Numerals.{add-one}
 use native.Mathlib.Omega.{arith}
 use borrow.Author.Tests.{le-leb, eq-eqb, ne-eqb, leb-true, eqb-true}
 use lib.Dec.{T, leb, eqb}
 use lib.IntN.{ℤ, pos, natAbs, _-ℤ_}
-use lib.ListN.{length, getD, set, replicate, length-set, length-replicate, getD-replicate, List·getD-eq-default}
-use lib.Seq.{getD-set-same, getD-set-other, set-out}
+use lib.ListN.{length, getD, set, drop, replicate, drop-of-length-le, length-set, length-replicate, getD-replicate, List·getD-eq-default}
+use lib.Seq.{getD-set-same, getD-set-other, set-out, drop-cons}
 use Rattle.laws.specs.Test.{if_then_else_, lt-or-le, eq-or-ne, decide}
 use Rattle.rules.specs.Builder.{agrees, enter}
 use Rattle.theorems.specs.Completions.{Entries, Completes}
@@ -169,3 +170,19 @@ unknown-completes n t e h =
       bits = λ i l. h i (rw e (rw length-replicate at l));
       keeps = λ i l x. absurd (x (getD-replicate {A = ℕ} n i 2 0 (rw length-replicate at l)));
     }
+
+-- ---- a loop over the rows: a turn, a row that does not fit, and the end
+module _ (low : ℤ) (values : List ℤ) (truths known : List ℕ) (i : ℕ) where
+  module _ (k b : ℕ) (h : i < length values) (l : i < length truths) (at : k ≡ offset low values i) (is : b ≡ getD truths i 0) where
+    pub enter-turn : agrees (getD known k 0) b ≡ true
+        → enter low (drop (i + 1) values) (drop (i + 1) truths) (set known k b) ≡ enter low (drop i values) (drop i truths) known
+    unfolding enter
+    enter-turn e = rw (add-one, drop-cons values i (pos 0) h, drop-cons truths i 0 l, ← at, ← is, e)
+
+    pub enter-stop : agrees (getD known k 0) b ≡ false → none ≡ enter low (drop i values) (drop i truths) known
+    unfolding enter
+    enter-stop e = rw (drop-cons values i (pos 0) h, drop-cons truths i 0 l, ← at, ← is, e)
+
+  pub enter-end : length values ≤ i → enter low (drop i values) (drop i truths) known ≡ some known
+  unfolding enter
+  enter-end h = rw (drop-of-length-le values {i = i} h)
