@@ -99,7 +99,7 @@ builder P M values truths buffer =
     else rest
 
 -- Document 01's number and values for each reply.
-unfoldable pub builderReply : BuilderReply → Answer
+abbrev pub builderReply : BuilderReply → Answer
 builderReply (Written n) = written n
 builderReply BadSettings = refused 2 0
 builderReply BadLengths = refused 30 0

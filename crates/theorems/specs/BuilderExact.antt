@@ -7,11 +7,11 @@ use mathlib.Core.Option.{Option, none, some}
 use Prim.Native.Nat.{ℕ, zero, suc, _+_, _*_, _<_, _≤_}
 use native.Mathlib.Omega.{arith}
 use borrow.Author.Tests.{le-leb, eq-eqb, ne-eqb, lt-ltb, le-ltb}
-use lib.Dec.{T, leb, ltb, eqb}
+use lib.Dec.{T, leb, ltb, eqb, leb→le}
 use lib.IntN.{ℤ, pos, natAbs, _-ℤ_}
 use lib.ListN.{length, getD, replicate, length-replicate}
 use Rattle.laws.specs.Over.{over}
-use Rattle.laws.specs.Test.{if_then_else_, lt-or-le, eq-or-ne}
+use Rattle.laws.specs.Test.{if_then_else_, lt-or-le, eq-or-ne, is-T, and-left, and-right}
 use Rattle.rules.specs.Outcome.{Answer, written, refused, Outcome, outcome}
 use Rattle.rules.specs.Rotation.{Rotatable, rotatable}
 use Rattle.rules.specs.Span.{least, span}
@@ -53,24 +53,43 @@ from-table : (buffer t : List ℕ) → length t ≤ length buffer → fromTable 
 unfolding fromTable
 from-table buffer t h = rw (le-ltb (length buffer) (length t) h)
 
+-- a table within the limits fits 32 bytes
+pub limits-most : (P M : ℕ) → tableLimits P M ≡ true → M ≤ 32
+unfolding tableLimits
+limits-most P M e =
+    let all = is-T (tableLimits P M) e in
+    let longest = leb→le M (2 * P) (and-right (leb 2 P && leb P 16 && leb P M) (leb M (2 * P)) all) in
+    let least = and-left (leb 2 P && leb P 16 && leb P M) (leb M (2 * P)) all in
+    let period = leb→le P 16 (and-right (leb 2 P) (leb P 16) (and-left (leb 2 P && leb P 16) (leb P M) least)) in
+    omega arith
+
+module _ (P M : ℕ) (values : List ℤ) (truths buffer : List ℕ) where
+  pub bad-settings : tableLimits P M ≡ false → builder P M values truths buffer ≡ outcome (refused 2 0) buffer
+  unfolding builder
+  bad-settings e = rw e
+
+  module _ (limits : tableLimits P M ≡ true) where
+    pub lengths-differ : (length values ≡ length truths → ⊥) → builder P M values truths buffer ≡ outcome (refused 30 0) buffer
+    unfolding builder
+    lengths-differ n = rw (limits, ne-eqb (length values) (length truths) n)
+
+    module _ (same : length values ≡ length truths) where
+      pub no-row : length values ≡ 0 → builder P M values truths buffer ≡ outcome (refused 30 0) buffer
+      unfolding builder
+      no-row h = rw (limits, eq-eqb (length values) (length truths) same, eq-eqb (length values) 0 h)
+
+      pub too-long : (length values ≡ 0 → ⊥) → M < span values → builder P M values truths buffer ≡ outcome (refused 31 0) buffer
+      unfolding builder
+      too-long n h = rw (limits, eq-eqb (length values) (length truths) same, ne-eqb (length values) 0 n, lt-ltb M (span values) h)
+
+      pub from-rows : (length values ≡ 0 → ⊥) → span values ≤ M → builder P M values truths buffer ≡ fromKnown P buffer (knownEntries values truths)
+      unfolding builder
+      from-rows n h = rw (limits, eq-eqb (length values) (length truths) same, ne-eqb (length values) 0 n, le-ltb M (span values) h)
+
 module _ (P M : ℕ) (values : List ℤ) (truths buffer : List ℕ) (o : InOrder P M values truths buffer) where
   limits : tableLimits P M ≡ true
   unfolding tableLimits
   limits = rw (le-leb 2 P (o .period .0), le-leb P 16 (o .period .1), le-leb P M (o .longest .0), le-leb M (2 * P) (o .longest .1))
-
-  no-row : length values ≡ 0 → builder P M values truths buffer ≡ outcome (refused 30 0) buffer
-  unfolding builder
-  no-row h = rw (limits, eq-eqb (length values) (length truths) (o .lengths), eq-eqb (length values) 0 h)
-
-  too-long : 0 < length values → M < span values → builder P M values truths buffer ≡ outcome (refused 31 0) buffer
-  unfolding builder
-  too-long h l =
-      rw (limits, eq-eqb (length values) (length truths) (o .lengths), ne-eqb (length values) 0 (omega arith), lt-ltb M (span values) l)
-
-  rows : 0 < length values → span values ≤ M → builder P M values truths buffer ≡ fromKnown P buffer (knownEntries values truths)
-  unfolding builder
-  rows h l =
-      rw (limits, eq-eqb (length values) (length truths) (o .lengths), ne-eqb (length values) 0 (omega arith), le-ltb M (span values) l)
 
   -- ---- what is found from the rows' known entries
   module _ (k : List ℕ) (e : knownEntries values truths ≡ some k) where
@@ -98,7 +117,7 @@ module _ (P M : ℕ) (values : List ℤ) (truths buffer : List ℕ) (o : InOrder
     unfolding fromKnown
     replied t f h l =
         let n : length t ≤ length buffer = omega (arith, completion-is k (whole .0) P t f .0 .long, whole .1, o .room) in
-        rows h l ∙ rw (e, f) (from-table buffer t n)
+        from-rows P M values truths buffer limits (o .lengths) (omega arith) l ∙ rw (e, f) (from-table buffer t n)
 
   -- ---- both directions
   abbrev Found : Type 0
@@ -119,12 +138,12 @@ module _ (P M : ℕ) (values : List ℤ) (truths buffer : List ℕ) (o : InOrder
   answered : Accepted P M values truths buffer → (0 < length values) × Found
   answered a =
       ⊎-elim
-      (λ (n : length values ≡ 0). absurd (let q : _≡_ {A = ℕ} 30 0 = rw (no-row n) at a in omega arith))
+      (λ (n : length values ≡ 0). absurd (let q : _≡_ {A = ℕ} 30 0 = rw (no-row P M values truths buffer limits (o .lengths) n) at a in omega arith))
       (λ (n : length values ≡ 0 → ⊥).
       let h : 0 < length values = omega arith in
       ⊎-elim
-      (λ (l : M < span values). absurd (let q : _≡_ {A = ℕ} 31 0 = rw (too-long h l) at a in omega arith))
-      (λ (l : span values ≤ M). (h, by-known h l (knownEntries values truths) refl (rw (rows h l) at a)))
+      (λ (l : M < span values). absurd (let q : _≡_ {A = ℕ} 31 0 = rw (too-long P M values truths buffer limits (o .lengths) n l) at a in omega arith))
+      (λ (l : span values ≤ M). (h, by-known h l (knownEntries values truths) refl (rw (from-rows P M values truths buffer limits (o .lengths) n l) at a)))
       (lt-or-le M (span values)))
       (eq-or-ne (length values) 0)
 

@@ -146,9 +146,9 @@ fn run(p: usize, m: usize, values: &[i32], truths: &[u8], room: usize) {
     }
     letters(&mut buffer[..room]);
     let reply = rotation::composed_bootstrap_table(p, m, values, truths, &mut buffer[..room]);
-    io::print_decimal(STDOUT_FILENO, rotation::number(reply) as u64);
+    io::print_decimal(STDOUT_FILENO, rotation::reply_number(reply) as u64);
     io::write_all(STDOUT_FILENO, b" ");
-    io::print_decimal(STDOUT_FILENO, rotation::count(reply) as u64);
+    io::print_decimal(STDOUT_FILENO, rotation::reply_count(reply) as u64);
     io::write_all(STDOUT_FILENO, b" ");
     show(&mut buffer[..room]);
 }

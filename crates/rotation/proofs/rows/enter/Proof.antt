@@ -42,7 +42,7 @@ module _ (c : tie.After-offset Inv-loop μ-loop) where
 
   at : c .offset .result ≡ offset (least (start .args .values .now)) (start .args .values .now) turn
   at =
-      c .offset .ensures
+      c .offset .ensures .0
       ∙ ap₂ (λ v l. natAbs (v -ℤ l)) (read-back-at w32 (getD (start .args .values .now) turn (pos 0)) (c .before .offset-arg .given)) (toZ-ofZ (start .fits .low) ∙ start .pre .1 .0)
 
   index : c .offset .result < length (c .before .before .before .loop .known)
@@ -65,11 +65,12 @@ returns c =
 
 loop-again : tie.Need-loop-again Inv-loop μ-loop
 loop-again c =
-    let o = c .before .before .before .before .before .before .before .loop in
-    ( omega arith
-    , simp length-set (o .inv .1)
-    , enter-turn _ _ _ (o .known) (o .i) _ _ (omega arith) (omega arith) (at (c .before .before .before .before)) refl (sym (c .before .agrees .ensures) ∙ not-false _ (c .if1 .left))
-      ∙ o .inv .2 )
+    let o = c .before .before .before .before .before .before .before .loop in (
+      omega arith,
+      simp length-set (o .inv .1),
+      enter-turn _ _ _ (o .known) (o .i) _ _ (omega arith) (omega arith) (at (c .before .before .before .before)) refl (sym (c .before .agrees .ensures) ∙ not-false _ (c .if1 .left))
+          ∙ o .inv .2,
+    )
 
 returns-2 : tie.Need-returns-2 Inv-loop μ-loop
 returns-2 c =

@@ -50,7 +50,8 @@ cast-result-3 c =
 
 returns : tie.Need-returns
 returns c =
-    rw (toZ-ofZ (c .fits .value), toZ-ofZ (c .fits .low), toZ-ofZ (wide-value c), toZ-ofZ (wide-low c), toZ-ofZ (difference c)) refl
+    rw (toZ-ofZ (c .fits .value), toZ-ofZ (c .fits .low), toZ-ofZ (wide-value c), toZ-ofZ (wide-low c), toZ-ofZ (difference c))
+    (refl, small (c .args .value) (c .args .low) (c .fits .value) (c .fits .low))
 
 pub offset-spec : {M : Type 1} → statement M
 offset-spec = tie.close (tie.spec cast-result cast-result-2 sub-result cast-result-3 returns)
