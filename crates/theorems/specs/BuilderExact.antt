@@ -1,25 +1,25 @@
 -- The table builder is exact: a table is answered exactly when some completion of the rows can be rotated, and it is such a completion.
-use mathlib.Core.Path.{_≡_, refl, sym, ap, _∙_, subst}
-use mathlib.Core.Bool.{Bool, true, false, not, _&&_}
-use mathlib.Core.List.{List, [], _∷_}
-use mathlib.Core.Logic.{_⊎_, ⊎-elim, _↔_}
+use mathlib.Core.Path.{_≡_, refl, ap, _∙_}
+use mathlib.Core.Bool.{true, false, _&&_}
+use mathlib.Core.List.{List}
+use mathlib.Core.Logic.{⊎-elim, _↔_}
 use mathlib.Core.Option.{Option, none, some}
-use Prim.Native.Nat.{ℕ, zero, suc, _+_, _*_, _<_, _≤_}
+use Prim.Native.Nat.{ℕ, _*_, _<_, _≤_}
 use native.Mathlib.Omega.{arith}
 use borrow.Author.Tests.{le-leb, eq-eqb, ne-eqb, lt-ltb, le-ltb}
-use lib.Dec.{T, leb, ltb, eqb, leb→le}
+use lib.Dec.{leb, leb→le}
 use lib.IntN.{ℤ, pos, natAbs, _-ℤ_}
 use lib.ListN.{length, getD, replicate, length-replicate}
 use Rattle.laws.specs.Over.{over}
-use Rattle.laws.specs.Test.{if_then_else_, lt-or-le, eq-or-ne, is-T, and-left, and-right}
-use Rattle.rules.specs.Outcome.{Answer, written, refused, Outcome, outcome}
-use Rattle.rules.specs.Rotation.{Rotatable, rotatable}
+use Rattle.laws.specs.Test.{lt-or-le, eq-or-ne, is-T, and-left, and-right}
+use Rattle.rules.specs.Outcome.{written, refused, Outcome, outcome}
+use Rattle.rules.specs.Rotation.{Rotatable}
 use Rattle.rules.specs.Span.{least, span}
-use Rattle.rules.specs.Builder.{enter, knownEntries, completion, completable, tableLimits, fromTable, fromKnown, builder}
-use Rattle.theorems.specs.RotationRule.{RotationRule, rotation-rule}
-use Rattle.theorems.specs.Completions.{Entries, Completes, some-table, completion-is, completion-found}
+use Rattle.rules.specs.Builder.{Entries, knownEntries, completion, tableLimits, fromTable, fromKnown, builder}
+use Rattle.theorems.specs.RotationRule.{rotation-rule}
+use Rattle.theorems.specs.Completions.{some-table, completion-is, completion-found}
 use Rattle.theorems.specs.Spans.{offset-lt}
-use Rattle.theorems.specs.Rows.{Within, Agrees, entered, entered-left, entered-entries, unknown-entries, unknown-completes}
+use Rattle.theorems.specs.Rows.{Within, entered, entered-left, entered-entries, unknown-entries, unknown-completes}
 
 -- The settings, the lists' lengths and the buffer are in order.
 pub record InOrder (P M : ℕ) (values : List ℤ) (truths buffer : List ℕ) : Type 0 where

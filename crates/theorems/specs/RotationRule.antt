@@ -1,21 +1,21 @@
 -- The rotation rule: the pair test decides it, and the boot rule gives back every bit.
 use mathlib.Core.Path.{_≡_, refl, sym, ap, _∙_}
-use mathlib.Core.Bool.{Bool, true, false, _&&_}
+use mathlib.Core.Bool.{Bool, true, false}
 use mathlib.Core.List.{List, [], _∷_, _++_, map, append-assoc, append-nil}
-use mathlib.Core.Logic.{_⊎_, ⊎-elim, _↔_}
-use mathlib.Core.Option.{Option, none, some, Option·map}
-use Prim.Native.Nat.{ℕ, zero, suc, _+_, _*_, _-_, _/_, _<_, _≤_}
+use mathlib.Core.Logic.{⊎-elim, _↔_}
+use mathlib.Core.Option.{Option, none, some}
+use Prim.Native.Nat.{ℕ, zero, suc, _+_, _*_, _-_, _<_, _≤_}
 use native.Mathlib.Nat.{not-suc-le-zero, le-of-suc-le-suc, le-refl, zero-add, suc-add, add-zero}
 use native.Mathlib.Omega.{arith}
 use borrow.Author.Tests.{le-leb, lt-leb, lt-ltb, le-ltb, ne-eqb, eq-eqb}
-use lib.Dec.{T, leb, ltb, eqb, leb→le, le→leb, eqb→eq}
+use lib.Dec.{T, eqb→eq}
 use lib.IntN.{ℤ, pos, negℤ, _+ℤ_, _-ℤ_}
 use lib.ListN.{length, getD, take, drop, length-append, List·getD-append, List·getD-map, length-map, length-drop}
 use lib.Seq.{getD-drop, take-append-le, drop-append-le, drop-length, take-length}
 use lib.Signed.{quotZ}
 use Rattle.laws.specs.Integer.{plus, minus, add-parts, sub-parts, ints, plus-neg, minus-neg}
 use Rattle.laws.specs.Tabulate.{tabulate, tabulate-at, tabulate-length}
-use Rattle.laws.specs.Test.{if_then_else_, isSome, and-left, and-right, and-both, allb, allb-at, allb-all, allb-fails, lt-or-le, eqb-of, T-is}
+use Rattle.laws.specs.Test.{if_then_else_, isSome, allb, allb-at, allb-all, allb-fails, lt-or-le, eqb-of, T-is}
 use Rattle.rules.specs.Rotation.{turn, turned, Rotatable, pairSum, sameSum, centre, rotatable, coefficient, rotatedBy, rotated}
 
 -- ---- v turns, for v up to P and past it

@@ -1,21 +1,21 @@
 -- Rows entered into known entries: what completes the entries is what completed them before and agrees with every row.
 use mathlib.Core.Path.{_≡_, refl, sym, ap, _∙_, subst}
-use mathlib.Core.Bool.{Bool, true, false, true≢false, _&&_, _||_}
+use mathlib.Core.Bool.{true, false, true≢false}
 use mathlib.Core.List.{List, [], _∷_}
-use mathlib.Core.Logic.{_⊎_, ⊎-elim, _≢_}
-use mathlib.Core.Option.{Option, none, some}
+use mathlib.Core.Logic.{⊎-elim, _≢_}
+use mathlib.Core.Option.{none, some}
 use Prim.Native.Nat.{ℕ, zero, suc, _+_, _<_, _≤_}
 use native.Mathlib.Nat.{not-suc-le-zero, le-of-suc-le-suc}
 use native.Mathlib.Numerals.{add-one}
 use native.Mathlib.Omega.{arith}
 use borrow.Author.Tests.{le-leb, eq-eqb, ne-eqb, leb-true, eqb-true}
-use lib.Dec.{T, leb, eqb}
+use lib.Dec.{leb}
 use lib.IntN.{ℤ, pos, natAbs, _-ℤ_}
 use lib.ListN.{length, getD, set, drop, replicate, drop-of-length-le, length-set, length-replicate, getD-replicate, List·getD-eq-default}
 use lib.Seq.{getD-set-same, getD-set-other, set-out, drop-cons}
-use Rattle.laws.specs.Test.{if_then_else_, lt-or-le, eq-or-ne, decide}
-use Rattle.rules.specs.Builder.{agrees, enter}
-use Rattle.theorems.specs.Completions.{Entries, Completes}
+use Rattle.laws.specs.Test.{lt-or-le, eq-or-ne, decide}
+use Rattle.rules.specs.Builder.{Entries, agrees, enter}
+use Rattle.theorems.specs.Completions.{Completes}
 
 -- the test of a row
 agrees-yes : (x t : ℕ) → t ≤ 1 → (x ≢ 2 → x ≡ t) → agrees x t ≡ true

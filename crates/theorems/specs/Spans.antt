@@ -1,8 +1,7 @@
 -- The least and the greatest of some values, and that each value lies between them, so its offset from the least is below the span.
-use mathlib.Core.Path.{_≡_, refl, sym, ap, _∙_}
-use mathlib.Core.Bool.{Bool, true, false}
+use mathlib.Core.Path.{_≡_, refl}
 use mathlib.Core.List.{List, [], _∷_}
-use mathlib.Core.Logic.{_⊎_, ⊎-elim}
+use mathlib.Core.Logic.{⊎-elim}
 use Prim.Native.Nat.{ℕ, zero, suc, _+_, _<_, _≤_}
 use native.Mathlib.Nat.{not-suc-le-zero, le-of-suc-le-suc}
 use native.Mathlib.Numerals.{add-one}
@@ -11,7 +10,7 @@ use lib.IntN.{ℤ, pos, natAbs, _-ℤ_}
 use lib.ListN.{length, getD, drop, drop-of-length-le}
 use lib.Seq.{drop-cons}
 use lib.Signed.{ltZ, _≤ℤ_}
-use Rattle.laws.specs.Integer.{plus, minus, ints, abs-parts, sub-parts, one-part-zero}
+use Rattle.laws.specs.Integer.{ints, abs-parts, sub-parts, one-part-zero}
 use Rattle.laws.specs.Test.{if_then_else_, decide}
 use Rattle.rules.specs.Span.{leastFrom, greatestFrom, least, greatest, span}
 

@@ -1,5 +1,5 @@
 -- `rotation::build_from_known` meets its contract.
-use mathlib.Core.Path.{_≡_, sym, ap, _∙_}
+use mathlib.Core.Path.{_≡_}
 use mathlib.Core.Bool.{Bool, true, false}
 use mathlib.Core.List.{List}
 use mathlib.Core.Option.{Option, none, some}
@@ -13,10 +13,6 @@ use Rattle.rules.specs.Builder.{fromTable}
 use Rattle.rules.specs.Outcome.{written, refused, outcome}
 use Rattle.rotation.proofs.build_from_known.Statement.{statement}
 use Rattle.rotation.proofs.build_from_known.Tie as tie
-use Rattle.rotation.proofs.build_from_known.Reads as reads
-use Rattle.rotation.proofs.build_from_known.Lts as lts
-use Rattle.rotation.proofs.completions.complete.Reads as complete-reads
-use Rattle.rotation.proofs.copy.Reads as copy-reads
 
 -- the reply to what was found: r says whether a completion was, t is the table after the search
 module _ (b t : List ℕ) (o : Option (List ℕ)) (r : Bool) (e : (if r then some t else none) ≡ o) where

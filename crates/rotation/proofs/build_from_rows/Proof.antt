@@ -1,9 +1,9 @@
 -- `rotation::build_from_rows` meets its contract.
-use mathlib.Core.Path.{_≡_, sym, ap, _∙_}
+use mathlib.Core.Path.{_≡_, ap, _∙_}
 use mathlib.Core.Bool.{Bool, true, false}
 use mathlib.Core.List.{List}
 use mathlib.Core.Option.{none, some}
-use Prim.Native.Nat.{ℕ, _≤_}
+use Prim.Native.Nat.{ℕ}
 use native.Mathlib.Omega.{arith}
 use borrow.Author.Needs.{needs}
 use borrow.Author.Tests.{not-true, not-false}
@@ -18,10 +18,6 @@ use Rattle.rules.specs.Outcome.{Outcome, refused, outcome}
 use Rattle.rules.specs.Span.{least, span}
 use Rattle.rotation.proofs.build_from_rows.Statement.{statement}
 use Rattle.rotation.proofs.build_from_rows.Tie as tie
-use Rattle.rotation.proofs.build_from_rows.Reads as reads
-use Rattle.rotation.proofs.build_from_rows.Lts as lts
-use Rattle.rotation.proofs.build_from_known.Reads as build-from-known-reads
-use Rattle.rotation.proofs.rows.enter.Reads as enter-reads
 
 -- the reply to what was entered: r says whether the rows agree, k are the known entries after them
 module _ (P : ℕ) (b : List ℕ) (low : ℤ) (values : List ℤ) (truths known k : List ℕ) (r : Bool)

@@ -1,29 +1,23 @@
 -- `rotation::composed_bootstrap_table` meets its contract.
 use mathlib.Core.Path.{_≡_, sym, ap, ap₂, _∙_}
 use mathlib.Core.Bool.{true}
-use Prim.Native.Nat.{ℕ, _+_, _<_, _≤_}
+use Prim.Native.Nat.{_+_, _≤_}
 use native.Mathlib.Omega.{arith}
 use borrow.Author.Needs.{needs}
 use borrow.Author.Tests.{not-true, not-false}
 use lib.IntN.{ℤ, natAbs, _-ℤ_}
-use lib.ListN.{length, replicate}
+use lib.ListN.{replicate}
 use lib.Seq.{length-take-le}
 use lib.Signed.{_≤ℤ_}
 use mir.Syntax.{w32}
 use Rattle.laws.specs.Integer.{ints, read-back-at}
 use Rattle.laws.specs.Tail.{take-replicate}
 use Rattle.rules.specs.Builder.{tableLimits}
-use Rattle.rules.specs.Span.{least, greatest, span}
+use Rattle.rules.specs.Span.{span}
 use Rattle.theorems.specs.BuilderExact.{limits-most, bad-settings, lengths-differ, no-row, too-long, from-rows}
 use Rattle.theorems.specs.Spans.{least-le, le-greatest, span-is}
 use Rattle.rotation.proofs.composed_bootstrap_table.Statement.{statement}
 use Rattle.rotation.proofs.composed_bootstrap_table.Tie as tie
-use Rattle.rotation.proofs.composed_bootstrap_table.Reads as reads
-use Rattle.rotation.proofs.composed_bootstrap_table.Lts as lts
-use Rattle.rotation.proofs.build_from_rows.Reads as build-from-rows-reads
-use Rattle.rotation.proofs.rows.bounds_of.Reads as bounds-of-reads
-use Rattle.rotation.proofs.rows.span_of.Reads as span-of-reads
-use Rattle.rotation.proofs.table_limits.Reads as table-limits-reads
 
 settings : (c : tie.Else1) → tableLimits (c .before .before .before .before .args .p) (c .before .before .before .before .args .m) ≡ true
 settings c = sym (c .before .table-limits .ensures) ∙ not-false (c .before .table-limits .result) (c .if1 .left)

@@ -1,5 +1,5 @@
 -- `rotation::completions::complete` meets its contract.
-use mathlib.Core.Path.{_≡_, sym, _∙_}
+use mathlib.Core.Path.{sym, _∙_}
 use borrow.Author.Needs.{needs}
 use Rattle.theorems.specs.Completions.{completion-zero, completion-one, completion-opposed}
 use Rattle.rotation.proofs.completions.complete.Statement.{statement}

@@ -1,5 +1,5 @@
 -- `rotation::completions::fill` meets its contract. After i turns the first i entries are filled.
-use mathlib.Core.Path.{_≡_, sym, _∙_}
+use mathlib.Core.Path.{sym, _∙_}
 use Prim.Native.Nat.{_-_, _≤_}
 use native.Mathlib.Omega.{arith}
 use borrow.Author.Needs.{needs}
@@ -9,9 +9,6 @@ use Rattle.rules.specs.Builder.{filled}
 use Rattle.theorems.specs.Completions.{filled-length, filled-at}
 use Rattle.rotation.proofs.completions.fill.Statement.{statement}
 use Rattle.rotation.proofs.completions.fill.Tie as tie
-use Rattle.rotation.proofs.completions.fill.Reads as reads
-use Rattle.rotation.proofs.completions.fill.Lts as lts
-use Rattle.rotation.proofs.pairs.known_or.Reads as known-or-reads
 
 abbrev Inv-loop : tie.InvT-loop
 Inv-loop known missing table₀ i₀ table i = (i ≤ length known) × Filling (filled missing known) table₀ table i

@@ -1,5 +1,5 @@
 -- `rotation::completions::oppose` meets its contract. After i turns the first i entries are opposite.
-use mathlib.Core.Path.{_≡_, sym, _∙_}
+use mathlib.Core.Path.{sym, _∙_}
 use Prim.Native.Nat.{_-_, _≤_}
 use native.Mathlib.Omega.{arith}
 use borrow.Author.Needs.{needs}

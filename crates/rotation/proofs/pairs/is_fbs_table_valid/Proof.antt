@@ -1,10 +1,9 @@
 -- `rotation::pairs::is_fbs_table_valid` meets its contract. After i turns every pair before i has the first pair's sum.
 use mathlib.Core.Path.{_≡_, sym, _∙_}
-use mathlib.Core.Bool.{true, false}
+use mathlib.Core.Bool.{true}
 use Prim.Native.Nat.{_-_, _≤_}
 use native.Mathlib.Omega.{arith}
 use borrow.Author.Needs.{needs}
-use lib.ListN.{length}
 use Rattle.laws.specs.Test.{allb, allb-none, allb-more}
 use Rattle.rules.specs.Rotation.{sameSum}
 use Rattle.theorems.specs.RotationRule.{rotatable-small, rotatable-long, rotatable-all, rotatable-fails, same-true}

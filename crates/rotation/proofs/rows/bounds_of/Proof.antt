@@ -11,10 +11,6 @@ use Rattle.rules.specs.Span.{leastFrom, greatestFrom, least, greatest}
 use Rattle.theorems.specs.Spans.{least-start, greatest-start, least-turn, greatest-turn, least-end, greatest-end}
 use Rattle.rotation.proofs.rows.bounds_of.Statement.{statement}
 use Rattle.rotation.proofs.rows.bounds_of.Tie as tie
-use Rattle.rotation.proofs.rows.bounds_of.Reads as reads
-use Rattle.rotation.proofs.rows.bounds_of.Lts as lts
-use Rattle.rotation.proofs.rows.larger.Reads as larger-reads
-use Rattle.rotation.proofs.rows.smaller.Reads as smaller-reads
 
 abbrev Inv-loop : tie.InvT-loop
 Inv-loop values low₀ high₀ i₀ low high i =

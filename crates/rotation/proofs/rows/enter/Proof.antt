@@ -16,10 +16,6 @@ use Rattle.theorems.specs.Rows.{offset, enter-turn, enter-stop, enter-end}
 use Rattle.theorems.specs.Spans.{least-le, offset-lt}
 use Rattle.rotation.proofs.rows.enter.Statement.{statement}
 use Rattle.rotation.proofs.rows.enter.Tie as tie
-use Rattle.rotation.proofs.rows.enter.Reads as reads
-use Rattle.rotation.proofs.rows.enter.Lts as lts
-use Rattle.rotation.proofs.rows.agrees.Reads as agrees-reads
-use Rattle.rotation.proofs.rows.offset.Reads as offset-reads
 
 abbrev Inv-loop : tie.InvT-loop
 Inv-loop values truths low known₀ i₀ known i =

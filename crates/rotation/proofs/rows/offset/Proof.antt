@@ -1,9 +1,9 @@
 -- `rotation::rows::offset` meets its contract. The difference of two 32-bit values fits 64 bits.
-use mathlib.Core.Path.{_≡_, refl}
-use Prim.Native.Nat.{ℕ, _+_, _≤_, _^_}
+use mathlib.Core.Path.{refl}
+use Prim.Native.Nat.{_≤_, _^_}
 use native.Mathlib.Omega.{arith}
 use lib.Dec.{T}
-use lib.IntN.{ℤ, pos, negℤ, natAbs, _-ℤ_}
+use lib.IntN.{ℤ, negℤ, natAbs, _-ℤ_}
 use lib.Signed.{_≤ℤ_, nonNeg, yes-nonNeg, natAbs-le}
 use mir.Facts.{toZ-ofZ, sfits-widen}
 use mir.Syntax.{w32, w64}

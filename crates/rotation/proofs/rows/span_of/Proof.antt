@@ -7,9 +7,6 @@ use mir.Syntax.{w32}
 use Rattle.laws.specs.Integer.{read-back-at}
 use Rattle.rotation.proofs.rows.span_of.Statement.{statement}
 use Rattle.rotation.proofs.rows.span_of.Tie as tie
-use Rattle.rotation.proofs.rows.span_of.Reads as reads
-use Rattle.rotation.proofs.rows.span_of.Lts as lts
-use Rattle.rotation.proofs.rows.offset.Reads as offset-reads
 
 returns : tie.Need-returns
 returns c =

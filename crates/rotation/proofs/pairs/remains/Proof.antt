@@ -1,27 +1,26 @@
--- `rotation::pairs::leaves` meets its contract.
-use mathlib.Core.Path.{_≡_, sym}
+-- `rotation::pairs::remains` meets its contract.
+use mathlib.Core.Path.{_≡_}
 use mathlib.Core.Bool.{false}
 use Prim.Native.Nat.{ℕ, _+_, _<_, _≤_}
 use borrow.Author.Needs.{needs}
 use borrow.Author.Tests.{le-leb, lt-leb}
 use lib.Dec.{leb}
-use Rattle.rules.specs.Builder.{knownOr}
-use Rattle.theorems.specs.Completions.{leaves}
-use Rattle.rotation.proofs.pairs.leaves.Statement.{statement}
-use Rattle.rotation.proofs.pairs.leaves.Tie as tie
+use Rattle.rules.specs.Builder.{knownOr, remains}
+use Rattle.rotation.proofs.pairs.remains.Statement.{statement}
+use Rattle.rotation.proofs.pairs.remains.Tie as tie
 
 -- a and b are the least and the greatest sum
 module _ (s x y a : ℕ) (low : a ≡ knownOr 0 x + knownOr 0 y) where
-  too-small : s < a → false ≡ leaves s x y
-  unfolding leaves
+  too-small : s < a → false ≡ remains s x y
+  unfolding remains
   too-small h = rw (← low, lt-leb a s h)
 
-  at-most : (b : ℕ) → b ≡ knownOr 1 x + knownOr 1 y → a ≤ s → leb s b ≡ leaves s x y
-  unfolding leaves
+  at-most : (b : ℕ) → b ≡ knownOr 1 x + knownOr 1 y → a ≤ s → leb s b ≡ remains s x y
+  unfolding remains
   at-most b high h = rw (← low, ← high, le-leb a s h)
 
-pub leaves-spec : {M : Type 1} → statement M
-leaves-spec =
+pub remains-spec : {M : Type 1} → statement M
+remains-spec =
     tie.close
     (tie.spec
     (λ c κs. search needs)
