@@ -2,7 +2,7 @@
 use mathlib.Core.Path.{_≡_, refl, sym, ap, _∙_, subst}
 use mathlib.Core.Bool.{Bool, true, false}
 use mathlib.Core.List.{List}
-use mathlib.Core.Logic.{_⊎_, inl, inr, ⊎-elim, _≢_}
+use mathlib.Core.Logic.{_⊎_, inl, inr, ⊎-elim, _≢_, _↔_}
 use mathlib.Core.Option.{Option, none, some}
 use Prim.Native.Nat.{ℕ, zero, suc, _+_, _*_, _-_, _<_, _≤_}
 use native.Mathlib.Omega.{arith}
@@ -93,6 +93,36 @@ module _ (x y : ℕ) (h : x ≤ 2) (k : y ≤ 2) where
       (λ i. ⊎-elim (λ j. omega (arith, against-known 0 y x i, against-one 1 x y j i))
       (λ j. omega (arith, against-known 0 y x i, against-known 1 x y j, known-is 0 x i, known-is 0 y j, known-is 1 x i, known-is 1 y j)) (eq-or-ne y 2))
       (eq-or-ne x 2)
+
+-- bits in the place of the unknowns that give the pair its sum
+pub record Given (s x y a b : ℕ) : Type 0 where
+  pub bits : (a ≤ 1) × (b ≤ 1)
+  pub left : x ≢ 2 → a ≡ x
+  pub right : y ≢ 2 → b ≡ y
+  pub sum : a + b ≡ s
+
+-- a sum remains exactly when some bits for the unknowns give it
+pub remains-exact : (s x y : ℕ) → x ≤ 2 → y ≤ 2 → T (remains s x y) ↔ ((a : ℕ) × (b : ℕ) × Given s x y a b)
+remains-exact s x y h k = (by s, λ g. subst (λ n. T (remains n x y)) (g .2 .sum) (remains-of x y (g .0) (g .1) (g .2 .bits .0) (g .2 .bits .1) (g .2 .left) (g .2 .right)))
+  where
+    by : (n : ℕ) → T (remains n x y) → (a : ℕ) × (b : ℕ) × Given n x y a b
+    by zero t = (
+      knownOr 0 x,
+      knownOr 0 y,
+      record { bits = (known-bit 0 x (omega arith) h, known-bit 0 y (omega arith) k); left = known-is 0 x; right = known-is 0 y; sum = zeros x y h k t },
+    )
+    by (suc zero) t = (
+      against 0 y x,
+      against 1 x y,
+      record { bits = (against-bit 0 y x (omega arith) h, against-bit 1 x y (omega arith) k); left = against-known 0 y x; right = against-known 1 x y; sum = opposites x y h k t },
+    )
+    by (suc (suc zero)) t = (
+      knownOr 1 x,
+      knownOr 1 y,
+      record { bits = (known-bit 1 x (omega arith) h, known-bit 1 y (omega arith) k); left = known-is 1 x; right = known-is 1 y; sum = ones x y h k t },
+    )
+    by (suc (suc (suc n))) t =
+        absurd (omega (arith, remains-greatest (suc (suc (suc n))) x y t, known-bit 1 x (omega arith) h, known-bit 1 y (omega arith) k))
 
 -- ---- the three lists, entry by entry
 pub filled-length : (d : ℕ) (known : List ℕ) → length (filled d known) ≡ length known
