@@ -28,7 +28,7 @@ fn skip(text: &[u8], from: usize) -> usize {
     i
 }
 
-// One digit more; where that would not fit, the value stays.
+// One digit more, which is the byte modulo 16; where that would not fit, the value stays.
 fn with_digit(value: u64, b: u8) -> u64 {
     if value < 1000000000000000000 {
         10 * value + ((b % 16) as u64)
