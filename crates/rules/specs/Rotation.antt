@@ -15,6 +15,7 @@ unfoldable pub turn : List ℤ → List ℤ
 turn [] = []
 turn (a ∷ s) = s ++ (negℤ a ∷ [])
 
+-- v turns: times X^-v.
 unfoldable pub turned : ℕ → List ℤ → List ℤ
 turned zero s = s
 turned (suc v) s = turned v (turn s)
