@@ -74,14 +74,15 @@ with-settings n c (some s) e = (_, refl)
 circuits-regular : Regular circuits ended 1 7
 unfolding circuits ended nothing withSettings
 circuits-regular =
-    record
-    { noForm-within = omega arith
-    ; missing-within = omega arith
-    ; lowest-first = circuits-numbered
-    ; Opened = λ c. isSome (c .settings) ≡ true
-    ; opens = circuits-open
-    ; ends = λ n c o. with-settings n c (c .settings) o
-    ; lacks = refl }
+    record {
+      noForm-within = omega arith;
+      missing-within = omega arith;
+      lowest-first = circuits-numbered;
+      Opened = λ c. isSome (c .settings) ≡ true;
+      opens = circuits-open;
+      ends = λ n c o. with-settings n c (c .settings) o;
+      lacks = refl;
+    }
 
 -- A circuit text, likewise.
 pub circuit-exact : (text : List ℕ) → Exact (readCircuit text) (Holds circuits text)
@@ -133,26 +134,28 @@ with-net n w (some a) e = (_, refl)
 networks-regular : Regular networks networkEnded 21 26
 unfolding networks networkEnded noNetwork withNet started
 networks-regular =
-    record
-    { noForm-within = omega arith
-    ; missing-within = omega arith
-    ; lowest-first = networks-numbered
-    ; Opened = λ w. started w ≡ true
-    ; opens = networks-open
-    ; ends = λ n w o. with-net n w (w .net) o
-    ; lacks = refl }
+    record {
+      noForm-within = omega arith;
+      missing-within = omega arith;
+      lowest-first = networks-numbered;
+      Opened = λ w. started w ≡ true;
+      opens = networks-open;
+      ends = λ n w o. with-net n w (w .net) o;
+      lacks = refl;
+    }
 
 admissions-regular : Regular admissions networkEnded 21 26
 unfolding admissions networkEnded noNetwork withNet started
 admissions-regular =
-    record
-    { noForm-within = omega arith
-    ; missing-within = omega arith
-    ; lowest-first = admissions-numbered
-    ; Opened = λ w. started w ≡ true
-    ; opens = λ n w l m. networks-open n w l (admission-text w l m)
-    ; ends = λ n w o. with-net n w (w .net) o
-    ; lacks = refl }
+    record {
+      noForm-within = omega arith;
+      missing-within = omega arith;
+      lowest-first = admissions-numbered;
+      Opened = λ w. started w ≡ true;
+      opens = λ n w l m. networks-open n w l (admission-text w l m);
+      ends = λ n w o. with-net n w (w .net) o;
+      lacks = refl;
+    }
 
 -- A network text, as a run reads it and as admission reads it.
 pub network-exact : (text : List ℕ) → Exact (readNetwork text) (Holds networks text)
@@ -178,7 +181,8 @@ reply-admitted (Refused j h) = (λ a. absurd (let e = a .1 in let q : _≡_ {A =
 pub admission-exact : (text : List ℕ) → AdmissionExact text
 unfolding admission
 admission-exact text =
-    record
-    { refused = λ k i. Iff·trans (reply-refused (readAdmitted text) k i) (admitted-exact text .refused k i)
-    ; admitted = Iff·trans (reply-admitted (readAdmitted text)) (admitted-exact text .good)
-    ; listed = holds-within admissions networkEnded 21 26 admissions-regular text }
+    record {
+      refused = λ k i. Iff·trans (reply-refused (readAdmitted text) k i) (admitted-exact text .refused k i);
+      admitted = Iff·trans (reply-admitted (readAdmitted text)) (admitted-exact text .good);
+      listed = holds-within admissions networkEnded 21 26 admissions-regular text;
+    }

@@ -110,20 +110,25 @@ first-or-none A a b (c ∷ cs) t = ⊎-elim here (λ f. later f (first-or-none A
   where
     here : c .met ≡ true → ((k : ℕ) × FirstMet A (c ∷ cs) k) ⊎ NoneMet (c ∷ cs)
     here e =
-        inl
-        (c .no,
-        record
-        { met = inl (refl, e)
-        ; lowest = λ j m. met-within (c .no) b (c ∷ cs) (omega arith, t .1, t .2) j m .0
-        ; judged-so = λ i next. rw e })
+        inl (
+          c .no,
+          record {
+            met = inl (refl, e);
+            lowest = λ j m. met-within (c .no) b (c ∷ cs) (omega arith, t .1, t .2) j m .0;
+            judged-so = λ i next. rw e;
+          },
+        )
+
     later : c .met ≡ false → ((k : ℕ) × FirstMet A cs k) ⊎ NoneMet cs → ((k : ℕ) × FirstMet A (c ∷ cs) k) ⊎ NoneMet (c ∷ cs)
     later e (inl f) =
-        inl
-        (f .0,
-        record
-        { met = inr (f .1 .met)
-        ; lowest = λ j m. ⊎-elim (λ h. absurd (not-both (c .met) (h .1) e)) (f .1 .lowest j) m
-        ; judged-so = λ i next. rw e (f .1 .judged-so i next) })
+        inl (
+          f .0,
+          record {
+            met = inr (f .1 .met);
+            lowest = λ j m. ⊎-elim (λ h. absurd (not-both (c .met) (h .1) e)) (f .1 .lowest j) m;
+            judged-so = λ i next. rw e (f .1 .judged-so i next);
+          },
+        )
     later e (inr n) = inr (e, n)
 
 -- ---- Lines in turn.
@@ -132,16 +137,16 @@ module _ {S L A : Type 0} (K : Kind S L) (ended : ℕ → S → Reading A) where
   at-first : (n : ℕ) (c : S) (l : List ℕ) (ls : List (List ℕ)) (k : ℕ) → Met k (conditionsOf K c (K .form l)) → AtLine K n c (l ∷ ls) k n
   unfolding said
   at-first n c l ls k m =
-    let e : n - n ≡ 0 = omega arith in
-    record { from = omega arith; there = omega arith; met = rw e m }
+      let e : n - n ≡ 0 = omega arith in
+      record { from = omega arith; there = omega arith; met = rw e m }
 
   at-later : (n : ℕ) (c : S) (l : List ℕ) (ls : List (List ℕ)) (k i : ℕ) → AtLine K (n + 1) (saidWith K n c (K .form l)) ls k i → AtLine K n c (l ∷ ls) k i
   unfolding said
   at-later n c l ls k i h =
-    let f = h .from in
-    let t = h .there in
-    let e : i - n ≡ suc (i - (n + 1)) = omega arith in
-    record { from = omega arith; there = omega arith; met = rw e (h .met) }
+      let f = h .from in
+      let t = h .there in
+      let e : i - n ≡ suc (i - (n + 1)) = omega arith in
+      record { from = omega arith; there = omega arith; met = rw e (h .met) }
 
   at-cases : (n : ℕ) (c : S) (l : List ℕ) (ls : List (List ℕ)) (k i : ℕ) → AtLine K n c (l ∷ ls) k i
       → ((i ≡ n) × Met k (conditionsOf K c (K .form l))) ⊎ AtLine K (n + 1) (saidWith K n c (K .form l)) ls k i
@@ -150,12 +155,13 @@ module _ {S L A : Type 0} (K : Kind S L) (ended : ℕ → S → Reading A) where
     where
       f : n ≤ i
       f = h .from
+
       by : (d : ℕ) → i - n ≡ d → ((i ≡ n) × Met k (conditionsOf K c (K .form l))) ⊎ AtLine K (n + 1) (saidWith K n c (K .form l)) ls k i
       by zero e = inl (omega (arith, f), rw e at (h .met))
-      by (suc d) e = 
-        let t = h .there in
-        let g : i - (n + 1) ≡ d = omega (arith, f) in
-        inr (record { from = omega (arith, f); there = omega arith; met = rw g (rw e at (h .met)) })
+      by (suc d) e =
+          let t = h .there in
+          let g : i - (n + 1) ≡ d = omega (arith, f) in
+          inr (record { from = omega (arith, f); there = omega arith; met = rw g (rw e at (h .met)) })
 
   reading : ℕ → S → List (List ℕ) → Reading A
   reading = readLines (K .form) (K .noForm) (K .conditions) (K .withLine) ended
@@ -188,18 +194,20 @@ module _ {S L A : Type 0} (K : Kind S L) (ended : ℕ → S → Reading A) where
   first-here : (n : ℕ) (c : S) (l : List ℕ) (ls : List (List ℕ)) (k : ℕ) → FirstMet A (conditionsOf K c (K .form l)) k
       → First (AtLine K n c (l ∷ ls)) k n
   first-here n c l ls k f =
-      record
-      { holds = at-first n c l ls k (f .met)
-      ; lowest = λ j h. ⊎-elim (λ x. f .lowest j (x .1)) (λ x. absurd (let y = x .from in omega arith)) (at-cases n c l ls j n h)
-      ; first = λ j h x. x .from }
+      record {
+        holds = at-first n c l ls k (f .met);
+        lowest = λ j h. ⊎-elim (λ x. f .lowest j (x .1)) (λ x. absurd (let y = x .from in omega arith)) (at-cases n c l ls j n h);
+        first = λ j h x. x .from;
+      }
 
   first-later : (n : ℕ) (c : S) (l : List ℕ) (ls : List (List ℕ)) → NoneMet (conditionsOf K c (K .form l))
       → (k i : ℕ) → First (AtLine K (n + 1) (saidWith K n c (K .form l)) ls) k i → First (AtLine K n c (l ∷ ls)) k i
   first-later n c l ls m k i f =
-      record
-      { holds = at-later n c l ls k i (f .holds)
-      ; lowest = λ j h. f .lowest j (not-here n c l ls m j i h)
-      ; first = λ j h x. f .first j h (not-here n c l ls m j h x) }
+      record {
+        holds = at-later n c l ls k i (f .holds);
+        lowest = λ j h. f .lowest j (not-here n c l ls m j i h);
+        first = λ j h x. f .first j h (not-here n c l ls m j h x);
+      }
 
   -- the text is refused by the first line where a condition holds, or none holds and it ends
   Outcome : ℕ → S → List (List ℕ) → Type 0
@@ -219,9 +227,10 @@ module _ {S L A : Type 0} (K : Kind S L) (ended : ℕ → S → Reading A) where
         by (inl f) rest = inl (f .0, n, first-here n c l ls (f .0) (f .1), read-first n c l ls (f .0) (f .1))
         by (inr m) (inl r) = inl (r .0, r .1, first-later n c l ls m (r .0) (r .1) (r .2), read-later n c l ls m ∙ r .3)
         by (inr m) (inr r) =
-            inr
-            (λ k i h. r .0 k i (not-here n c l ls m k i h),
-            read-later n c l ls m ∙ r .1 ∙ ap (λ j. ended j (said K n c (l ∷ ls))) (omega arith))
+            inr (
+              λ k i h. r .0 k i (not-here n c l ls m k i h),
+              read-later n c l ls m ∙ r .1 ∙ ap (λ j. ended j (said K n c (l ∷ ls))) (omega arith),
+            )
 
 -- ---- One refusal, or none.
 
@@ -230,6 +239,7 @@ first-one {H} k i j h f g = (same line, line)
   where
     line : i ≡ h
     line = let x = f .first j h (g .holds) in let y = g .first k i (f .holds) in omega arith
+
     same : i ≡ h → k ≡ j
     same e =
         let x = f .lowest j (subst (λ m. H j m) (sym e) (g .holds)) in
@@ -249,16 +259,19 @@ module _ {A : Type 0} where
   pub decided : (r : Reading A) (H : ℕ → ℕ → Type 0) → Decided r H → Exact r H
   unfolding Decided
   decided r H (inl d) =
-      record
-      { refused =
-          λ j h.
-          (λ e. let s = refused-same (d .0) (d .1) j h (sym (d .3) ∙ e) in subst₂ (First H) (s .0) (s .1) (d .2),
-          λ g. let s = first-one (d .0) (d .1) j h (d .2) g in d .3 ∙ ap₂ {C = Reading A} Refused (s .0) (s .1))
-      ; good = (λ g. absurd (good-refused (g .0) (d .0) (d .1) (sym (g .1) ∙ d .3)), λ no. absurd (no (d .0) (d .1) (d .2 .holds))) }
+      record {
+        refused =
+            λ j h. (
+              λ e. let s = refused-same (d .0) (d .1) j h (sym (d .3) ∙ e) in subst₂ (First H) (s .0) (s .1) (d .2),
+              λ g. let s = first-one (d .0) (d .1) j h (d .2) g in d .3 ∙ ap₂ {C = Reading A} Refused (s .0) (s .1),
+            );
+        good = (λ g. absurd (good-refused (g .0) (d .0) (d .1) (sym (g .1) ∙ d .3)), λ no. absurd (no (d .0) (d .1) (d .2 .holds)));
+      }
   decided r H (inr d) =
-      record
-      { refused = λ j h. (λ e. absurd (good-refused (d .1 .0) j h (sym (d .1 .1) ∙ e)), λ g. absurd (d .0 j h (g .holds)))
-      ; good = (λ g. d .0, λ no. d .1) }
+      record {
+        refused = λ j h. (λ e. absurd (good-refused (d .1 .0) j h (sym (d .1 .1) ∙ e)), λ g. absurd (d .0 j h (g .holds)));
+        good = (λ g. d .0, λ no. d .1);
+      }
 
 -- ---- A kind of text is read exactly, if its conditions stand lowest first and only the empty text lacks the form that must be there.
 
@@ -316,13 +329,16 @@ module _ {S L A : Type 0} (K : Kind S L) (ended : ℕ → S → Reading A) (a b 
   empty-decided : Decided (readText []) (Holds K [])
   unfolding Decided readLines lines Holds
   empty-decided =
-      inl
-      (K .missing, 1,
-      record
-      { holds = inr (refl, refl, refl)
-      ; lowest = λ j h. let e = only j 1 h in omega arith
-      ; first = λ j h x. let e = only j h x in omega arith },
-      r .lacks)
+      inl (
+        K .missing,
+        1,
+        record {
+          holds = inr (refl, refl, refl);
+          lowest = λ j h. let e = only j 1 h in omega arith;
+          first = λ j h x. let e = only j h x in omega arith;
+        },
+        r .lacks,
+      )
     where
       only : (k i : ℕ) → Holds K [] k i → (k ≡ K .missing) × (i ≡ 1)
       only k i (inl h) = absurd (not-suc-le-zero (h .there))
@@ -335,15 +351,19 @@ module _ {S L A : Type 0} (K : Kind S L) (ended : ℕ → S → Reading A) (a b 
       line : (k i : ℕ) → Holds K (x ∷ s) k i → AtLine K 1 (K .start) (lines (x ∷ s)) k i
       line k i (inl h) = h
       line k i (inr h) = absurd (no-cons x s (h .0))
+
       by : Outcome K ended 1 (K .start) (lines (x ∷ s)) → Decided (readText (x ∷ s)) (Holds K (x ∷ s))
       by (inl d) =
-          inl
-          (d .0, d .1,
-          record
-          { holds = inl (d .2 .holds)
-          ; lowest = λ j h. d .2 .lowest j (line j (d .1) h)
-          ; first = λ j h y. d .2 .first j h (line j h y) },
-          d .3)
+          inl (
+            d .0,
+            d .1,
+            record {
+              holds = inl (d .2 .holds);
+              lowest = λ j h. d .2 .lowest j (line j (d .1) h);
+              first = λ j h y. d .2 .first j h (line j h y);
+            },
+            d .3,
+          )
       by (inr d) =
           let e = lines-some x s in
           let o = subst (λ ls. ((k i : ℕ) → AtLine K 1 (K .start) ls k i → ⊥) → r .Opened (said K 1 (K .start) ls)) (sym (e .2)) (opened 1 (K .start) (e .0) (e .1)) (d .0) in
