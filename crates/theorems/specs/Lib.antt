@@ -6,4 +6,8 @@ pub mod Rows
 pub mod BuilderExact
 pub mod Worked
 pub mod Refusals
+pub mod Readings
+pub mod LineBits
+pub mod Admissible
 pub mod AdmissionExact
+pub mod AdmittedSafe

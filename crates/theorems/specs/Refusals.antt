@@ -92,7 +92,7 @@ met-within a b [] t k m = absurd m
 met-within a b (c ∷ cs) t k (inl m) = omega arith
 met-within a b (c ∷ cs) t k (inr m) = let h = met-within (c .no) b cs (t .2) k m in omega arith
 
-judged-none : {A : Type 0} (i : ℕ) (cs : List Condition) (next : Reading A) → NoneMet cs → judged i cs next ≡ next
+pub judged-none : {A : Type 0} (i : ℕ) (cs : List Condition) (next : Reading A) → NoneMet cs → judged i cs next ≡ next
 unfolding judged NoneMet
 judged-none i [] next n = refl
 judged-none i (c ∷ cs) next n = rw (n .0) (judged-none i cs next (n .1))

@@ -1,0 +1,108 @@
+-- What admission knows of a network: no node of it meets a condition against the nodes before it, and no output against all of them.
+use mathlib.Core.Path.{_≡_, refl, sym, ap, subst, _∙_}
+use mathlib.Core.Bool.{Bool, true, false, not, true≢false}
+use mathlib.Core.List.{List, [], _∷_, _++_, append-assoc, append-nil}
+use mathlib.Core.Option.{Option, none, some}
+use Prim.Native.Nat.{ℕ, _<_}
+use native.Mathlib.Omega.{arith}
+use borrow.Author.Tests.{leb-false, not-false}
+use lib.ListN.{length}
+use Rattle.laws.specs.Test.{or-false-left}
+use Rattle.rules.specs.Circuit.{Output}
+use Rattle.rules.specs.Builder.{tableLimits}
+use Rattle.rules.specs.Form.{Reading, Good, Refused, lines, readLines}
+use Rattle.rules.specs.Network.{LutNode, Input, Linear, Bootstrap, Network}
+use Rattle.rules.specs.NetworkText.{Net, NetworkLine, NetLine, NodeLine, OutLine, NetPrefix, started, ending, networkLine, textConditions, safetyConditions, admissionConditions, withNetworkLine, withNet, networkEnded, noNetwork, readNetwork, readAdmitted}
+use Rattle.theorems.specs.Refusals.{NoneMet}
+use Rattle.theorems.specs.Readings.{kept}
+use Rattle.theorems.specs.LineBits.{LineBits, line-bits}
+
+-- A line meets none of 21 to 26 after a `net` line, nodes and outputs.
+unfoldable pub Passes : Net → List LutNode → List Output → NetworkLine → Type 0
+Passes n ns os l = NoneMet (admissionConditions (record { net = some n; nodes = ns; outputs = os }) l) × LineBits l
+
+unfoldable pub NodesPass : Net → List LutNode → List LutNode → Type 0
+NodesPass n before [] = Unit {0}
+NodesPass n before (x ∷ xs) = Passes n before [] (NodeLine x) × NodesPass n (before ++ (x ∷ [])) xs
+
+unfoldable pub OutputsPass : Net → List LutNode → List Output → List Output → Type 0
+OutputsPass n ns before [] = Unit {0}
+OutputsPass n ns before (o ∷ os) = Passes n ns before (OutLine o) × OutputsPass n ns (before ++ (o ∷ [])) os
+
+unfoldable pub netOf : Network → Net
+netOf w = record { p = w .p; m = w .m; norm = w .norm }
+
+pub record Admissible (w : Network) : Type 0 where
+  pub limits : tableLimits (w .p) (w .m) ≡ true
+  pub nodes : NodesPass (netOf w) [] (w .nodes)
+  pub outputs : OutputsPass (netOf w) (w .nodes) [] (w .outputs)
+
+-- ---- One more line.
+
+nodes-snoc : (n : Net) (before xs : List LutNode) (x : LutNode) → NodesPass n before xs → Passes n (before ++ xs) [] (NodeLine x)
+    → NodesPass n before (xs ++ (x ∷ []))
+unfolding NodesPass
+nodes-snoc n before [] x p q = (rw append-nil at q, tt)
+nodes-snoc n before (y ∷ xs) x p q = (p .0, nodes-snoc n (before ++ (y ∷ [])) xs x (p .1) (rw append-assoc q))
+
+outputs-snoc : (n : Net) (ns : List LutNode) (before os : List Output) (o : Output) → OutputsPass n ns before os → Passes n ns (before ++ os) (OutLine o)
+    → OutputsPass n ns before (os ++ (o ∷ []))
+unfolding OutputsPass
+outputs-snoc n ns before [] o p q = (rw append-nil at q, tt)
+outputs-snoc n ns before (y ∷ os) o p q = (p .0, outputs-snoc n ns (before ++ (y ∷ [])) os o (p .1) (rw append-assoc q))
+
+-- what the lines so far say: nothing before the `net` line
+SoFar : Option Net → List LutNode → List Output → Type 0
+SoFar none ns os = (ns ≡ []) × (os ≡ [])
+SoFar (some n) ns os = (tableLimits (n .p) (n .m) ≡ true) × NodesPass n [] ns × OutputsPass n ns [] os
+
+So : NetPrefix → Type 0
+So w = SoFar (w .net) (w .nodes) (w .outputs)
+
+nil : {A : Type 0} (l : List A) → length l < 1 → l ≡ []
+nil [] h = refl
+nil (x ∷ l) h = absurd (omega arith)
+
+-- a node line comes before the outputs
+no-outputs : (w : NetPrefix) (x : LutNode) → NoneMet (admissionConditions w (NodeLine x)) → w .outputs ≡ []
+unfolding NoneMet admissionConditions textConditions ending
+no-outputs w (Input a) m = nil (w .outputs) (leb-false 1 (length (w .outputs)) (or-false-left _ _ (m .1 .0)))
+no-outputs w (Linear c ts) m = nil (w .outputs) (leb-false 1 (length (w .outputs)) (m .1 .0))
+no-outputs w (Bootstrap i table) m = nil (w .outputs) (leb-false 1 (length (w .outputs)) (m .1 .0))
+
+with-node : (n : Net) (ns : List LutNode) (os : List Output) (x : LutNode) → NoneMet (admissionConditions (record { net = some n; nodes = ns; outputs = os }) (NodeLine x))
+    → LineBits (NodeLine x) → SoFar (some n) ns os → SoFar (some n) (ns ++ (x ∷ [])) os
+unfolding SoFar Passes OutputsPass
+with-node n ns os x m b s =
+    let e = no-outputs (record { net = some n; nodes = ns; outputs = os }) x m in
+    (s .0, nodes-snoc n [] ns x (s .1) (rw e at m, b), rw e tt)
+
+with-line : (o : Option Net) (ns : List LutNode) (os : List Output) (i : ℕ) (l : NetworkLine) → NoneMet (admissionConditions (record { net = o; nodes = ns; outputs = os }) l)
+    → LineBits l → SoFar o ns os → So (withNetworkLine i (record { net = o; nodes = ns; outputs = os }) l)
+unfolding So SoFar withNetworkLine NoneMet admissionConditions textConditions started NodesPass OutputsPass Passes
+with-line none ns os i (NetLine n) m b s = (not-false _ (m .0), rw (s .0) tt, rw (s .1) tt)
+with-line none ns os i (NodeLine (Input a)) m b s = absurd (true≢false (m .0))
+with-line none ns os i (NodeLine (Linear c ts)) m b s = absurd (true≢false (m .0))
+with-line none ns os i (NodeLine (Bootstrap k table)) m b s = absurd (true≢false (m .0))
+with-line none ns os i (OutLine o) m b s = absurd (true≢false (m .0))
+with-line (some n) ns os i (NetLine k) m b s = absurd (true≢false (m .1 .0))
+with-line (some n) ns os i (NodeLine x) m b s = with-node n ns os x m b s
+with-line (some n) ns os i (OutLine o) m b s = (s .0, s .1, outputs-snoc n ns [] os o (s .2) (m, b))
+
+-- ---- At the text's end.
+
+good-same : (v w : Network) → _≡_ {A = Reading Network} (Good v) (Good w) → v ≡ w
+good-same v w e = cc
+
+at-end : (o : Option Net) (i : ℕ) (ns : List LutNode) (os : List Output) (w : Network) → SoFar o ns os
+    → withNet i (record { net = o; nodes = ns; outputs = os }) o ≡ Good w → Admissible w
+unfolding SoFar withNet netOf
+at-end none i ns os w s e = absurd (let q : _≡_ {A = ℕ} 0 1 = cc in omega arith)
+at-end (some n) i ns os w s e = subst Admissible (good-same _ w e) (record { limits = s .0; nodes = s .1; outputs = s .2 })
+
+pub admitted-admissible : (text : List ℕ) (w : Network) → readAdmitted text ≡ Good w → Admissible w
+unfolding readAdmitted networkEnded noNetwork So SoFar
+admitted-admissible text w e =
+    let r = kept networkLine 21 admissionConditions withNetworkLine networkEnded So
+            (λ i c s l f m h. with-line (c .net) (c .nodes) (c .outputs) i l m (line-bits s l f) h) 1 noNetwork (lines text) w (refl, refl) e in
+    at-end (r .1 .net) (r .0) (r .1 .nodes) (r .1 .outputs) w (r .2) (r .3)
