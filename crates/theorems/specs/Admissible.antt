@@ -1,21 +1,28 @@
 -- What admission knows of a network: no node of it meets a condition against the nodes before it, and no output against all of them.
 use mathlib.Core.Path.{_≡_, refl, sym, ap, subst, _∙_}
-use mathlib.Core.Bool.{Bool, true, false, not, true≢false}
+use mathlib.Core.Bool.{Bool, true, false, _&&_, not, true≢false}
 use mathlib.Core.List.{List, [], _∷_, _++_, append-assoc, append-nil}
 use mathlib.Core.Option.{Option, none, some}
-use Prim.Native.Nat.{ℕ, _<_}
+use Prim.Native.Nat.{ℕ, _<_, _≤_}
 use native.Mathlib.Omega.{arith}
-use borrow.Author.Tests.{leb-false, not-false}
+use borrow.Author.Tests.{leb-false, leb-true, not-false}
+use lib.Dec.{T, leb}
+use lib.IntN.{ℤ, pos, _+ℤ_}
 use lib.ListN.{length}
-use Rattle.laws.specs.Test.{or-false-left}
+use Rattle.laws.specs.Integer.{eqZ, eqZ-true}
+use Rattle.laws.specs.Test.{or-false-left, and-true-left, and-true-right, is-T}
+use Rattle.rules.specs.declared.Wire.{Wire}
 use Rattle.rules.specs.Circuit.{Output}
+use Rattle.rules.specs.CircuitText.{noNode}
 use Rattle.rules.specs.Builder.{tableLimits}
 use Rattle.rules.specs.Form.{Reading, Good, Refused, lines, readLines}
-use Rattle.rules.specs.Network.{LutNode, Input, Linear, Bootstrap, Network}
-use Rattle.rules.specs.NetworkText.{Net, NetworkLine, NetLine, NodeLine, OutLine, NetPrefix, started, ending, networkLine, textConditions, safetyConditions, admissionConditions, withNetworkLine, withNet, networkEnded, noNetwork, readNetwork, readAdmitted}
+use Rattle.rules.specs.Network.{Term, LutNode, Input, Linear, Bootstrap, Network, leastOf, greatestOf, nodeNorm}
+use Rattle.rules.specs.NetworkText.{Net, NetworkLine, NetLine, NodeLine, OutLine, NetPrefix, sources, unknown, nodeAt, anyBadSource, started, ending, settingsOf, over, fitsTable, noBit, networkLine, textConditions, safetyConditions, admissionConditions, withNetworkLine, withNet, networkEnded, noNetwork, readNetwork, readAdmitted}
+use Rattle.rules.specs.Rotation.{rotatable}
+use Rattle.rules.specs.Runs.{allBits}
 use Rattle.theorems.specs.Refusals.{NoneMet}
 use Rattle.theorems.specs.Readings.{kept}
-use Rattle.theorems.specs.LineBits.{LineBits, line-bits}
+use Rattle.theorems.specs.LineBits.{WireBit, LineBits, line-bits}
 
 -- A line meets none of 21 to 26 after a `net` line, nodes and outputs.
 unfoldable pub Passes : Net → List LutNode → List Output → NetworkLine → Type 0
@@ -106,3 +113,51 @@ admitted-admissible text w e =
     let r = kept networkLine 21 admissionConditions withNetworkLine networkEnded So
             (λ i c s l f m h. with-line (c .net) (c .nodes) (c .outputs) i l m (line-bits s l f) h) 1 noNetwork (lines text) w (refl, refl) e in
     at-end (r .1 .net) (r .0) (r .1 .nodes) (r .1 .outputs) w (r .2) (r .3)
+
+-- ---- What a line that passes is known by.
+
+pub record LinPasses (n : Net) (ns : List LutNode) (c : ℤ) (ts : List Term) : Type 0 where
+  pub sources-in : anyBadSource ns (sources ts) ≡ false
+  pub norm-in : over (n .norm) (nodeNorm (Linear c ts)) ≡ false
+
+pub lin-passes : (n : Net) (ns : List LutNode) (c : ℤ) (ts : List Term) → Passes n ns [] (NodeLine (Linear c ts)) → LinPasses n ns c ts
+unfolding Passes NoneMet admissionConditions textConditions safetyConditions settingsOf
+lin-passes n ns c ts p = record { sources-in = p .0 .1 .1 .1 .1 .0; norm-in = p .0 .1 .1 .1 .1 .1 .0 }
+
+pub record BootPasses (n : Net) (ns : List LutNode) (i : ℕ) (table : List ℕ) : Type 0 where
+  pub earlier : i < length ns
+  pub least : leastOf (nodeAt ns i) ≡ pos 0
+  pub greatest : greatestOf (nodeAt ns i) +ℤ pos 1 ≡ pos (length table)
+  pub most : length table ≤ n .m
+  pub turns : T (rotatable (n .p) table)
+  pub bits : T (allBits table)
+
+pub boot-passes : (n : Net) (ns : List LutNode) (i : ℕ) (table : List ℕ) → Passes n ns [] (NodeLine (Bootstrap i table)) → BootPasses n ns i table
+unfolding Passes NoneMet admissionConditions textConditions safetyConditions settingsOf unknown fitsTable LineBits
+boot-passes n ns i table p =
+    record {
+      earlier = leb-false (length ns) i (p .0 .1 .1 .1 .1 .0);
+      least = eqZ-true _ _ (and-true-left low high (and-true-left (low && high) short fits));
+      greatest = eqZ-true _ _ (and-true-right low high (and-true-left (low && high) short fits));
+      most = leb-true (length table) (n .m) (and-true-right (low && high) short fits);
+      turns = is-T (rotatable (n .p) table) (not-false (rotatable (n .p) table) (p .0 .1 .1 .1 .1 .1 .1 .0));
+      bits = p .1;
+    }
+  where
+    low : Bool
+    low = eqZ (leastOf (nodeAt ns i)) (pos 0)
+    high : Bool
+    high = eqZ (greatestOf (nodeAt ns i) +ℤ pos 1) (pos (length table))
+    short : Bool
+    short = leb (length table) (n .m)
+    fits : ((low && high) && short) ≡ true
+    fits = not-false ((low && high) && short) (p .0 .1 .1 .1 .1 .1 .0)
+
+pub record OutPasses (ns : List LutNode) (w : Wire) : Type 0 where
+  pub earlier : noNode (length ns) w ≡ false
+  pub isBit : noBit ns w ≡ false
+  pub constant : WireBit w
+
+pub out-passes : (n : Net) (ns : List LutNode) (os : List Output) (o : Output) → Passes n ns os (OutLine o) → OutPasses ns (o .wire)
+unfolding Passes NoneMet admissionConditions textConditions safetyConditions LineBits
+out-passes n ns os o p = record { earlier = p .0 .1 .1 .0; isBit = p .0 .1 .1 .1 .0; constant = p .1 }

@@ -8,6 +8,7 @@ pub mod Worked
 pub mod Refusals
 pub mod Readings
 pub mod LineBits
+pub mod Bounds
 pub mod Admissible
 pub mod AdmissionExact
 pub mod AdmittedSafe
