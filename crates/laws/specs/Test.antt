@@ -51,6 +51,10 @@ pub or-false-right : (a b : Bool) → (a || b) ≡ false → b ≡ false
 or-false-right true b e = absurd (true≢false e)
 or-false-right false b e = e
 
+-- two constructors that are said to be one: `cc` then proves 0 ≡ 1
+pub zero≢one : _≡_ {A = ℕ} 0 1 → ⊥
+zero≢one e = omega arith
+
 -- of every index below n
 unfoldable pub allb : ℕ → (ℕ → Bool) → Bool
 allb zero f = true

@@ -1,6 +1,6 @@
 -- What admission knows of a network: no node of it meets a condition against the nodes before it, and no output against all of them.
-use mathlib.Core.Path.{_≡_, refl, sym, ap, subst, _∙_}
-use mathlib.Core.Bool.{Bool, true, false, _&&_, not, true≢false}
+use mathlib.Core.Path.{_≡_, refl, subst}
+use mathlib.Core.Bool.{Bool, true, false, _&&_, true≢false}
 use mathlib.Core.List.{List, [], _∷_, _++_, append-assoc, append-nil}
 use mathlib.Core.Option.{Option, none, some}
 use Prim.Native.Nat.{ℕ, _<_, _≤_}
@@ -10,19 +10,19 @@ use lib.Dec.{T, leb}
 use lib.IntN.{ℤ, pos, _+ℤ_}
 use lib.ListN.{length}
 use Rattle.laws.specs.Integer.{eqZ, eqZ-true}
-use Rattle.laws.specs.Test.{or-false-left, and-true-left, and-true-right, is-T}
+use Rattle.laws.specs.Test.{or-false-left, and-true-left, and-true-right, is-T, zero≢one}
 use Rattle.rules.specs.declared.Wire.{Wire}
 use Rattle.rules.specs.Circuit.{Output}
 use Rattle.rules.specs.CircuitText.{noNode}
 use Rattle.rules.specs.Builder.{tableLimits}
-use Rattle.rules.specs.Form.{Reading, Good, Refused, lines, readLines}
+use Rattle.rules.specs.Form.{Reading, Good, lines}
 use Rattle.rules.specs.Network.{Term, LutNode, Input, Linear, Bootstrap, Network, leastOf, greatestOf, nodeNorm}
-use Rattle.rules.specs.NetworkText.{Net, NetworkLine, NetLine, NodeLine, OutLine, NetPrefix, sources, unknown, nodeAt, anyBadSource, started, ending, settingsOf, over, fitsTable, noBit, networkLine, textConditions, safetyConditions, admissionConditions, withNetworkLine, withNet, networkEnded, noNetwork, readNetwork, readAdmitted}
+use Rattle.rules.specs.NetworkText.{Net, NetworkLine, NetLine, NodeLine, OutLine, NetPrefix, sources, unknown, nodeAt, anyBadSource, started, ending, settingsOf, over, fitsTable, noBit, networkLine, textConditions, safetyConditions, admissionConditions, withNetworkLine, withNet, networkEnded, noNetwork, readAdmitted}
 use Rattle.rules.specs.Rotation.{rotatable}
 use Rattle.rules.specs.Runs.{allBits}
-use Rattle.theorems.specs.Refusals.{NoneMet}
-use Rattle.theorems.specs.Readings.{kept}
-use Rattle.theorems.specs.LineBits.{WireBit, LineBits, line-bits}
+use Rattle.theorems.specs.Readings.{NoneMet}
+use Rattle.theorems.specs.GoodTexts.{kept}
+use Rattle.theorems.specs.LineBits.{WireBit, NodeBits, LineBits, line-bits}
 
 -- A line meets none of 21 to 26 after a `net` line, nodes and outputs.
 unfoldable pub Passes : Net → List LutNode → List Output → NetworkLine → Type 0
@@ -104,14 +104,14 @@ good-same v w e = cc
 at-end : (o : Option Net) (i : ℕ) (ns : List LutNode) (os : List Output) (w : Network) → SoFar o ns os
     → withNet i (record { net = o; nodes = ns; outputs = os }) o ≡ Good w → Admissible w
 unfolding SoFar withNet netOf
-at-end none i ns os w s e = absurd (let q : _≡_ {A = ℕ} 0 1 = cc in omega arith)
+at-end none i ns os w s e = absurd (zero≢one (cc))
 at-end (some n) i ns os w s e = subst Admissible (good-same _ w e) (record { limits = s .0; nodes = s .1; outputs = s .2 })
 
 pub admitted-admissible : (text : List ℕ) (w : Network) → readAdmitted text ≡ Good w → Admissible w
 unfolding readAdmitted networkEnded noNetwork So SoFar
 admitted-admissible text w e =
     let r = kept networkLine 21 admissionConditions withNetworkLine networkEnded So
-            (λ i c s l f m h. with-line (c .net) (c .nodes) (c .outputs) i l m (line-bits s l f) h) 1 noNetwork (lines text) w (refl, refl) e in
+    (λ i c s l f m h. with-line (c .net) (c .nodes) (c .outputs) i l m (line-bits s l f) h) 1 noNetwork (lines text) w (refl, refl) e in
     at-end (r .1 .net) (r .0) (r .1 .nodes) (r .1 .outputs) w (r .2) (r .3)
 
 -- ---- What a line that passes is known by.
@@ -133,7 +133,7 @@ pub record BootPasses (n : Net) (ns : List LutNode) (i : ℕ) (table : List ℕ)
   pub bits : T (allBits table)
 
 pub boot-passes : (n : Net) (ns : List LutNode) (i : ℕ) (table : List ℕ) → Passes n ns [] (NodeLine (Bootstrap i table)) → BootPasses n ns i table
-unfolding Passes NoneMet admissionConditions textConditions safetyConditions settingsOf unknown fitsTable LineBits
+unfolding Passes NoneMet admissionConditions textConditions safetyConditions settingsOf unknown fitsTable LineBits NodeBits
 boot-passes n ns i table p =
     record {
       earlier = leb-false (length ns) i (p .0 .1 .1 .1 .1 .0);
@@ -146,10 +146,13 @@ boot-passes n ns i table p =
   where
     low : Bool
     low = eqZ (leastOf (nodeAt ns i)) (pos 0)
+
     high : Bool
     high = eqZ (greatestOf (nodeAt ns i) +ℤ pos 1) (pos (length table))
+
     short : Bool
     short = leb (length table) (n .m)
+
     fits : ((low && high) && short) ≡ true
     fits = not-false ((low && high) && short) (p .0 .1 .1 .1 .1 .1 .0)
 

@@ -1,13 +1,13 @@
 -- Texts are refused exactly when a listed condition holds (document 01, "Refused with").
-use mathlib.Core.Path.{_≡_, refl, sym, ap, _∙_}
-use mathlib.Core.Bool.{Bool, true, false, _||_, not}
+use mathlib.Core.Path.{_≡_, refl, ap}
+use mathlib.Core.Bool.{true}
 use mathlib.Core.List.{List, [], _∷_, _++_}
 use mathlib.Core.Logic.{_↔_, Iff·trans}
 use mathlib.Core.Option.{Option, none, some}
 use Prim.Native.Nat.{ℕ, _≤_}
 use native.Mathlib.Omega.{arith}
-use Rattle.laws.specs.Test.{isSome}
-use Rattle.rules.specs.declared.AdmitReply.{AdmitReply}
+use borrow.Author.Tests.{not-false}
+use Rattle.laws.specs.Test.{isSome, or-false-left, zero≢one}
 use Rattle.rules.specs.declared.AdmitReply.the-variants.{Admitted}
 use Rattle.rules.specs.declared.AdmitReply.the-variants as Admit
 use Rattle.rules.specs.declared.Settings.{Settings}
@@ -15,10 +15,11 @@ use Rattle.rules.specs.declared.Stats.{Stats}
 use Rattle.rules.specs.Circuit.{Circuit}
 use Rattle.rules.specs.Form.{Condition, Reading, Good, Refused}
 use Rattle.rules.specs.CircuitText.{CircuitLine, FbsLine, InLine, GateLine, OutLine, Prefix, circuitLine, conditions, withLine, ended, withSettings, nothing, readCircuit}
-use Rattle.rules.specs.Network.{LutNode, Input, Linear, Bootstrap, Network, stats}
+use Rattle.rules.specs.Network.{Input, Linear, Bootstrap, Network, stats}
 use Rattle.rules.specs.NetworkText.{Net, NetworkLine, NetLine, NodeLine, NetPrefix, started, networkLine, textConditions, safetyConditions, admissionConditions, withNetworkLine, withNet, networkEnded, noNetwork, readNetwork, readAdmitted, admitReply, admission}
 use Rattle.rules.specs.NetworkText as NetworkText
-use Rattle.theorems.specs.Refusals.{Kind, Holds, First, Exact, LowestFirst, NoneMet, Regular, readText, exact, holds-within}
+use Rattle.theorems.specs.Refusals.{Kind, Holds, First, Exact}
+use Rattle.theorems.specs.Readings.{LowestFirst, NoneMet, Regular, exact, holds-within}
 
 -- ---- The statement.
 
@@ -41,15 +42,7 @@ pub record AdmissionExact (text : List ℕ) : Type 0 where
   pub admitted : ((s : Stats) × (admission text ≡ Admitted s)) ↔ ((k i : ℕ) → Holds admissions text k i → ⊥)
   pub listed : (k i : ℕ) → Holds admissions text k i → (21 ≤ k) × (k ≤ 26)
 
--- ---- Circuits.
-
-or-left : (a b : Bool) → (a || b) ≡ false → a ≡ false
-or-left true b e = e
-or-left false b e = refl
-
-not-false : (a : Bool) → not a ≡ false → a ≡ true
-not-false true e = refl
-not-false false e = sym e
+-- ---- Circuit texts.
 
 circuits-numbered : (c : Prefix) (l : CircuitLine) → LowestFirst 1 7 (conditions c l)
 unfolding LowestFirst conditions
@@ -62,13 +55,13 @@ circuits-numbered c (OutLine o) = omega arith
 circuits-open : (n : ℕ) (c : Prefix) (l : CircuitLine) → NoneMet (conditions c l) → isSome (withLine n c l .settings) ≡ true
 unfolding NoneMet conditions withLine
 circuits-open n c (FbsLine s) m = refl
-circuits-open n c (InLine a) m = not-false _ (or-left _ _ (m .1 .0))
-circuits-open n c (GateLine b ws) m = not-false _ (or-left _ _ (m .1 .0))
+circuits-open n c (InLine a) m = not-false _ (or-false-left _ _ (m .1 .0))
+circuits-open n c (GateLine b ws) m = not-false _ (or-false-left _ _ (m .1 .0))
 circuits-open n c (OutLine o) m = not-false _ (m .1 .0)
 
 with-settings : (n : ℕ) (c : Prefix) (o : Option Settings) → isSome o ≡ true → (x : Circuit) × (withSettings n c o ≡ Good x)
 unfolding withSettings
-with-settings n c none e = absurd (let q : _≡_ {A = ℕ} 0 1 = cc in omega arith)
+with-settings n c none e = absurd (zero≢one (cc))
 with-settings n c (some s) e = (_, refl)
 
 circuits-regular : Regular circuits ended 1 7
@@ -89,9 +82,9 @@ pub circuit-exact : (text : List ℕ) → Exact (readCircuit text) (Holds circui
 unfolding circuits readCircuit
 circuit-exact text = exact circuits ended 1 7 circuits-regular text
 
--- ---- Networks.
+-- ---- Network texts.
 
-networks-numbered : (w : NetPrefix) (l : NetworkLine) → LowestFirst 21 26 (textConditions w l)
+networks-numbered : (w : NetPrefix) (l : NetworkLine) → LowestFirst 21 22 (textConditions w l)
 unfolding LowestFirst textConditions
 networks-numbered w (NetLine n) = omega arith
 networks-numbered w (NodeLine (Input n)) = omega arith
@@ -128,10 +121,10 @@ admission-text w l m = none-front (textConditions w l) (safetyConditions w l) m
 
 with-net : (n : ℕ) (w : NetPrefix) (o : Option Net) → isSome o ≡ true → (x : Network) × (withNet n w o ≡ Good x)
 unfolding withNet
-with-net n w none e = absurd (let q : _≡_ {A = ℕ} 0 1 = cc in omega arith)
+with-net n w none e = absurd (zero≢one (cc))
 with-net n w (some a) e = (_, refl)
 
-networks-regular : Regular networks networkEnded 21 26
+networks-regular : Regular networks networkEnded 21 22
 unfolding networks networkEnded noNetwork withNet started
 networks-regular =
     record {
@@ -160,7 +153,7 @@ admissions-regular =
 -- A network text, as a run reads it and as admission reads it.
 pub network-exact : (text : List ℕ) → Exact (readNetwork text) (Holds networks text)
 unfolding networks readNetwork
-network-exact text = exact networks networkEnded 21 26 networks-regular text
+network-exact text = exact networks networkEnded 21 22 networks-regular text
 
 pub admitted-exact : (text : List ℕ) → Exact (readAdmitted text) (Holds admissions text)
 unfolding admissions readAdmitted
@@ -173,16 +166,26 @@ unfolding admitReply
 reply-refused (Good w) k i = (λ e. cc, λ e. cc)
 reply-refused (Refused j h) k i = (λ e. cc, λ e. cc)
 
-reply-admitted : (r : Reading Network) → ((s : Stats) × (admitReply r ≡ Admitted s)) ↔ ((w : Network) × (r ≡ Good w))
+reply-admitted : (r : Reading Network) (s : Stats) → admitReply r ≡ Admitted s → (w : Network) × (r ≡ Good w) × (s ≡ stats w)
 unfolding admitReply
-reply-admitted (Good w) = (λ a. (w, refl), λ a. (stats w, refl))
-reply-admitted (Refused j h) = (λ a. absurd (let e = a .1 in let q : _≡_ {A = ℕ} 0 1 = cc in omega arith), λ a. absurd (let e = a .1 in let q : _≡_ {A = ℕ} 0 1 = cc in omega arith))
+reply-admitted (Good w) s e = (w, refl, cc)
+reply-admitted (Refused k i) s e = absurd (zero≢one (cc))
+
+-- Admission's statistics are recounted from the nodes of the network that it reads.
+pub statistics-recounted : (text : List ℕ) (s : Stats) → admission text ≡ Admitted s → (w : Network) × (readAdmitted text ≡ Good w) × (s ≡ stats w)
+unfolding admission
+statistics-recounted text s e = reply-admitted (readAdmitted text) s e
+
+admitted-good : (text : List ℕ) → ((s : Stats) × (admission text ≡ Admitted s)) ↔ ((w : Network) × (readAdmitted text ≡ Good w))
+unfolding admission admitReply
+admitted-good text =
+    (λ a. let c = statistics-recounted text (a .0) (a .1) in (c .0, c .1), λ a. (stats (a .0), ap admitReply (a .1)))
 
 pub admission-exact : (text : List ℕ) → AdmissionExact text
 unfolding admission
 admission-exact text =
     record {
       refused = λ k i. Iff·trans (reply-refused (readAdmitted text) k i) (admitted-exact text .refused k i);
-      admitted = Iff·trans (reply-admitted (readAdmitted text)) (admitted-exact text .good);
+      admitted = Iff·trans (admitted-good text) (admitted-exact text .good);
       listed = holds-within admissions networkEnded 21 26 admissions-regular text;
     }

@@ -1,36 +1,39 @@
 -- An admitted network is safe to run (document 01, "Rules"): no break-off, each `boot` is bit(v), each `out` 0 or 1, each `lin` norm at most NORM.
 use mathlib.Core.Path.{_≡_, refl, sym, ap, subst, subst₂, _∙_}
-use mathlib.Core.Bool.{Bool, true, false, _&&_, not}
-use mathlib.Core.List.{List, [], _∷_, _++_, map, append-assoc, append-nil}
-use mathlib.Core.Logic.{_⊎_, inl, inr, ⊎-elim}
-use mathlib.Core.Option.{Option, none, some, Option·map}
-use Prim.Native.Nat.{ℕ, zero, suc, _+_, _<_, _≤_}
+use mathlib.Core.Bool.{Bool, true, false}
+use mathlib.Core.List.{List, [], _∷_, _++_, append-assoc, append-nil}
+use mathlib.Core.Logic.{⊎-elim}
+use mathlib.Core.Option.{some, Option·map}
+use Prim.Native.Nat.{ℕ, zero, suc, _<_, _≤_}
 use native.Mathlib.Omega.{arith}
-use borrow.Author.Tests.{leb-false, leb-true, ltb-false, not-false}
+use borrow.Author.Tests.{le-ltb, leb-false, ltb-false, not-false}
 use lib.Dec.{T, leb, eqb, leb→le}
 use lib.IntN.{ℤ, pos, negsuc, _+ℤ_}
-use lib.ListN.{length, getD, length-append, List·getD-append, List·getD-eq-default}
+use lib.ListN.{length-map, length, getD, length-append, List·getD-append, List·getD-eq-default}
 use lib.Seq.{getD-at}
 use lib.Signed.{_≤ℤ_, leZ}
-use Rattle.laws.specs.Integer.{plus, minus, add-parts, ints, eqZ, eqZ-true}
-use Rattle.laws.specs.Test.{and-left, and-right, and-true-left, and-true-right, is-T, lt-or-le}
+use Rattle.laws.specs.Integer.{plus, minus, add-parts, ints}
+use Rattle.laws.specs.Over.{over}
+use Rattle.laws.specs.Test.{and-left, and-right, and-true-left, and-true-right, is-T, T-is, lt-or-le, zero≢one}
+use Rattle.rules.specs.declared.AdmitReply.the-variants.{Admitted}
 use Rattle.rules.specs.declared.Limit.{Limit}
 use Rattle.rules.specs.declared.Limit.the-variants.{Unlimited, AtMost}
+use Rattle.rules.specs.declared.RunReply.the-variants.{Ran}
+use Rattle.rules.specs.declared.Stats.{Stats}
 use Rattle.rules.specs.declared.Wire.{Wire}
 use Rattle.rules.specs.declared.Wire.the-variants.{Const, Node}
 use Rattle.rules.specs.Circuit.{Output}
 use Rattle.rules.specs.CircuitText.{noNode}
-use Rattle.rules.specs.Form.{Good, lines, readLines}
-use Rattle.rules.specs.Network.{Term, LutNode, Input, Linear, Bootstrap, Network, isInput, count, leastOf, greatestOf, nodeNorm, nodeValue, withValue, nodeValues, wireValue, outputValues, networkRun, sumFrom}
-use Rattle.rules.specs.NetworkText.{Net, NetworkLine, NodeLine, OutLine, unknown, nodeAt, fitsTable, isBit, noBit, over, settingsOf, networkLine, textConditions, safetyConditions, admissionConditions, withNetworkLine, networkEnded, noNetwork, readNetwork, readAdmitted}
-use Rattle.rules.specs.Rotation.{Rotatable, rotatable, rotated}
-use Rattle.rules.specs.Runs.{allBits, bitsFor}
-use Rattle.theorems.specs.AdmissionExact.{admission-text}
-use Rattle.theorems.specs.Admissible.{Passes, NodesPass, OutputsPass, netOf, Admissible, LinPasses, lin-passes, BootPasses, boot-passes, OutPasses, out-passes, admitted-admissible}
-use Rattle.theorems.specs.Bounds.{IsBit, Bounded, bit-between, sum-bounded, bounded-snoc}
-use Rattle.theorems.specs.LineBits.{WireBit, LineBits}
-use Rattle.theorems.specs.Readings.{fewer}
-use Rattle.theorems.specs.Refusals.{NoneMet}
+use Rattle.rules.specs.Form.{Good, lines}
+use Rattle.rules.specs.Network.{Term, LutNode, Input, Linear, Bootstrap, Network, isInput, count, stats, leastOf, greatestOf, nodeNorm, nodeValue, withValue, nodeValues, wireValue, outputValues, networkRun, sumFrom}
+use Rattle.rules.specs.NetworkText.{Net, NodeLine, nodeAt, isBit, noBit, over as overLimit, networkLine, textConditions, admissionConditions, withNetworkLine, networkEnded, noNetwork, readNetwork, readAdmitted, admission}
+use Rattle.rules.specs.Rotation.{Rotatable, rotated}
+use Rattle.rules.specs.Runs.{ran, allBits, bitsFor, withValues, runOn, runNetworkOn, runNetwork}
+use Rattle.theorems.specs.AdmissionExact.{admission-text, statistics-recounted}
+use Rattle.theorems.specs.Admissible.{Passes, NodesPass, OutputsPass, netOf, Admissible, lin-passes, BootPasses, boot-passes, OutPasses, out-passes, admitted-admissible}
+use Rattle.theorems.specs.Bounds.{ZeroOrOne, Bounded, bit-between, sum-bounded, bounded-snoc}
+use Rattle.theorems.specs.LineBits.{WireBit}
+use Rattle.theorems.specs.GoodTexts.{fewer}
 use Rattle.theorems.specs.RotationRule.{rotation-rule}
 
 -- ---- The statement.
@@ -43,14 +46,28 @@ pub record Lookup (P : ℕ) (table : List ℕ) (node boot : ℤ) : Type 0 where
   pub turns : Rotatable P table
   pub gives : boot ≡ pos (getD table v 0)
 
--- With these bits for its inputs the run of a network has a value for each node, and none does harm.
+-- The run of a network on these bits: no break-off, each `boot` is bit(v), each `out` 0 or 1; each `lin` norm at most NORM, if not `none`.
 pub record Safe (w : Network) (bits : List ℕ) : Type 0 where
+  -- a value for each node
   pub values : List ℤ
   pub run : nodeValues (w .p) bits [] (w .nodes) ≡ some values
-  pub boots : (k i : ℕ) (table : List ℕ) → nodeAt (w .nodes) k ≡ Bootstrap i table → Lookup (w .p) table (getD values i (pos 0)) (getD values k (pos 0))
+  pub boots : (k i : ℕ) (table : List ℕ) → nodeAt (w .nodes) k ≡ Bootstrap i table
+      → Lookup (w .p) table (getD values i (pos 0)) (getD values k (pos 0))
   pub outputs : networkRun w bits ≡ some (outputValues (w .outputs) values)
-  pub outputBits : (j : ℕ) → j < length (w .outputs) → IsBit (getD (outputValues (w .outputs) values) j (pos 0))
-  pub norms : (k limit : ℕ) (c : ℤ) (ts : List Term) → nodeAt (w .nodes) k ≡ Linear c ts → w .norm ≡ AtMost limit → nodeNorm (Linear c ts) ≤ limit
+  pub outputBits : (j : ℕ) → j < length (w .outputs) → ZeroOrOne (getD (outputValues (w .outputs) values) j (pos 0))
+  pub norms : (k limit : ℕ) (c : ℤ) (ts : List Term) → nodeAt (w .nodes) k ≡ Linear c ts → w .norm ≡ AtMost limit
+      → nodeNorm (Linear c ts) ≤ limit
+
+-- A text that is admitted, s its statistics: a run reads the network that admission has read, it is s recounted, it is safe on every
+-- assignment of its input bits, and the run's entry answers its outputs.
+pub record AdmittedSafe (text : List ℕ) (s : Stats) : Type 0 where
+  pub network : Network
+  pub read : readNetwork text ≡ Good network
+  pub recounted : s ≡ stats network
+  pub safe : (bits : List ℕ) → T (bitsFor (count isInput (network .nodes)) bits) → Safe network bits
+  pub runs : (bits : List ℕ) (buffer : List ℤ) (b : T (bitsFor (count isInput (network .nodes)) bits)) → length (network .outputs) ≤ length buffer
+      → runNetwork text bits buffer
+      ≡ ran (Ran (length (network .outputs))) (over (outputValues (network .outputs) (safe bits b .values)) buffer)
 
 -- ---- A `boot`.
 
@@ -101,7 +118,7 @@ module _ (n : Net) (bits : List ℕ) (good : T (allBits bits)) (ns : List LutNod
         is = refl;
         least = bit-least (getD bits (length values) 0);
         greatest = bit-greatest (getD bits (length values) 0) (bit-of bits (length values) good);
-        boot = λ i table e. absurd (let q : _≡_ {A = ℕ} 0 1 = cc in omega arith);
+        boot = λ i table e. absurd (zero≢one (cc));
       }
   valued (Linear c ts) p =
       let s = sum-bounded ns values b c ts (lin-passes n ns c ts p .sources-in) in
@@ -110,7 +127,7 @@ module _ (n : Net) (bits : List ℕ) (good : T (allBits bits)) (ns : List LutNod
         is = refl;
         least = s .0;
         greatest = s .1;
-        boot = λ i table e. absurd (let q : _≡_ {A = ℕ} 0 1 = cc in omega arith);
+        boot = λ i table e. absurd (zero≢one (cc));
       }
   valued (Bootstrap i table) p =
       let h = boot-passes n ns i table p in
@@ -130,7 +147,7 @@ module _ (n : Net) (bits : List ℕ) (good : T (allBits bits)) (ns : List LutNod
 -- ---- The run.
 
 -- of the nodes ns after these values, where all are the nodes from the start
-record Ran (P : ℕ) (bits : List ℕ) (all : List LutNode) (values : List ℤ) (ns : List LutNode) : Type 0 where
+record Run (P : ℕ) (bits : List ℕ) (all : List LutNode) (values : List ℤ) (ns : List LutNode) : Type 0 where
   final : List ℤ
   run : nodeValues P bits values ns ≡ some final
   bounded : Bounded all final
@@ -146,7 +163,7 @@ no-node ns k i table h e =
     omega arith
 
 module _ (n : Net) (bits : List ℕ) (good : T (allBits bits)) (all : List LutNode) where
-  ran-none : (ns : List LutNode) (values : List ℤ) → ns ++ [] ≡ all → Bounded ns values → Ran (n .p) bits all values []
+  ran-none : (ns : List LutNode) (values : List ℤ) → ns ++ [] ≡ all → Bounded ns values → Run (n .p) bits all values []
   unfolding nodeValues
   ran-none ns values e b =
       let f : ns ≡ all = sym (append-nil ns) ∙ e in
@@ -161,7 +178,7 @@ module _ (n : Net) (bits : List ℕ) (good : T (allBits bits)) (all : List LutNo
 
   -- the first of the nodes, and the run of the others
   ran-one : (ns : List LutNode) (values : List ℤ) (x : LutNode) (xs : List LutNode) → ns ++ (x ∷ xs) ≡ all → Bounded ns values
-      → (v : Valued (n .p) bits values x) → Ran (n .p) bits all (values ++ (v .value ∷ [])) xs → Ran (n .p) bits all values (x ∷ xs)
+      → (v : Valued (n .p) bits values x) → Run (n .p) bits all (values ++ (v .value ∷ [])) xs → Run (n .p) bits all values (x ∷ xs)
   unfolding nodeValues withValue nodeAt
   ran-one ns values x xs e b v r =
       record {
@@ -169,7 +186,7 @@ module _ (n : Net) (bits : List ℕ) (good : T (allBits bits)) (all : List LutNo
         run = rw (v .is) (r .run);
         bounded = r .bounded;
         kept = old;
-        boots = λ k i table h g. 
+        boots = λ k i table h g.
             ⊎-elim (λ (l : length values < k). r .boots k i table (rw length-append (omega arith)) g)
             (λ (l : k ≤ length values). here k i table (omega arith) g)
             (lt-or-le (length values) k);
@@ -177,24 +194,27 @@ module _ (n : Net) (bits : List ℕ) (good : T (allBits bits)) (all : List LutNo
     where
       old : (i : ℕ) → i < length values → getD (r .final) i (pos 0) ≡ getD values i (pos 0)
       old i h = r .kept i (rw length-append (omega arith)) ∙ List·getD-append values (v .value ∷ []) (pos 0) i h
+
       new : (k : ℕ) → length values ≡ k → getD (r .final) k (pos 0) ≡ v .value
       new k h = r .kept k (rw length-append (omega arith)) ∙ getD-at values (v .value) [] (pos 0) k h
+
       node : (k : ℕ) → length values ≡ k → getD all k (Input []) ≡ x
       node k h = ap (λ ms. getD ms k (Input [])) (sym e) ∙ getD-at ns x xs (Input []) k (sym (b .long) ∙ h)
+
       here : (k i : ℕ) (table : List ℕ) → length values ≡ k → nodeAt all k ≡ Bootstrap i table
           → Lookup (n .p) table (getD (r .final) i (pos 0)) (getD (r .final) k (pos 0))
       here k i table h g =
           let l = v .boot i table (sym (node k h) ∙ g) in
           rw (old i (l .0), new k h) (l .1)
 
-  ran : (ns : List LutNode) (values : List ℤ) (xs : List LutNode) → ns ++ xs ≡ all → NodesPass n ns xs → Bounded ns values
-      → Ran (n .p) bits all values xs
+  ran-all : (ns : List LutNode) (values : List ℤ) (xs : List LutNode) → ns ++ xs ≡ all → NodesPass n ns xs → Bounded ns values
+      → Run (n .p) bits all values xs
   unfolding NodesPass
-  ran ns values [] e p b = ran-none ns values e b
-  ran ns values (x ∷ xs) e p b =
+  ran-all ns values [] e p b = ran-none ns values e b
+  ran-all ns values (x ∷ xs) e p b =
       let v = valued n bits good ns values b x (p .0) in
       ran-one ns values x xs e b v
-      (ran (ns ++ (x ∷ [])) (values ++ (v .value ∷ [])) xs (append-assoc ns (x ∷ []) xs ∙ e) (p .1) (bounded-snoc ns values b x (v .value) (v .least) (v .greatest)))
+      (ran-all (ns ++ (x ∷ [])) (values ++ (v .value ∷ [])) xs (append-assoc ns (x ∷ []) xs ∙ e) (p .1) (bounded-snoc ns values b x (v .value) (v .least) (v .greatest)))
 
 -- ---- Outputs and norms.
 
@@ -205,7 +225,7 @@ leZ-yes x y e = record { le = is-T (leZ x y) e }
 ≤ℤ-trans x y z h k = omega (arith, ints)
 
 module _ (ns : List LutNode) (values : List ℤ) (b : Bounded ns values) where
-  wire-bit : (w : Wire) → OutPasses ns w → IsBit (wireValue values w)
+  wire-bit : (w : Wire) → OutPasses ns w → ZeroOrOne (wireValue values w)
   unfolding wireValue noBit noNode isBit WireBit
   wire-bit (Const k) p = bit-between (pos k) (bit-least k) (bit-greatest k (p .constant))
   wire-bit (Node i) p =
@@ -217,38 +237,39 @@ module _ (ns : List LutNode) (values : List ℤ) (b : Bounded ns values) where
     where
       low : Bool
       low = leZ (pos 0) (leastOf (nodeAt ns i))
+
       high : Bool
       high = leZ (greatestOf (nodeAt ns i)) (pos 1)
 
   output-bits : (n : Net) (before os : List Output) → OutputsPass n ns before os
-      → (j : ℕ) → j < length os → IsBit (getD (outputValues os values) j (pos 0))
+      → (j : ℕ) → j < length os → ZeroOrOne (getD (outputValues os values) j (pos 0))
   unfolding OutputsPass outputValues
   output-bits n before [] p j h = absurd (omega arith)
   output-bits n before (o ∷ os) p zero h = wire-bit (o .wire) (out-passes n ns before o (p .0))
   output-bits n before (o ∷ os) p (suc j) h = output-bits n (before ++ (o ∷ [])) os (p .1) j (omega arith)
 
-within-norm : (l : Limit) (k m : ℕ) → over l m ≡ false → l ≡ AtMost k → m ≤ k
-unfolding over
-within-norm Unlimited k m e f = absurd (let q : _≡_ {A = ℕ} 0 1 = cc in omega arith)
+within-norm : (l : Limit) (k m : ℕ) → overLimit l m ≡ false → l ≡ AtMost k → m ≤ k
+unfolding overLimit
+within-norm Unlimited k m e f = absurd (zero≢one (cc))
 within-norm (AtMost j) k m e f = let g : j ≡ k = cc in let h = ltb-false j m e in omega arith
 
 norms-within : (n : Net) (before ns : List LutNode) → NodesPass n before ns
     → (k limit : ℕ) (c : ℤ) (ts : List Term) → nodeAt ns k ≡ Linear c ts → n .norm ≡ AtMost limit → nodeNorm (Linear c ts) ≤ limit
 unfolding NodesPass nodeAt
-norms-within n before [] p k limit c ts e f = absurd (let q : _≡_ {A = ℕ} 0 1 = cc in omega arith)
+norms-within n before [] p k limit c ts e f = absurd (zero≢one (cc))
 norms-within n before (x ∷ ns) p zero limit c ts e f =
     within-norm (n .norm) limit _ (lin-passes n before c ts (subst (λ y. Passes n before [] (NodeLine y)) e (p .0)) .norm-in) f
 norms-within n before (x ∷ ns) p (suc k) limit c ts e f = norms-within n (before ++ (x ∷ [])) ns (p .1) k limit c ts e f
 
--- ---- The theorem.
+-- ---- A text.
 
 no-values : Bounded [] []
 no-values = record { long = refl; least = λ i h. absurd (omega arith); greatest = λ i h. absurd (omega arith) }
 
-admissible-safe : (w : Network) (bits : List ℕ) → Admissible w → T (allBits bits) → Safe w bits
+safe-on : (w : Network) (bits : List ℕ) → Admissible w → T (allBits bits) → Safe w bits
 unfolding networkRun netOf
-admissible-safe w bits a good =
-    let r = ran (netOf w) bits good (w .nodes) [] [] (w .nodes) refl (a .nodes) no-values in
+safe-on w bits a good =
+    let r = ran-all (netOf w) bits good (w .nodes) [] [] (w .nodes) refl (a .nodes) no-values in
     record {
       values = r .final;
       run = r .run;
@@ -258,10 +279,39 @@ admissible-safe w bits a good =
       norms = norms-within (netOf w) [] (w .nodes) (a .nodes);
     }
 
-pub admitted-safe : (text bits : List ℕ) (w : Network) → readAdmitted text ≡ Good w → T (bitsFor (count isInput (w .nodes)) bits) → Safe w bits
-unfolding bitsFor
-admitted-safe text bits w e t = admissible-safe w bits (admitted-admissible text w e) (and-right (eqb (length bits) (count isInput (w .nodes))) (allBits bits) t)
-
-pub admitted-read : (text : List ℕ) (w : Network) → readAdmitted text ≡ Good w → readNetwork text ≡ Good w
+-- an admitted text is read by a run
+admitted-read : (text : List ℕ) (w : Network) → readAdmitted text ≡ Good w → readNetwork text ≡ Good w
 unfolding readAdmitted readNetwork
-admitted-read text w e = fewer networkLine 21 admissionConditions withNetworkLine networkEnded textConditions admission-text 1 noNetwork (lines text) w e
+admitted-read text w e =
+    fewer networkLine 21 admissionConditions withNetworkLine networkEnded textConditions admission-text 1 noNetwork (lines text) w e
+
+entry-runs : (text bits : List ℕ) (buffer : List ℤ) (w : Network) (values : List ℤ) → readNetwork text ≡ Good w
+    → networkRun w bits ≡ some (outputValues (w .outputs) values) → T (bitsFor (count isInput (w .nodes)) bits) → length (w .outputs) ≤ length buffer
+    → runNetwork text bits buffer ≡ ran (Ran (length (w .outputs))) (over (outputValues (w .outputs) values) buffer)
+unfolding runNetwork runNetworkOn runOn withValues outputValues
+entry-runs text bits buffer w values e f b l =
+    rw (e, T-is (bitsFor (count isInput (w .nodes)) bits) b, le-ltb (length buffer) (length (w .outputs)) l, f)
+    (ap (λ n. ran (Ran n) (over (outputValues (w .outputs) values) buffer)) (length-map (w .outputs) (λ o. wireValue values (o .wire))))
+
+pub admitted-safe : (text : List ℕ) (s : Stats) → admission text ≡ Admitted s → AdmittedSafe text s
+unfolding bitsFor
+admitted-safe text s e =
+    record {
+      network = w;
+      read = read;
+      recounted = c .2;
+      safe = safe;
+      runs = λ bits buffer b l. entry-runs text bits buffer w (safe bits b .values) read (safe bits b .outputs) b l;
+    }
+  where
+    c : (w : Network) × (readAdmitted text ≡ Good w) × (s ≡ stats w)
+    c = statistics-recounted text s e
+
+    w : Network
+    w = c .0
+
+    read : readNetwork text ≡ Good w
+    read = admitted-read text w (c .1)
+
+    safe : (bits : List ℕ) → T (bitsFor (count isInput (w .nodes)) bits) → Safe w bits
+    safe bits b = safe-on w bits (admitted-admissible text w (c .1)) (and-right (eqb (length bits) (count isInput (w .nodes))) (allBits bits) b)

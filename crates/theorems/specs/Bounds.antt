@@ -1,9 +1,9 @@
 -- Values within the bounds of their nodes (document 01, "Bounds of a node").
-use mathlib.Core.Path.{_≡_, refl, sym, ap, subst, _∙_}
-use mathlib.Core.Bool.{Bool, true, false, _||_}
+use mathlib.Core.Path.{_≡_, refl, sym, ap, _∙_}
+use mathlib.Core.Bool.{false, _||_}
 use mathlib.Core.List.{List, [], _∷_, _++_}
 use mathlib.Core.Logic.{_⊎_, inl, inr, ⊎-elim}
-use Prim.Native.Nat.{ℕ, zero, suc, _+_, _*_, _<_, _≤_}
+use Prim.Native.Nat.{ℕ, zero, suc, _+_, _<_}
 use native.Mathlib.Omega.{arith}
 use borrow.Author.Tests.{leb-false}
 use lib.IntN.{ℤ, pos, negsuc, _+ℤ_, _*ℤ_}
@@ -11,12 +11,12 @@ use lib.ListN.{length, getD, length-append, List·getD-append}
 use lib.Seq.{getD-at}
 use lib.Signed.{_≤ℤ_, ≤ℤ-refl}
 use Rattle.laws.specs.Integer.{plus, minus, add-parts, plus-mul, minus-mul, ints}
-use Rattle.laws.specs.Test.{or-false-left, or-false-right, lt-or-le}
+use Rattle.laws.specs.Test.{or-false-left, or-false-right, lt-or-le, zero≢one}
 use Rattle.rules.specs.Network.{Term, LutNode, Input, Linear, Bootstrap, isLinear, below0, above0, leastSum, greatestSum, leastOf, greatestOf, sumFrom}
 use Rattle.rules.specs.NetworkText.{sources, unknown, nodeAt, anyBadSource}
 
-pub IsBit : ℤ → Type 0
-IsBit z = (z ≡ pos 0) ⊎ (z ≡ pos 1)
+abbrev pub ZeroOrOne : ℤ → Type 0
+ZeroOrOne z = (z ≡ pos 0) ⊎ (z ≡ pos 1)
 
 -- Each node has a value, within its bounds.
 pub record Bounded (ns : List LutNode) (values : List ℤ) : Type 0 where
@@ -26,15 +26,15 @@ pub record Bounded (ns : List LutNode) (values : List ℤ) : Type 0 where
 
 -- ---- A coefficient times a bit.
 
-below-times : (z x : ℤ) → IsBit x → below0 z ≤ℤ (z *ℤ x)
-unfolding IsBit below0 plus minus
+below-times : (z x : ℤ) → ZeroOrOne x → below0 z ≤ℤ (z *ℤ x)
+unfolding below0 plus minus
 below-times (pos a) x (inl e) = rw e (omega (arith, ints, plus-mul (pos a) (pos 0), minus-mul (pos a) (pos 0)))
 below-times (pos a) x (inr e) = rw e (omega (arith, ints, plus-mul (pos a) (pos 1), minus-mul (pos a) (pos 1)))
 below-times (negsuc a) x (inl e) = rw e (omega (arith, ints, plus-mul (negsuc a) (pos 0), minus-mul (negsuc a) (pos 0)))
 below-times (negsuc a) x (inr e) = rw e (omega (arith, ints, plus-mul (negsuc a) (pos 1), minus-mul (negsuc a) (pos 1)))
 
-times-above : (z x : ℤ) → IsBit x → (z *ℤ x) ≤ℤ above0 z
-unfolding IsBit above0 plus minus
+times-above : (z x : ℤ) → ZeroOrOne x → (z *ℤ x) ≤ℤ above0 z
+unfolding above0 plus minus
 times-above (pos a) x (inl e) = rw e (omega (arith, ints, plus-mul (pos a) (pos 0), minus-mul (pos a) (pos 0)))
 times-above (pos a) x (inr e) = rw e (omega (arith, ints, plus-mul (pos a) (pos 1), minus-mul (pos a) (pos 1)))
 times-above (negsuc a) x (inl e) = rw e (omega (arith, ints, plus-mul (negsuc a) (pos 0), minus-mul (negsuc a) (pos 0)))
@@ -47,7 +47,7 @@ add-le a b x y h k = omega (arith, ints, add-parts a b, add-parts x y)
 
 SourceBits : List ℤ → List Term → Type 0
 SourceBits values [] = Unit {0}
-SourceBits values (t ∷ ts) = IsBit (getD values (t .node) (pos 0)) × SourceBits values ts
+SourceBits values (t ∷ ts) = ZeroOrOne (getD values (t .node) (pos 0)) × SourceBits values ts
 
 sum-least : (values : List ℤ) (ts : List Term) (a v : ℤ) → SourceBits values ts → a ≤ℤ v → leastSum a ts ≤ℤ sumFrom values v ts
 unfolding SourceBits leastSum sumFrom
@@ -61,17 +61,17 @@ sum-greatest values (t ∷ ts) v a b h = sum-greatest values ts _ _ (b .1) (add-
 
 -- ---- Nodes whose bounds are 0..1.
 
-pub bit-between : (z : ℤ) → pos 0 ≤ℤ z → z ≤ℤ pos 1 → IsBit z
-unfolding IsBit plus minus
+pub bit-between : (z : ℤ) → pos 0 ≤ℤ z → z ≤ℤ pos 1 → ZeroOrOne z
+unfolding plus minus
 bit-between (pos zero) h k = inl refl
 bit-between (pos (suc zero)) h k = inr refl
 bit-between (pos (suc (suc a))) h k = absurd (omega (arith, ints))
 bit-between (negsuc a) h k = absurd (omega (arith, ints))
 
-bit-node : (x : LutNode) (v : ℤ) → isLinear x ≡ false → leastOf x ≤ℤ v → v ≤ℤ greatestOf x → IsBit v
+bit-node : (x : LutNode) (v : ℤ) → isLinear x ≡ false → leastOf x ≤ℤ v → v ≤ℤ greatestOf x → ZeroOrOne v
 unfolding isLinear leastOf greatestOf
 bit-node (Input a) v e h k = bit-between v h k
-bit-node (Linear c ts) v e h k = absurd (let q : _≡_ {A = ℕ} 0 1 = cc in omega arith)
+bit-node (Linear c ts) v e h k = absurd (zero≢one (cc))
 bit-node (Bootstrap i table) v e h k = bit-between v h k
 
 module _ (ns : List LutNode) (values : List ℤ) (b : Bounded ns values) where
@@ -82,9 +82,10 @@ module _ (ns : List LutNode) (values : List ℤ) (b : Bounded ns values) where
   source-bits (t ∷ ts) e =
       let bad = unknown ns (t .node) || isLinear (nodeAt ns (t .node)) in
       let f = or-false-left bad _ e in
-      let i = leb-false (length ns) (t .node) (or-false-left (unknown ns (t .node)) _ f) in
-      (bit-node (nodeAt ns (t .node)) _ (or-false-right (unknown ns (t .node)) _ f) (b .least _ i) (b .greatest _ i),
-      source-bits ts (or-false-right bad _ e))
+      let i = leb-false (length ns) (t .node) (or-false-left (unknown ns (t .node)) _ f) in (
+        bit-node (nodeAt ns (t .node)) _ (or-false-right (unknown ns (t .node)) _ f) (b .least _ i) (b .greatest _ i),
+        source-bits ts (or-false-right bad _ e),
+      )
 
   pub sum-bounded : (c : ℤ) (ts : List Term) → anyBadSource ns (sources ts) ≡ false
       → (leastOf (Linear c ts) ≤ℤ sumFrom values c ts) × (sumFrom values c ts ≤ℤ greatestOf (Linear c ts))
@@ -103,11 +104,15 @@ module _ (ns : List LutNode) (values : List ℤ) (b : Bounded ns values) where
     where
       old-or-new : (i : ℕ) → i < length (ns ++ (x ∷ [])) → (i < length ns) ⊎ (length ns ≡ i)
       old-or-new i l = ⊎-elim inl (λ g. inr (let j : i < length ns + 1 = rw length-append at l in omega arith)) (lt-or-le i (length ns))
+
       old-node : (i : ℕ) → i < length ns → getD (ns ++ (x ∷ [])) i (Input []) ≡ getD ns i (Input [])
       old-node i e = List·getD-append ns (x ∷ []) (Input []) i e
+
       old-value : (i : ℕ) → i < length ns → getD (values ++ (v ∷ [])) i (pos 0) ≡ getD values i (pos 0)
       old-value i e = List·getD-append values (v ∷ []) (pos 0) i (rw (b .long) e)
+
       new-node : (i : ℕ) → length ns ≡ i → getD (ns ++ (x ∷ [])) i (Input []) ≡ x
       new-node i e = getD-at ns x [] (Input []) i e
+
       new-value : (i : ℕ) → length ns ≡ i → getD (values ++ (v ∷ [])) i (pos 0) ≡ v
       new-value i e = getD-at values v [] (pos 0) i (b .long ∙ e)

@@ -7,6 +7,7 @@ pub mod BuilderExact
 pub mod Worked
 pub mod Refusals
 pub mod Readings
+pub mod GoodTexts
 pub mod LineBits
 pub mod Bounds
 pub mod Admissible

@@ -1,13 +1,13 @@
 -- What the forms of a network text give: BITS are bits, and so is the constant of a WIRE.
-use mathlib.Core.Path.{_≡_, refl, sym, ap, subst, _∙_}
-use mathlib.Core.Bool.{Bool, true, false, _&&_, _||_}
+use mathlib.Core.Path.{_≡_, refl, subst}
+use mathlib.Core.Bool.{Bool, true, false, _||_}
 use mathlib.Core.List.{List, [], _∷_}
 use mathlib.Core.Option.{Option, none, some}
 use Prim.Native.Nat.{ℕ, _-_, _≤_}
 use native.Mathlib.Omega.{arith}
 use lib.Dec.{T, leb, eqb, eqb→eq, le→leb}
 use lib.ListN.{length, drop}
-use Rattle.laws.specs.Test.{if_then_else_, and-both}
+use Rattle.laws.specs.Test.{if_then_else_, and-both, zero≢one}
 use Rattle.rules.specs.declared.Wire.{Wire}
 use Rattle.rules.specs.declared.Wire.the-variants.{Const, Node}
 use Rattle.rules.specs.Circuit.{Output}
@@ -20,11 +20,14 @@ unfoldable pub WireBit : Wire → Type 0
 WireBit (Const b) = b ≤ 1
 WireBit (Node i) = Unit {0}
 
+unfoldable pub NodeBits : LutNode → Type 0
+NodeBits (Input a) = Unit {0}
+NodeBits (Linear c ts) = Unit {0}
+NodeBits (Bootstrap i table) = T (allBits table)
+
 unfoldable pub LineBits : NetworkLine → Type 0
 LineBits (NetLine n) = Unit {0}
-LineBits (NodeLine (Input a)) = Unit {0}
-LineBits (NodeLine (Linear c ts)) = Unit {0}
-LineBits (NodeLine (Bootstrap i table)) = T (allBits table)
+LineBits (NodeLine x) = NodeBits x
 LineBits (OutLine o) = WireBit (o .wire)
 
 -- ---- Readers: what they give, if anything, is Q.
@@ -59,12 +62,12 @@ either-gives Q (some t) p g h = g
 
 only-gives : {A : Type 0} (Q : A → Type 0) (o : Option (Piece A)) → Gives Q o → (a : A) → only o ≡ some a → Q a
 unfolding only Gives
-only-gives Q none g a e = absurd (let q : _≡_ {A = ℕ} 0 1 = cc in omega arith)
+only-gives Q none g a e = absurd (zero≢one (cc))
 only-gives Q (some t) g a e = by (eqb (length (t .rest)) 0) e
   where
     by : (b : Bool) → (if b then some (t .value) else none) ≡ some a → Q a
     by true f = subst Q (cc) g
-    by false f = absurd (let q : _≡_ {A = ℕ} 0 1 = cc in omega arith)
+    by false f = absurd (zero≢one (cc))
 
 -- ---- BITS and WIRE.
 
@@ -75,7 +78,7 @@ bit-byte b e = by (eqb b 48) (eqb b 49) e (eqb→eq b 48) (eqb→eq b 49)
     by : (s t : Bool) → (s || t) ≡ true → (T s → b ≡ 48) → (T t → b ≡ 49) → T (leb (b - 48) 1)
     by true t e f g = let h = f tt in le→leb (b - 48) 1 (omega arith)
     by false true e f g = let h = g tt in le→leb (b - 48) 1 (omega arith)
-    by false false e f g = absurd (let q : _≡_ {A = ℕ} 0 1 = cc in omega arith)
+    by false false e f g = absurd (zero≢one (cc))
 
 run-bits : (s : List ℕ) → T (allBits (bitsFrom (run isBitByte s)))
 unfolding allBits bitsFrom run
@@ -105,47 +108,37 @@ wire-gives s =
 
 -- ---- The lines.
 
--- (boot ID BITS)
-boot-gives : (s : List ℕ) → Gives (λ n. LineBits (NodeLine n)) (bootLine s)
-unfolding bootLine LineBits Gives
+-- `(lin CONST (COEF ID) ..)`
+lin-gives : (s : List ℕ) → Gives NodeBits (linLine s)
+unfolding linLine NodeBits Gives
+lin-gives s =
+    then-gives NodeBits _ _ (λ _ s. then-gives NodeBits _ _ (λ c s. then-gives NodeBits _ _ (λ ts s. then-gives NodeBits _ _ (λ _ s. tt))))
+
+-- `(boot ID BITS)`
+boot-gives : (s : List ℕ) → Gives NodeBits (bootLine s)
+unfolding bootLine NodeBits Gives
 boot-gives s =
-    then-gives Q _ _
-    (λ _ s.
-      then-gives Q _ _
-      (λ i s.
-        then-gives Q _ _
-        (λ _ s. onward-gives (λ b. T (allBits b)) Q (bits s) _ (bits-gives s) (λ b s r. then-gives Q _ _ (λ _ s. r)))))
-  where
-    Q : LutNode → Type 0
-    Q n = LineBits (NodeLine n)
+    then-gives NodeBits _ _
+    (λ _ s. then-gives NodeBits _ _ (λ i s. then-gives NodeBits _ _
+    (λ _ s. onward-gives (λ b. T (allBits b)) NodeBits (bits s) _ (bits-gives s) (λ b s r. then-gives NodeBits _ _ (λ _ s. r)))))
 
--- (out NAME WIRE)
-out-gives : (s : List ℕ) → Gives (λ o. WireBit (o .wire)) (outLine s)
-unfolding outLine Gives
+-- `(out NAME WIRE)`
+OutputBit : Output → Type 0
+OutputBit o = WireBit (o .wire)
+
+out-gives : (s : List ℕ) → Gives OutputBit (outLine s)
+unfolding outLine OutputBit Gives
 out-gives s =
-    then-gives Q _ _
-    (λ _ s.
-      then-gives Q _ _
-      (λ n s.
-        then-gives Q _ _
-        (λ _ s. onward-gives WireBit Q (wire s) _ (wire-gives s) (λ w s r. then-gives Q _ _ (λ _ s. r)))))
-  where
-    Q : Output → Type 0
-    Q o = WireBit (o .wire)
-
-lin-gives : (s : List ℕ) → Gives (λ n. LineBits (NodeLine n)) (linLine s)
-unfolding linLine LineBits Gives
-lin-gives s = then-gives Q _ _ (λ _ s. then-gives Q _ _ (λ c s. then-gives Q _ _ (λ ts s. then-gives Q _ _ (λ _ s. tt))))
-  where
-    Q : LutNode → Type 0
-    Q n = LineBits (NodeLine n)
+    then-gives OutputBit _ _
+    (λ _ s. then-gives OutputBit _ _ (λ n s. then-gives OutputBit _ _
+    (λ _ s. onward-gives WireBit OutputBit (wire s) _ (wire-gives s) (λ w s r. then-gives OutputBit _ _ (λ _ s. r)))))
 
 pub line-bits : (s : List ℕ) (l : NetworkLine) → networkLine s ≡ some l → LineBits l
-unfolding networkLine LineBits Gives
+unfolding networkLine LineBits NodeBits OutputBit Gives
 line-bits s l e =
     only-gives LineBits _
     (either-gives LineBits _ _ (then-gives LineBits (netLine s) _ (λ n s. tt))
     (either-gives LineBits _ _ (then-gives LineBits (inLine s) _ (λ n s. tt))
-    (either-gives LineBits _ _ (onward-gives (λ n. LineBits (NodeLine n)) LineBits (linLine s) _ (lin-gives s) (λ n s r. r))
-    (either-gives LineBits _ _ (onward-gives (λ n. LineBits (NodeLine n)) LineBits (bootLine s) _ (boot-gives s) (λ n s r. r))
-    (onward-gives (λ o. WireBit (o .wire)) LineBits (outLine s) _ (out-gives s) (λ n s r. r)))))) l e
+    (either-gives LineBits _ _ (onward-gives NodeBits LineBits (linLine s) _ (lin-gives s) (λ n s r. r))
+    (either-gives LineBits _ _ (onward-gives NodeBits LineBits (bootLine s) _ (boot-gives s) (λ n s r. r))
+    (onward-gives OutputBit LineBits (outLine s) _ (out-gives s) (λ n s r. r)))))) l e
