@@ -3,9 +3,9 @@ use mathlib.Core.Path.{_≡_, refl, subst}
 use mathlib.Core.Bool.{Bool, true, false, _&&_, true≢false}
 use mathlib.Core.List.{List, [], _∷_, _++_, append-assoc, append-nil}
 use mathlib.Core.Option.{Option, none, some}
-use Prim.Native.Nat.{ℕ, _<_, _≤_}
+use Prim.Native.Nat.{ℕ, _<_}
 use native.Mathlib.Omega.{arith}
-use borrow.Author.Tests.{leb-false, leb-true, not-false}
+use borrow.Author.Tests.{leb-false, not-false}
 use lib.Dec.{T, leb}
 use lib.IntN.{ℤ, pos, _+ℤ_}
 use lib.ListN.{length}
@@ -128,7 +128,6 @@ pub record BootPasses (n : Net) (ns : List LutNode) (i : ℕ) (table : List ℕ)
   pub earlier : i < length ns
   pub least : leastOf (nodeAt ns i) ≡ pos 0
   pub greatest : greatestOf (nodeAt ns i) +ℤ pos 1 ≡ pos (length table)
-  pub most : length table ≤ n .m
   pub turns : T (rotatable (n .p) table)
   pub bits : T (allBits table)
 
@@ -139,7 +138,6 @@ boot-passes n ns i table p =
       earlier = leb-false (length ns) i (p .0 .1 .1 .1 .1 .0);
       least = eqZ-true _ _ (and-true-left low high (and-true-left (low && high) short fits));
       greatest = eqZ-true _ _ (and-true-right low high (and-true-left (low && high) short fits));
-      most = leb-true (length table) (n .m) (and-true-right (low && high) short fits);
       turns = is-T (rotatable (n .p) table) (not-false (rotatable (n .p) table) (p .0 .1 .1 .1 .1 .1 .1 .0));
       bits = p .1;
     }

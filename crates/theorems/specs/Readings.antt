@@ -86,7 +86,7 @@ first-or-none A a b (c ∷ cs) t = ⊎-elim here (λ f. later f (first-or-none A
 
 -- ---- Lines in turn.
 
-module _ {S L A : Type 0} (K : Kind S L) (ended : ℕ → S → Reading A) where
+module _ {S L : Type 0} (K : Kind S L) where
   at-first : (n : ℕ) (c : S) (l : List ℕ) (ls : List (List ℕ)) (k : ℕ) → Met k (conditionsOf K c (K .form l)) → AtLine K n c (l ∷ ls) k n
   unfolding said
   at-first n c l ls k m =
@@ -116,6 +116,20 @@ module _ {S L A : Type 0} (K : Kind S L) (ended : ℕ → S → Reading A) where
           let g : i - (n + 1) ≡ d = omega (arith, f) in
           inr (record { from = omega (arith, f); there = omega arith; met = rw g (rw e at (h .met)) })
 
+  not-here : (n : ℕ) (c : S) (l : List ℕ) (ls : List (List ℕ)) → NoneMet (conditionsOf K c (K .form l))
+      → (k i : ℕ) → AtLine K n c (l ∷ ls) k i → AtLine K (n + 1) (saidWith K n c (K .form l)) ls k i
+  not-here n c l ls m k i h = ⊎-elim (λ x. absurd (none-met _ m k (x .1))) (λ x. x) (at-cases n c l ls k i h)
+
+  first-later : (n : ℕ) (c : S) (l : List ℕ) (ls : List (List ℕ)) → NoneMet (conditionsOf K c (K .form l))
+      → (k i : ℕ) → First (AtLine K (n + 1) (saidWith K n c (K .form l)) ls) k i → First (AtLine K n c (l ∷ ls)) k i
+  first-later n c l ls m k i f =
+      record {
+        holds = at-later n c l ls k i (f .holds);
+        lowest = λ j h. f .lowest j (not-here n c l ls m j i h);
+        first = λ j h x. f .first j h (not-here n c l ls m j h x);
+      }
+
+module _ {S L A : Type 0} (K : Kind S L) (ended : ℕ → S → Reading A) where
   reading : ℕ → S → List (List ℕ) → Reading A
   reading = readLines (K .form) (K .noForm) (K .conditions) (K .withLine) ended
 
@@ -140,26 +154,13 @@ module _ {S L A : Type 0} (K : Kind S L) (ended : ℕ → S → Reading A) where
       by none m = absurd (not-both true refl (m .0))
       by (some x) m = judged-none n (K .conditions c x) _ m
 
-  not-here : (n : ℕ) (c : S) (l : List ℕ) (ls : List (List ℕ)) → NoneMet (conditionsOf K c (K .form l))
-      → (k i : ℕ) → AtLine K n c (l ∷ ls) k i → AtLine K (n + 1) (saidWith K n c (K .form l)) ls k i
-  not-here n c l ls m k i h = ⊎-elim (λ x. absurd (none-met _ m k (x .1))) (λ x. x) (at-cases n c l ls k i h)
-
   first-here : (n : ℕ) (c : S) (l : List ℕ) (ls : List (List ℕ)) (k : ℕ) → FirstMet A (conditionsOf K c (K .form l)) k
       → First (AtLine K n c (l ∷ ls)) k n
   first-here n c l ls k f =
       record {
-        holds = at-first n c l ls k (f .met);
-        lowest = λ j h. ⊎-elim (λ x. f .lowest j (x .1)) (λ x. absurd (let y = x .from in omega arith)) (at-cases n c l ls j n h);
+        holds = at-first K n c l ls k (f .met);
+        lowest = λ j h. ⊎-elim (λ x. f .lowest j (x .1)) (λ x. absurd (let y = x .from in omega arith)) (at-cases K n c l ls j n h);
         first = λ j h x. x .from;
-      }
-
-  first-later : (n : ℕ) (c : S) (l : List ℕ) (ls : List (List ℕ)) → NoneMet (conditionsOf K c (K .form l))
-      → (k i : ℕ) → First (AtLine K (n + 1) (saidWith K n c (K .form l)) ls) k i → First (AtLine K n c (l ∷ ls)) k i
-  first-later n c l ls m k i f =
-      record {
-        holds = at-later n c l ls k i (f .holds);
-        lowest = λ j h. f .lowest j (not-here n c l ls m j i h);
-        first = λ j h x. f .first j h (not-here n c l ls m j h x);
       }
 
   -- the text is refused by the first line where a condition holds, or none holds and it ends
@@ -178,10 +179,10 @@ module _ {S L A : Type 0} (K : Kind S L) (ended : ℕ → S → Reading A) where
         by : ((k : ℕ) × FirstMet A (conditionsOf K c (K .form l)) k) ⊎ NoneMet (conditionsOf K c (K .form l))
             → Outcome (n + 1) (saidWith K n c (K .form l)) ls → Outcome n c (l ∷ ls)
         by (inl f) rest = inl (f .0, n, first-here n c l ls (f .0) (f .1), read-first n c l ls (f .0) (f .1))
-        by (inr m) (inl r) = inl (r .0, r .1, first-later n c l ls m (r .0) (r .1) (r .2), read-later n c l ls m ∙ r .3)
+        by (inr m) (inl r) = inl (r .0, r .1, first-later K n c l ls m (r .0) (r .1) (r .2), read-later n c l ls m ∙ r .3)
         by (inr m) (inr r) =
             inr (
-              λ k i h. r .0 k i (not-here n c l ls m k i h),
+              λ k i h. r .0 k i (not-here K n c l ls m k i h),
               read-later n c l ls m ∙ r .1 ∙ ap (λ j. ended j (said K n c (l ∷ ls))) (omega arith),
             )
 
@@ -263,8 +264,8 @@ module _ {S L A : Type 0} (K : Kind S L) (ended : ℕ → S → Reading A) (a b 
 
   opened : (n : ℕ) (c : S) (l : List ℕ) (ls : List (List ℕ)) → ((k i : ℕ) → AtLine K n c (l ∷ ls) k i → ⊥) → r .Opened (said K n c (l ∷ ls))
   unfolding said
-  opened n c l [] f = opened-with n c (K .form l) (not-met _ (λ k m. f k n (at-first K ended n c l [] k m)))
-  opened n c l (m ∷ ls) f = opened (n + 1) (saidWith K n c (K .form l)) m ls (λ k i h. f k i (at-later K ended n c l (m ∷ ls) k i h))
+  opened n c l [] f = opened-with n c (K .form l) (not-met _ (λ k m. f k n (at-first K n c l [] k m)))
+  opened n c l (m ∷ ls) f = opened (n + 1) (saidWith K n c (K .form l)) m ls (λ k i h. f k i (at-later K n c l (m ∷ ls) k i h))
 
   -- every condition that holds is one of a to b
   pub holds-within : (text : List ℕ) (k i : ℕ) → Holds K text k i → (a ≤ k) × (k ≤ b)
