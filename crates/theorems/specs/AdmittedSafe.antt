@@ -51,8 +51,9 @@ pub record Safe (w : Network) (bits : List ℕ) : Type 0 where
   -- a value for each node
   pub values : List ℤ
   pub run : nodeValues (w .p) bits [] (w .nodes) ≡ some values
+  pub long : length values ≡ length (w .nodes)
   pub boots : (k i : ℕ) (table : List ℕ) → nodeAt (w .nodes) k ≡ Bootstrap i table
-      → Lookup (w .p) table (getD values i (pos 0)) (getD values k (pos 0))
+      → (i < k) × Lookup (w .p) table (getD values i (pos 0)) (getD values k (pos 0))
   pub outputs : networkRun w bits ≡ some (outputValues (w .outputs) values)
   pub outputBits : (j : ℕ) → j < length (w .outputs) → ZeroOrOne (getD (outputValues (w .outputs) values) j (pos 0))
   pub norms : (k limit : ℕ) (c : ℤ) (ts : List Term) → nodeAt (w .nodes) k ≡ Linear c ts → w .norm ≡ AtMost limit
@@ -153,7 +154,7 @@ record Run (P : ℕ) (bits : List ℕ) (all : List LutNode) (values : List ℤ) 
   bounded : Bounded all final
   kept : (i : ℕ) → i < length values → getD final i (pos 0) ≡ getD values i (pos 0)
   boots : (k i : ℕ) (table : List ℕ) → length values ≤ k → nodeAt all k ≡ Bootstrap i table
-      → Lookup P table (getD final i (pos 0)) (getD final k (pos 0))
+      → (i < k) × Lookup P table (getD final i (pos 0)) (getD final k (pos 0))
 
 no-node : (ns : List LutNode) (k i : ℕ) (table : List ℕ) → length ns ≤ k → nodeAt ns k ≡ Bootstrap i table → ⊥
 unfolding nodeAt
@@ -202,10 +203,10 @@ module _ (n : Net) (bits : List ℕ) (good : T (allBits bits)) (all : List LutNo
       node k h = ap (λ ms. getD ms k (Input [])) (sym e) ∙ getD-at ns x xs (Input []) k (sym (b .long) ∙ h)
 
       here : (k i : ℕ) (table : List ℕ) → length values ≡ k → nodeAt all k ≡ Bootstrap i table
-          → Lookup (n .p) table (getD (r .final) i (pos 0)) (getD (r .final) k (pos 0))
+          → (i < k) × Lookup (n .p) table (getD (r .final) i (pos 0)) (getD (r .final) k (pos 0))
       here k i table h g =
           let l = v .boot i table (sym (node k h) ∙ g) in
-          rw (old i (l .0), new k h) (l .1)
+          (omega arith, rw (old i (l .0), new k h) (l .1))
 
   ran-all : (ns : List LutNode) (values : List ℤ) (xs : List LutNode) → ns ++ xs ≡ all → NodesPass n ns xs → Bounded ns values
       → Run (n .p) bits all values xs
@@ -273,6 +274,7 @@ safe-on w bits a good =
     record {
       values = r .final;
       run = r .run;
+      long = r .bounded .long;
       boots = λ k i table e. r .boots k i table (omega arith) e;
       outputs = ap (Option·map (outputValues (w .outputs))) (r .run);
       outputBits = output-bits (w .nodes) (r .final) (r .bounded) (netOf w) [] (w .outputs) (a .outputs);
