@@ -11,5 +11,6 @@ pub mod GoodTexts
 pub mod LineBits
 pub mod Bounds
 pub mod Admissible
+pub mod AdmissibleLines
 pub mod AdmissionExact
 pub mod AdmittedSafe
