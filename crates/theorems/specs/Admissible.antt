@@ -21,6 +21,7 @@ use Rattle.rules.specs.NetworkText.{Net, NetworkLine, NetLine, NodeLine, OutLin
 use Rattle.rules.specs.Rotation.{rotatable}
 use Rattle.rules.specs.Runs.{allBits}
 use Rattle.theorems.specs.Readings.{NoneMet}
+use Rattle.theorems.specs.AdmissionExact.{admissions}
 use Rattle.theorems.specs.GoodTexts.{kept}
 use Rattle.theorems.specs.LineBits.{WireBit, NodeBits, LineBits, line-bits}
 
@@ -108,11 +109,14 @@ at-end none i ns os w s e = absurd (zero≢one (cc))
 at-end (some n) i ns os w s e = subst Admissible (good-same _ w e) (record { limits = s .0; nodes = s .1; outputs = s .2 })
 
 pub admitted-admissible : (text : List ℕ) (w : Network) → readAdmitted text ≡ Good w → Admissible w
-unfolding readAdmitted networkEnded noNetwork So SoFar
+unfolding admissions readAdmitted networkEnded noNetwork So SoFar
 admitted-admissible text w e =
-    let r = kept networkLine 21 admissionConditions withNetworkLine networkEnded So
-    (λ i c s l f m h. with-line (c .net) (c .nodes) (c .outputs) i l m (line-bits s l f) h) 1 noNetwork (lines text) w (refl, refl) e in
+    let r = kept admissions networkEnded So kept-so 1 noNetwork (lines text) w (refl, refl) e in
     at-end (r .1 .net) (r .0) (r .1 .nodes) (r .1 .outputs) w (r .2) (r .3)
+  where
+    kept-so : (i : ℕ) (c : NetPrefix) (s : List ℕ) (l : NetworkLine) → networkLine s ≡ some l → NoneMet (admissionConditions c l) → So c
+        → So (withNetworkLine i c l)
+    kept-so i c s l f m h = with-line (c .net) (c .nodes) (c .outputs) i l m (line-bits s l f) h
 
 -- ---- What a line that passes is known by.
 

@@ -26,10 +26,10 @@ use Rattle.rules.specs.Circuit.{Output}
 use Rattle.rules.specs.CircuitText.{noNode}
 use Rattle.rules.specs.Form.{Good, lines}
 use Rattle.rules.specs.Network.{Term, LutNode, Input, Linear, Bootstrap, Network, isInput, count, stats, leastOf, greatestOf, nodeNorm, nodeValue, withValue, nodeValues, wireValue, outputValues, networkRun, sumFrom}
-use Rattle.rules.specs.NetworkText.{Net, NodeLine, nodeAt, isBit, noBit, over as overLimit, networkLine, textConditions, admissionConditions, withNetworkLine, networkEnded, noNetwork, readNetwork, readAdmitted, admission}
+use Rattle.rules.specs.NetworkText.{Net, NodeLine, nodeAt, isBit, noBit, over as overLimit, textConditions, networkEnded, noNetwork, readNetwork, readAdmitted, admission}
 use Rattle.rules.specs.Rotation.{Rotatable, rotated}
 use Rattle.rules.specs.Runs.{ran, allBits, bitsFor, withValues, runOn, runNetworkOn, runNetwork}
-use Rattle.theorems.specs.AdmissionExact.{admission-text, statistics-recounted}
+use Rattle.theorems.specs.AdmissionExact.{admissions, admission-text, statistics-recounted}
 use Rattle.theorems.specs.Admissible.{Passes, NodesPass, OutputsPass, netOf, Admissible, lin-passes, BootPasses, boot-passes, OutPasses, out-passes, admitted-admissible}
 use Rattle.theorems.specs.Bounds.{ZeroOrOne, Bounded, bit-between, sum-bounded, bounded-snoc}
 use Rattle.theorems.specs.LineBits.{WireBit}
@@ -283,9 +283,8 @@ safe-on w bits a good =
 
 -- an admitted text is read by a run
 admitted-read : (text : List ℕ) (w : Network) → readAdmitted text ≡ Good w → readNetwork text ≡ Good w
-unfolding readAdmitted readNetwork
-admitted-read text w e =
-    fewer networkLine 21 admissionConditions withNetworkLine networkEnded textConditions admission-text 1 noNetwork (lines text) w e
+unfolding admissions readAdmitted readNetwork
+admitted-read text w e = fewer admissions networkEnded textConditions admission-text 1 noNetwork (lines text) w e
 
 entry-runs : (text bits : List ℕ) (buffer : List ℤ) (w : Network) (values : List ℤ) → readNetwork text ≡ Good w
     → networkRun w bits ≡ some (outputValues (w .outputs) values) → T (bitsFor (count isInput (w .nodes)) bits) → length (w .outputs) ≤ length buffer

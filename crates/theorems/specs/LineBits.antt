@@ -16,10 +16,12 @@ use Rattle.rules.specs.Network.{LutNode, Input, Linear, Bootstrap}
 use Rattle.rules.specs.NetworkText.{NetworkLine, NetLine, NodeLine, OutLine, netLine, linLine, bootLine, networkLine}
 use Rattle.rules.specs.Runs.{allBits}
 
+-- The constant of a WIRE is a bit.
 unfoldable pub WireBit : Wire → Type 0
 WireBit (Const b) = b ≤ 1
 WireBit (Node i) = Unit {0}
 
+-- The bits of a table are.
 unfoldable pub NodeBits : LutNode → Type 0
 NodeBits (Input a) = Unit {0}
 NodeBits (Linear c ts) = Unit {0}

@@ -130,13 +130,13 @@ module _ {S L : Type 0} (K : Kind S L) where
       }
 
 module _ {S L A : Type 0} (K : Kind S L) (ended : ℕ → S → Reading A) where
-  reading : ℕ → S → List (List ℕ) → Reading A
+  abbrev pub reading : ℕ → S → List (List ℕ) → Reading A
   reading = readLines (K .form) (K .noForm) (K .conditions) (K .withLine) ended
 
   -- the first line is judged by its conditions, and where it meets none the others are
   read-first : (n : ℕ) (c : S) (l : List ℕ) (ls : List (List ℕ)) (k : ℕ) → FirstMet A (conditionsOf K c (K .form l)) k
       → reading n c (l ∷ ls) ≡ Refused k n
-  unfolding reading readLines onLine conditionsOf judged
+  unfolding readLines onLine conditionsOf judged
   read-first n c l ls k f = by (K .form l) f
     where
       by : (o : Option L) → FirstMet A (conditionsOf K c o) k
@@ -146,7 +146,7 @@ module _ {S L A : Type 0} (K : Kind S L) (ended : ℕ → S → Reading A) where
 
   read-later : (n : ℕ) (c : S) (l : List ℕ) (ls : List (List ℕ)) → NoneMet (conditionsOf K c (K .form l))
       → reading n c (l ∷ ls) ≡ reading (n + 1) (saidWith K n c (K .form l)) ls
-  unfolding reading readLines onLine conditionsOf saidWith NoneMet
+  unfolding readLines onLine conditionsOf saidWith NoneMet
   read-later n c l ls m = by (K .form l) m
     where
       by : (o : Option L) → NoneMet (conditionsOf K c o)
@@ -171,7 +171,7 @@ module _ {S L A : Type 0} (K : Kind S L) (ended : ℕ → S → Reading A) where
 
   module _ (a b : ℕ) (numbered : (c : S) (o : Option L) → LowestFirst a b (conditionsOf K c o)) where
     outcome : (n : ℕ) (c : S) (ls : List (List ℕ)) → Outcome n c ls
-    unfolding Outcome reading readLines said
+    unfolding Outcome readLines said
     outcome n c [] = inr (λ k i h. not-suc-le-zero (h .there), ap (λ m. ended m c) (omega arith))
     outcome n c (l ∷ ls) =
         by (first-or-none A a b (conditionsOf K c (K .form l)) (numbered c (K .form l))) (outcome (n + 1) (saidWith K n c (K .form l)) ls)
@@ -274,7 +274,7 @@ module _ {S L A : Type 0} (K : Kind S L) (ended : ℕ → S → Reading A) (a b 
   holds-within text k i (inr h) = let m = r .missing-within in omega arith
 
   abbrev pub readText : List ℕ → Reading A
-  readText text = readLines (K .form) (K .noForm) (K .conditions) (K .withLine) ended 1 (K .start) (lines text)
+  readText text = reading K ended 1 (K .start) (lines text)
 
   empty-decided : Decided (readText []) (Holds K [])
   unfolding Decided readLines lines Holds
@@ -295,7 +295,7 @@ module _ {S L A : Type 0} (K : Kind S L) (ended : ℕ → S → Reading A) (a b 
       only k i (inr h) = (h .1, h .2)
 
   some-decided : (x : ℕ) (s : List ℕ) → Decided (readText (x ∷ s)) (Holds K (x ∷ s))
-  unfolding Decided Holds Outcome reading
+  unfolding Decided Holds Outcome
   some-decided x s = by (outcome K ended a b numbered 1 (K .start) (lines (x ∷ s)))
     where
       line : (k i : ℕ) → Holds K (x ∷ s) k i → AtLine K 1 (K .start) (lines (x ∷ s)) k i

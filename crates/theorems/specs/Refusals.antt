@@ -26,11 +26,12 @@ pub record Kind (S L : Type 0) : Type 0 where
   pub missing : ℕ
 
 module _ {S L : Type 0} (K : Kind S L) where
-  -- The conditions of a line, whether or not it is a form. One that is no form says nothing.
+  -- The conditions of a line, whether or not it is a form.
   unfoldable pub conditionsOf : S → Option L → List Condition
   conditionsOf c none = (K .noForm when true) ∷ []
   conditionsOf c (some l) = K .conditions c l
 
+  -- One that is no form says nothing.
   unfoldable pub saidWith : ℕ → S → Option L → S
   saidWith i c none = c
   saidWith i c (some l) = K .withLine i c l
