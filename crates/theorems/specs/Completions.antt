@@ -10,20 +10,20 @@ use borrow.Author.Tests.{lt-ltb, le-ltb, le-leb, lt-leb, eq-eqb, ne-eqb}
 use lib.Dec.{T, leb, ltb, eqb, leb→le, le→leb}
 use lib.ListN.{length, getD, length-map, List·getD-map}
 use Rattle.laws.specs.Tabulate.{tabulate-at, tabulate-length}
-use Rattle.laws.specs.Test.{if_then_else_, isSome, lt-or-le, eq-or-ne, T-is, T-not-is, is-T, getD-any, if-both, allb, allb-at, allb-all, and-both, and-left, and-right}
+use Rattle.laws.specs.Test.{if_then_else_, isSome, lt-or-le, eq-or-ne, T-is, T-not-is, is-T, decide, if-both, allb, allb-at, allb-all, allb-more, allb-fails, and-both, and-left, and-right}
 use Rattle.rules.specs.Rotation.{Rotatable, pairSum, rotatable}
 use Rattle.rules.specs.Builder.{knownOr, filled, against, opposedAt, opposed, completion, completable}
 use Rattle.theorems.specs.RotationRule.{RotationRule, rotation-rule, one-sum, sum-one, rotatable-short, rotatable-small, rotatable-long}
 
 -- every entry is 0, 1, or 2 for unknown
 pub record Entries (known : List ℕ) : Type 0 where
-  pub at : (i : ℕ) → getD known i 2 ≤ 2
+  pub at : (i : ℕ) → getD known i 0 ≤ 2
 
 -- t has a bit for each entry, the known ones as they are
 pub record Completes (known t : List ℕ) : Type 0 where
   pub long : length t ≡ length known
   pub bits : (i : ℕ) → i < length known → getD t i 0 ≤ 1
-  pub keeps : (i : ℕ) → i < length known → getD known i 2 ≢ 2 → getD t i 0 ≡ getD known i 2
+  pub keeps : (i : ℕ) → i < length known → getD known i 0 ≢ 2 → getD t i 0 ≡ getD known i 0
 
 -- ---- an entry
 known-is : (d x : ℕ) → x ≢ 2 → knownOr d x ≡ x
@@ -34,15 +34,15 @@ unknown-is : (d x : ℕ) → x ≡ 2 → knownOr d x ≡ d
 unfolding knownOr
 unknown-is d x h = rw (eq-eqb x 2 h)
 
-against-known : (d y x : ℕ) → x ≢ 2 → against d y x ≡ x
+pub against-known : (d y x : ℕ) → x ≢ 2 → against d y x ≡ x
 unfolding against
 against-known d y x h = rw (ne-eqb x 2 h)
 
-against-one : (d y x : ℕ) → x ≡ 2 → y ≢ 2 → against d y x ≡ 1 - y
+pub against-one : (d y x : ℕ) → x ≡ 2 → y ≢ 2 → against d y x ≡ 1 - y
 unfolding against
 against-one d y x h k = rw (eq-eqb x 2 h, ne-eqb y 2 k)
 
-against-none : (d y x : ℕ) → x ≡ 2 → y ≡ 2 → against d y x ≡ d
+pub against-none : (d y x : ℕ) → x ≡ 2 → y ≡ 2 → against d y x ≡ d
 unfolding against
 against-none d y x h k = rw (eq-eqb x 2 h, eq-eqb y 2 k)
 
@@ -106,9 +106,9 @@ pub filled-length : (d : ℕ) (known : List ℕ) → length (filled d known) ≡
 unfolding filled
 filled-length d known = length-map known (knownOr d)
 
-pub filled-at : (d : ℕ) (known : List ℕ) (i : ℕ) → i < length known → getD (filled d known) i 0 ≡ knownOr d (getD known i 2)
-unfolding filled
-filled-at d known i h = getD-any (map (knownOr d) known) i 0 (knownOr d 2) (rw length-map h) ∙ List·getD-map (knownOr d) known i 2
+pub filled-at : (d : ℕ) (known : List ℕ) (i : ℕ) → getD (filled d known) i 0 ≡ knownOr d (getD known i 0)
+unfolding filled knownOr
+filled-at d known i = List·getD-map (knownOr d) known i 0
 
 pub opposed-length : (P : ℕ) (known : List ℕ) → length (opposed P known) ≡ length known
 unfolding opposed
@@ -119,25 +119,51 @@ unfolding opposed
 opposed-at P known i h = tabulate-at (length known) (opposedAt P known) i 0 h
 
 module _ (P : ℕ) (known : List ℕ) (i : ℕ) where
-  opposed-low : i + P < length known → getD (opposed P known) i 0 ≡ against 0 (getD known (i + P) 2) (getD known i 2)
+  pub opposedAt-low : i + P < length known → opposedAt P known i ≡ against 0 (getD known (i + P) 0) (getD known i 0)
   unfolding opposedAt
-  opposed-low h = opposed-at P known i (omega arith) ∙ rw (lt-ltb (i + P) (length known) h)
+  opposedAt-low h = rw (lt-ltb (i + P) (length known) h)
 
-  opposed-high : length known ≤ 2 * P → i + P < length known → getD (opposed P known) (i + P) 0 ≡ against 1 (getD known i 2) (getD known (i + P) 2)
+  pub opposedAt-high : length known ≤ i + P → P ≤ i → opposedAt P known i ≡ against 1 (getD known (i - P) 0) (getD known i 0)
   unfolding opposedAt
-  opposed-high k h =
-      let e : i + P - P ≡ i = omega arith in
-      opposed-at P known (i + P) h ∙ rw (le-ltb (i + P + P) (length known) (omega arith), le-leb P (i + P) (omega arith), e)
+  opposedAt-high h k = rw (le-ltb (i + P) (length known) h, le-leb P i k)
+
+  pub opposedAt-alone : length known ≤ i + P → i < P → opposedAt P known i ≡ knownOr 0 (getD known i 0)
+  unfolding opposedAt
+  opposedAt-alone h k = rw (le-ltb (i + P) (length known) h, lt-leb P i k)
+
+  opposed-low : i + P < length known → getD (opposed P known) i 0 ≡ against 0 (getD known (i + P) 0) (getD known i 0)
+  opposed-low h = opposed-at P known i (omega arith) ∙ opposedAt-low h
+
+opposed-high : (P : ℕ) (known : List ℕ) (i : ℕ) → length known ≤ 2 * P → i + P < length known
+    → getD (opposed P known) (i + P) 0 ≡ against 1 (getD known i 0) (getD known (i + P) 0)
+opposed-high P known i k h =
+    let e : i + P - P ≡ i = omega arith in
+    opposed-at P known (i + P) h
+    ∙ opposedAt-high P known (i + P) (omega arith) (omega arith)
+    ∙ ap (λ j. against 1 (getD known j 0) (getD known (i + P) 0)) e
 
 -- ---- every pair leaves the sum s
 unfoldable pub leavesAt : ℕ → ℕ → List ℕ → ℕ → Bool
-leavesAt s P known i = leaves s (getD known i 2) (getD known (i + P) 2)
+leavesAt s P known i = leaves s (getD known i 0) (getD known (i + P) 0)
 
 unfoldable pub allLeave : ℕ → ℕ → List ℕ → Bool
 allLeave s P known = allb (length known - P) (leavesAt s P known)
 
+module _ (s P : ℕ) (known : List ℕ) where
+  pub allLeave-all : (i : ℕ) → i ≡ length known - P → allb i (leavesAt s P known) ≡ true → allLeave s P known ≡ true
+  unfolding allLeave
+  allLeave-all i e a = rw (← e, a)
+
+  pub allLeave-fails : (i : ℕ) → i < length known - P → leaves s (getD known i 0) (getD known (i + P) 0) ≡ false → allLeave s P known ≡ false
+  unfolding allLeave leavesAt
+  allLeave-fails i h e = allb-fails (length known - P) i (leavesAt s P known) h e
+
+  pub allLeave-more : (i : ℕ) → allb i (leavesAt s P known) ≡ true → leaves s (getD known i 0) (getD known (i + P) 0) ≡ true → allb (i + 1) (leavesAt s P known) ≡ true
+  unfolding leavesAt
+  allLeave-more i a e = allb-more i (leavesAt s P known) a e
+
 module _ (P : ℕ) (known : List ℕ) (entries : Entries known) (short : length known ≤ 2 * P) where
-  left-at : (s : ℕ) → T (allLeave s P known) → (i : ℕ) → i < length known - P → T (leaves s (getD known i 2) (getD known (i + P) 2))
+  left-at : (s : ℕ) → T (allLeave s P known) → (i : ℕ) → i < length known - P → T (leaves s (getD known i 0) (getD known (i + P) 0))
   unfolding allLeave leavesAt
   left-at s t i h = allb-at (length known - P) (leavesAt s P known) t i h
 
@@ -146,14 +172,14 @@ module _ (P : ℕ) (known : List ℕ) (entries : Entries known) (short : length 
   zeros-fit t =
       one-sum P (filled 0 known) 0 (rw filled-length short)
       (λ i h. let l : i < length known - P = rw filled-length at h in
-      rw (filled-at 0 known i (omega arith), filled-at 0 known (i + P) (omega arith)) (zeros _ _ (entries .at i) (entries .at (i + P)) (left-at 0 t i l)))
+      rw (filled-at 0 known i, filled-at 0 known (i + P)) (zeros _ _ (entries .at i) (entries .at (i + P)) (left-at 0 t i l)))
 
   ones-fit : T (allLeave 2 P known) → T (rotatable P (filled 1 known))
   unfolding pairSum
   ones-fit t =
       one-sum P (filled 1 known) 2 (rw filled-length short)
       (λ i h. let l : i < length known - P = rw filled-length at h in
-      rw (filled-at 1 known i (omega arith), filled-at 1 known (i + P) (omega arith)) (ones _ _ (entries .at i) (entries .at (i + P)) (left-at 2 t i l)))
+      rw (filled-at 1 known i, filled-at 1 known (i + P)) (ones _ _ (entries .at i) (entries .at (i + P)) (left-at 2 t i l)))
 
   opposites-fit : T (allLeave 1 P known) → T (rotatable P (opposed P known))
   unfolding pairSum
@@ -202,8 +228,8 @@ module _ (known : List ℕ) (entries : Entries known) where
   filled-completes d h =
       record {
         long = filled-length d known;
-        bits = λ i l. rw (filled-at d known i l) (known-bit d (getD known i 2) h (entries .at i));
-        keeps = λ i l x. rw (filled-at d known i l) (known-is d (getD known i 2) x);
+        bits = λ i l. rw (filled-at d known i) (known-bit d (getD known i 0) h (entries .at i));
+        keeps = λ i l x. rw (filled-at d known i) (known-is d (getD known i 0) x);
       }
 
   opposed-completes : (P : ℕ) → Completes known (opposed P known)
@@ -215,8 +241,8 @@ module _ (known : List ℕ) (entries : Entries known) where
             (if-both (λ y. y ≤ 1) (ltb (i + P) (length known)) (against-bit 0 _ _ (omega arith) (entries .at i))
             (if-both (λ y. y ≤ 1) (leb P i) (against-bit 1 _ _ (omega arith) (entries .at i)) (known-bit 0 _ (omega arith) (entries .at i))));
         keeps = λ i l x. rw (opposed-at P known i l)
-            (if-both (λ y. y ≡ getD known i 2) (ltb (i + P) (length known)) (against-known 0 _ _ x)
-            (if-both (λ y. y ≡ getD known i 2) (leb P i) (against-known 1 _ _ x) (known-is 0 _ x)));
+            (if-both (λ y. y ≡ getD known i 0) (ltb (i + P) (length known)) (against-known 0 _ _ x)
+            (if-both (λ y. y ≡ getD known i 0) (leb P i) (against-known 1 _ _ x) (known-is 0 _ x)));
       }
 
   pub completion-is : (P : ℕ) (t : List ℕ) → completion P known ≡ some t → Completes known t × T (rotatable P t)
@@ -233,8 +259,8 @@ module _ (P : ℕ) (known t : List ℕ) (k : Completes known t) (r : T (rotatabl
   unfolding leavesAt pairSum
   sum-left i h =
       let l = k .long in
-      subst (λ s. T (leaves s (getD known i 2) (getD known (i + P) 2))) (sum-one P t r i (omega arith))
-      (leaves-of (getD known i 2) (getD known (i + P) 2) (getD t i 0) (getD t (i + P) 0)
+      subst (λ s. T (leaves s (getD known i 0) (getD known (i + P) 0))) (sum-one P t r i (omega arith))
+      (leaves-of (getD known i 0) (getD known (i + P) 0) (getD t i 0) (getD t (i + P) 0)
       (k .bits i (omega arith)) (k .bits (i + P) (omega arith)) (k .keeps i (omega arith)) (k .keeps (i + P) (omega arith)))
 
   sum-bound : P < length known → pairSum P t 0 ≤ 2
@@ -253,8 +279,21 @@ module _ (P : ℕ) (known t : List ℕ) (k : Completes known t) (r : T (rotatabl
       (λ (l : length known ≤ P). found P known (inl (rw (rotatable-small P (filled 0 known) (rw filled-length l)) tt)))
       (lt-or-le P (length known))
 
--- ---- by the tests of a loop over the pairs
+-- ---- by the tests of the code
 module _ (P : ℕ) (known : List ℕ) where
+  pub completion-zero : (t : List ℕ) → t ≡ filled 0 known → rotatable P (filled 0 known) ≡ true → some t ≡ completion P known
+  unfolding completion
+  completion-zero t is e = rw (is, e)
+
+  pub completion-one : (t : List ℕ) → t ≡ filled 1 known → rotatable P (filled 0 known) ≡ false → rotatable P (filled 1 known) ≡ true → some t ≡ completion P known
+  unfolding completion
+  completion-one t is e f = rw (is, e, f)
+
+  pub completion-opposed : (t : List ℕ) (r : Bool) → t ≡ opposed P known → r ≡ rotatable P (opposed P known)
+      → rotatable P (filled 0 known) ≡ false → rotatable P (filled 1 known) ≡ false → (if r then some t else none) ≡ completion P known
+  unfolding completion
+  completion-opposed t r is same e f = rw (is, same, e, f)
+
   pub completable-small : length known ≤ P → completable P known ≡ true
   completable-small h = T-is _ (found P known (inl (rw (rotatable-small P (filled 0 known) (rw filled-length h)) tt)))
 
@@ -271,7 +310,7 @@ module _ (P : ℕ) (known : List ℕ) where
     pub completable-left : (s : ℕ) → s ≤ 2 → allLeave s P known ≡ true → completable P known ≡ true
     completable-left s h e = T-is _ (left-found P known entries short s h (is-T _ e))
 
-    pub completable-none : P < length known → allLeave 0 P known ≡ false → allLeave 1 P known ≡ false → allLeave 2 P known ≡ false → completable P known ≡ false
+    completable-none : P < length known → allLeave 0 P known ≡ false → allLeave 1 P known ≡ false → allLeave 2 P known ≡ false → completable P known ≡ false
     completable-none h e f g = T-not-is _ (λ c. no (some-table P known c))
       where
         not-left : (s : ℕ) → s ≤ 2 → T (allLeave s P known) → ⊥
@@ -284,3 +323,8 @@ module _ (P : ℕ) (known : List ℕ) where
         no w =
             let is = completion-is known entries P (w .0) (w .1) in
             not-left (pairSum P (w .0) 0) (sum-bound P known (w .0) (is .0) (is .1) h) (all-left P known (w .0) (is .0) (is .1))
+
+    -- two sums are left to no pair: the third decides
+    pub completable-last : P < length known → allLeave 1 P known ≡ false → allLeave 0 P known ≡ false → allLeave 2 P known ≡ completable P known
+    completable-last h f e =
+        ⊎-elim (λ g. g ∙ sym (completable-left 2 (omega arith) g)) (λ g. g ∙ sym (completable-none h e f g)) (decide (allLeave 2 P known))

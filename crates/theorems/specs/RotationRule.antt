@@ -75,6 +75,18 @@ module _ (P : ℕ) (bits : List ℕ) where
   unfolding rotatable
   rotatable-pairs l h = rw (centre-pairs l h) (by-some (allb (length bits - P) (sameSum P bits)) (pairSum P bits 0))
 
+  -- ---- by the tests of a loop over the pairs
+  pub rotatable-all : (i : ℕ) → P < length bits → length bits ≤ 2 * P → i ≡ length bits - P → allb i (sameSum P bits) ≡ true → rotatable P bits ≡ true
+  rotatable-all i l h e a = rw (rotatable-pairs l h, ← e, a)
+
+  pub rotatable-fails : (i : ℕ) → length bits ≤ 2 * P → i < length bits - P → (pairSum P bits i ≡ pairSum P bits 0 → ⊥) → rotatable P bits ≡ false
+  unfolding sameSum
+  rotatable-fails i h l n = rotatable-pairs (omega arith) h ∙ allb-fails (length bits - P) i (sameSum P bits) l (ne-eqb _ _ n)
+
+  pub same-true : (i : ℕ) → pairSum P bits i ≡ pairSum P bits 0 → sameSum P bits i ≡ true
+  unfolding sameSum
+  same-true i e = eq-eqb (pairSum P bits i) (pairSum P bits 0) e
+
   -- pairs of one sum are enough, and what the decision says of them
   pub one-sum : (c : ℕ) → length bits ≤ 2 * P → ((i : ℕ) → i < length bits - P → pairSum P bits i ≡ c) → T (rotatable P bits)
   unfolding sameSum

@@ -6,12 +6,13 @@ use mathlib.Core.Logic.{_⊎_, ⊎-elim, _≢_}
 use mathlib.Core.Option.{Option, none, some}
 use Prim.Native.Nat.{ℕ, zero, suc, _+_, _<_, _≤_}
 use native.Mathlib.Nat.{not-suc-le-zero, le-of-suc-le-suc}
+use native.Mathlib.Numerals.{add-one}
 use native.Mathlib.Omega.{arith}
 use borrow.Author.Tests.{le-leb, eq-eqb, ne-eqb, leb-true, eqb-true}
 use lib.Dec.{T, leb, eqb}
 use lib.IntN.{ℤ, pos, natAbs, _-ℤ_}
-use lib.ListN.{length, getD, set, replicate, length-set, length-replicate, getD-replicate, List·getD-eq-default}
-use lib.Seq.{getD-set-same, getD-set-other, set-out}
+use lib.ListN.{length, getD, set, drop, replicate, drop-of-length-le, length-set, length-replicate, getD-replicate, List·getD-eq-default}
+use lib.Seq.{getD-set-same, getD-set-other, set-out, drop-cons}
 use Rattle.laws.specs.Test.{if_then_else_, lt-or-le, eq-or-ne, decide}
 use Rattle.rules.specs.Builder.{agrees, enter}
 use Rattle.theorems.specs.Completions.{Entries, Completes}
@@ -38,24 +39,24 @@ module _ (known t : List ℕ) (k b : ℕ) (within : k < length known) where
         long = c .long ∙ sym (length-set known k b);
         bits = λ i l. c .bits i (rw length-set at l);
         keeps = λ i l n. ⊎-elim
-            (λ (s : i ≡ k). rw (s, getD-set-same known k b 2 within) e)
-            (λ (s : i ≢ k). let same = getD-set-other known k i b 2 s in c .keeps i (rw length-set at l) (λ z. n (same ∙ z)) ∙ sym same)
+            (λ (s : i ≡ k). rw (s, getD-set-same known k b 0 within) e)
+            (λ (s : i ≢ k). let same = getD-set-other known k i b 0 s in c .keeps i (rw length-set at l) (λ z. n (same ∙ z)) ∙ sym same)
             (eq-or-ne i k);
       }
 
-  completes-set : Completes (set known k b) t → b ≤ 1 → (getD known k 2 ≢ 2 → getD known k 2 ≡ b) → Completes known t × (getD t k 0 ≡ b)
+  completes-set : Completes (set known k b) t → b ≤ 1 → (getD known k 0 ≢ 2 → getD known k 0 ≡ b) → Completes known t × (getD t k 0 ≡ b)
   completes-set c h f = (record { long = c .long ∙ length-set known k b; bits = λ i l. c .bits i (rw length-set l); keeps = keeps }, at)
     where
       at : getD t k 0 ≡ b
       at =
-          let same = getD-set-same known k b 2 within in
+          let same = getD-set-same known k b 0 within in
           c .keeps k (rw length-set within) (λ z. let q : b ≡ 2 = sym same ∙ z in omega arith) ∙ same
 
-      keeps : (i : ℕ) → i < length known → getD known i 2 ≢ 2 → getD t i 0 ≡ getD known i 2
+      keeps : (i : ℕ) → i < length known → getD known i 0 ≢ 2 → getD t i 0 ≡ getD known i 0
       keeps i l n =
           ⊎-elim
-          (λ (s : i ≡ k). rw s (at ∙ sym (f (λ z. n (ap (λ j. getD known j 2) s ∙ z)))))
-          (λ (s : i ≢ k). let same = getD-set-other known k i b 2 s in c .keeps i (rw length-set l) (λ z. n (sym same ∙ z)) ∙ same)
+          (λ (s : i ≡ k). rw s (at ∙ sym (f (λ z. n (ap (λ j. getD known j 0) s ∙ z)))))
+          (λ (s : i ≢ k). let same = getD-set-other known k i b 0 s in c .keeps i (rw length-set l) (λ z. n (sym same ∙ z)) ∙ same)
           (eq-or-ne i k)
 
 set-entries : (known : List ℕ) (k b : ℕ) → b ≤ 1 → Entries known → Entries (set known k b)
@@ -63,10 +64,10 @@ set-entries known k b h e =
     record {
       at = λ i. ⊎-elim
           (λ (s : i ≡ k). rw s (⊎-elim
-          (λ (l : k < length known). rw (getD-set-same known k b 2 l) (omega arith))
+          (λ (l : k < length known). rw (getD-set-same known k b 0 l) (omega arith))
           (λ (l : length known ≤ k). rw (set-out known k b l) (e .at k))
           (lt-or-le k (length known))))
-          (λ (s : i ≢ k). rw (getD-set-other known k i b 2 s) (e .at i))
+          (λ (s : i ≢ k). rw (getD-set-other known k i b 0 s) (e .at i))
           (eq-or-ne i k);
     }
 
@@ -113,7 +114,7 @@ module _ (low : ℤ) (t : List ℕ) where
       let l : k < length known = w .at 0 (omega arith) in
       let is : getD t k 0 ≡ b = a .at 0 (omega arith) in
       let bit = c .bits k l in
-      let yes : agrees (getD known k 2) b ≡ true = agrees-yes (getD known k 2) b (omega arith) (λ n. sym (c .keeps k l n) ∙ is) in
+      let yes : agrees (getD known k 0) b ≡ true = agrees-yes (getD known k 0) b (omega arith) (λ n. sym (c .keeps k l n) ∙ is) in
       let r = entered values truths (set known k b) (omega arith) (rw length-set (within-rest low v values (length known) w))
       (set-completes known t k b l c is) (agrees-rest low v values b truths t a) in
       (r .0, rw yes (r .1), r .2)
@@ -126,15 +127,15 @@ module _ (low : ℤ) (t : List ℕ) where
   entered-left (v ∷ values) [] known k e w f c = absurd (omega arith)
   entered-left (v ∷ values) (b ∷ truths) known k e w f c =
       ⊎-elim
-      (λ (yes : agrees (getD known (natAbs (v -ℤ low)) 2) b ≡ true).
+      (λ (yes : agrees (getD known (natAbs (v -ℤ low)) 0) b ≡ true).
       let i = natAbs (v -ℤ low) in
       let l : i < length known = w .at 0 (omega arith) in
-      let is = agrees-is (getD known i 2) b yes in
+      let is = agrees-is (getD known i 0) b yes in
       let r = entered-left values truths (set known i b) k (omega arith) (rw length-set (within-rest low v values (length known) w)) (rw yes at f) c in
       let back = completes-set known t i b l (r .0) (is .0) (is .1) in
       (back .0, agrees-row low v values b truths t (back .1) (r .1)))
-      (λ (no : agrees (getD known (natAbs (v -ℤ low)) 2) b ≡ false). none-not k (rw no at f))
-      (decide (agrees (getD known (natAbs (v -ℤ low)) 2) b))
+      (λ (no : agrees (getD known (natAbs (v -ℤ low)) 0) b ≡ false). none-not k (rw no at f))
+      (decide (agrees (getD known (natAbs (v -ℤ low)) 0) b))
 
 -- what is entered are known entries again, as many
 pub entered-entries : (low : ℤ) (values : List ℤ) (truths known k : List ℕ) → enter low values truths known ≡ some k → Entries known
@@ -144,21 +145,21 @@ entered-entries low [] truths known k f e = (subst Entries (some-is known k f) e
 entered-entries low (v ∷ values) [] known k f e = (subst Entries (some-is known k f) e, ap length (sym (some-is known k f)))
 entered-entries low (v ∷ values) (b ∷ truths) known k f e =
     ⊎-elim
-    (λ (yes : agrees (getD known (natAbs (v -ℤ low)) 2) b ≡ true).
+    (λ (yes : agrees (getD known (natAbs (v -ℤ low)) 0) b ≡ true).
     let i = natAbs (v -ℤ low) in
-    let is = agrees-is (getD known i 2) b yes in
+    let is = agrees-is (getD known i 0) b yes in
     let r = entered-entries low values truths (set known i b) k (rw yes at f) (set-entries known i b (is .0) e) in
     (r .0, r .1 ∙ length-set known i b))
-    (λ (no : agrees (getD known (natAbs (v -ℤ low)) 2) b ≡ false). none-not k (rw no at f))
-    (decide (agrees (getD known (natAbs (v -ℤ low)) 2) b))
+    (λ (no : agrees (getD known (natAbs (v -ℤ low)) 0) b ≡ false). none-not k (rw no at f))
+    (decide (agrees (getD known (natAbs (v -ℤ low)) 0) b))
 
 -- ---- where nothing is known yet
 pub unknown-entries : (n : ℕ) → Entries (replicate n 2)
 unknown-entries n =
     record {
       at = λ i. ⊎-elim
-          (λ (h : i < n). rw (getD-replicate {A = ℕ} n i 2 2 h) (omega arith))
-          (λ (h : n ≤ i). rw (List·getD-eq-default {A = ℕ} (replicate n 2) 2 {n = i} (rw length-replicate h)) (omega arith))
+          (λ (h : i < n). rw (getD-replicate {A = ℕ} n i 2 0 h) (omega arith))
+          (λ (h : n ≤ i). rw (List·getD-eq-default {A = ℕ} (replicate n 2) 0 {n = i} (rw length-replicate h)) (omega arith))
           (lt-or-le i n);
     }
 
@@ -167,5 +168,21 @@ unknown-completes n t e h =
     record {
       long = e ∙ sym (length-replicate {A = ℕ} n 2);
       bits = λ i l. h i (rw e (rw length-replicate at l));
-      keeps = λ i l x. absurd (x (getD-replicate {A = ℕ} n i 2 2 (rw length-replicate at l)));
+      keeps = λ i l x. absurd (x (getD-replicate {A = ℕ} n i 2 0 (rw length-replicate at l)));
     }
+
+-- ---- a loop over the rows: a turn, a row that does not fit, and the end
+module _ (low : ℤ) (values : List ℤ) (truths known : List ℕ) (i : ℕ) where
+  module _ (k b : ℕ) (h : i < length values) (l : i < length truths) (at : k ≡ offset low values i) (is : b ≡ getD truths i 0) where
+    pub enter-turn : agrees (getD known k 0) b ≡ true
+        → enter low (drop (i + 1) values) (drop (i + 1) truths) (set known k b) ≡ enter low (drop i values) (drop i truths) known
+    unfolding enter
+    enter-turn e = rw (add-one, drop-cons values i (pos 0) h, drop-cons truths i 0 l, ← at, ← is, e)
+
+    pub enter-stop : agrees (getD known k 0) b ≡ false → none ≡ enter low (drop i values) (drop i truths) known
+    unfolding enter
+    enter-stop e = rw (drop-cons values i (pos 0) h, drop-cons truths i 0 l, ← at, ← is, e)
+
+  pub enter-end : length values ≤ i → enter low (drop i values) (drop i truths) known ≡ some known
+  unfolding enter
+  enter-end h = rw (drop-of-length-le values {i = i} h)

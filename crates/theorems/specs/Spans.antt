@@ -8,7 +8,7 @@ use native.Mathlib.Nat.{not-suc-le-zero, le-of-suc-le-suc}
 use native.Mathlib.Numerals.{add-one}
 use native.Mathlib.Omega.{arith}
 use lib.IntN.{ℤ, pos, natAbs, _-ℤ_}
-use lib.ListN.{length, getD, drop}
+use lib.ListN.{length, getD, drop, drop-of-length-le}
 use lib.Seq.{drop-cons}
 use lib.Signed.{ltZ, _≤ℤ_}
 use Rattle.laws.specs.Integer.{plus, minus, ints, abs-parts, sub-parts, one-part-zero}
@@ -73,12 +73,32 @@ offset-lt values i h =
     omega
     (arith, span-is values (omega arith), offset-within (getD values i (pos 0)) (least values) (greatest values) (least-le values i h) (le-greatest values i h))
 
--- ---- a loop over the values
-module _ (values : List ℤ) where
-  pub least-start : 0 < length values → leastFrom (getD values 0 (pos 0)) (drop 1 values) ≡ least values
-  unfolding least
-  least-start h = by values h
-    where
-      by : (vs : List ℤ) → 0 < length vs → leastFrom (getD vs 0 (pos 0)) (drop 1 vs) ≡ least vs
-      by [] l = absurd (not-suc-le-zero l)
-      by (v ∷ vs) l = refl
+-- ---- a loop over the values: its start, a turn, and its end
+pub least-start : (values : List ℤ) → 0 < length values → leastFrom (getD values 0 (pos 0)) (drop 1 values) ≡ least values
+unfolding least
+least-start [] h = absurd (not-suc-le-zero h)
+least-start (v ∷ vs) h = refl
+
+pub greatest-start : (values : List ℤ) → 0 < length values → greatestFrom (getD values 0 (pos 0)) (drop 1 values) ≡ greatest values
+unfolding greatest
+greatest-start [] h = absurd (not-suc-le-zero h)
+greatest-start (v ∷ vs) h = refl
+
+module _ (values : List ℤ) (m : ℤ) (i : ℕ) where
+  pub least-turn : (x r : ℤ) → i < length values → x ≡ getD values i (pos 0) → r ≡ (if ltZ x m then x else m)
+      → leastFrom r (drop (i + 1) values) ≡ leastFrom m (drop i values)
+  unfolding leastFrom
+  least-turn x r h e f = rw (add-one, drop-cons values i (pos 0) h, f, e)
+
+  pub greatest-turn : (x r : ℤ) → i < length values → x ≡ getD values i (pos 0) → r ≡ (if ltZ m x then x else m)
+      → greatestFrom r (drop (i + 1) values) ≡ greatestFrom m (drop i values)
+  unfolding greatestFrom
+  greatest-turn x r h e f = rw (add-one, drop-cons values i (pos 0) h, f, e)
+
+  pub least-end : length values ≤ i → leastFrom m (drop i values) ≡ m
+  unfolding leastFrom
+  least-end h = rw (drop-of-length-le values {i = i} h)
+
+  pub greatest-end : length values ≤ i → greatestFrom m (drop i values) ≡ m
+  unfolding greatestFrom
+  greatest-end h = rw (drop-of-length-le values {i = i} h)
