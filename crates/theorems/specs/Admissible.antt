@@ -25,14 +25,16 @@ use Rattle.theorems.specs.AdmissionExact.{admissions}
 use Rattle.theorems.specs.GoodTexts.{kept}
 use Rattle.theorems.specs.LineBits.{WireBit, NodeBits, LineBits, line-bits}
 
--- A line meets none of 21 to 26 after a `net` line, nodes and outputs.
+-- A line after a `net` line, nodes and outputs: it meets none of 21 to 26, and its bits are bits.
 unfoldable pub Passes : Net → List LutNode → List Output → NetworkLine → Type 0
 Passes n ns os l = NoneMet (admissionConditions (record { net = some n; nodes = ns; outputs = os }) l) × LineBits l
 
+-- Each of these nodes passes after those before it.
 unfoldable pub NodesPass : Net → List LutNode → List LutNode → Type 0
 NodesPass n before [] = Unit {0}
 NodesPass n before (x ∷ xs) = Passes n before [] (NodeLine x) × NodesPass n (before ++ (x ∷ [])) xs
 
+-- Each of these outputs passes after all nodes and the outputs before it.
 unfoldable pub OutputsPass : Net → List LutNode → List Output → List Output → Type 0
 OutputsPass n ns before [] = Unit {0}
 OutputsPass n ns before (o ∷ os) = Passes n ns before (OutLine o) × OutputsPass n ns (before ++ (o ∷ [])) os
@@ -60,12 +62,12 @@ outputs-snoc n ns before [] o p q = (rw append-nil at q, tt)
 outputs-snoc n ns before (y ∷ os) o p q = (p .0, outputs-snoc n ns (before ++ (y ∷ [])) os o (p .1) (rw append-assoc q))
 
 -- what the lines so far say: nothing before the `net` line
-SoFar : Option Net → List LutNode → List Output → Type 0
-SoFar none ns os = (ns ≡ []) × (os ≡ [])
-SoFar (some n) ns os = (tableLimits (n .p) (n .m) ≡ true) × NodesPass n [] ns × OutputsPass n ns [] os
+Passed : Option Net → List LutNode → List Output → Type 0
+Passed none ns os = (ns ≡ []) × (os ≡ [])
+Passed (some n) ns os = (tableLimits (n .p) (n .m) ≡ true) × NodesPass n [] ns × OutputsPass n ns [] os
 
-So : NetPrefix → Type 0
-So w = SoFar (w .net) (w .nodes) (w .outputs)
+PassedSoFar : NetPrefix → Type 0
+PassedSoFar w = Passed (w .net) (w .nodes) (w .outputs)
 
 nil : {A : Type 0} (l : List A) → length l < 1 → l ≡ []
 nil [] h = refl
@@ -79,15 +81,15 @@ no-outputs w (Linear c ts) m = nil (w .outputs) (leb-false 1 (length (w .outputs
 no-outputs w (Bootstrap i table) m = nil (w .outputs) (leb-false 1 (length (w .outputs)) (m .1 .0))
 
 with-node : (n : Net) (ns : List LutNode) (os : List Output) (x : LutNode) → NoneMet (admissionConditions (record { net = some n; nodes = ns; outputs = os }) (NodeLine x))
-    → LineBits (NodeLine x) → SoFar (some n) ns os → SoFar (some n) (ns ++ (x ∷ [])) os
-unfolding SoFar Passes OutputsPass
+    → LineBits (NodeLine x) → Passed (some n) ns os → Passed (some n) (ns ++ (x ∷ [])) os
+unfolding Passed Passes OutputsPass
 with-node n ns os x m b s =
     let e = no-outputs (record { net = some n; nodes = ns; outputs = os }) x m in
     (s .0, nodes-snoc n [] ns x (s .1) (rw e at m, b), rw e tt)
 
 with-line : (o : Option Net) (ns : List LutNode) (os : List Output) (i : ℕ) (l : NetworkLine) → NoneMet (admissionConditions (record { net = o; nodes = ns; outputs = os }) l)
-    → LineBits l → SoFar o ns os → So (withNetworkLine i (record { net = o; nodes = ns; outputs = os }) l)
-unfolding So SoFar withNetworkLine NoneMet admissionConditions textConditions started NodesPass OutputsPass Passes
+    → LineBits l → Passed o ns os → PassedSoFar (withNetworkLine i (record { net = o; nodes = ns; outputs = os }) l)
+unfolding PassedSoFar Passed withNetworkLine NoneMet admissionConditions textConditions started NodesPass OutputsPass Passes
 with-line none ns os i (NetLine n) m b s = (not-false _ (m .0), rw (s .0) tt, rw (s .1) tt)
 with-line none ns os i (NodeLine (Input a)) m b s = absurd (true≢false (m .0))
 with-line none ns os i (NodeLine (Linear c ts)) m b s = absurd (true≢false (m .0))
@@ -102,20 +104,20 @@ with-line (some n) ns os i (OutLine o) m b s = (s .0, s .1, outputs-snoc n ns []
 good-same : (v w : Network) → _≡_ {A = Reading Network} (Good v) (Good w) → v ≡ w
 good-same v w e = cc
 
-at-end : (o : Option Net) (i : ℕ) (ns : List LutNode) (os : List Output) (w : Network) → SoFar o ns os
+at-end : (o : Option Net) (i : ℕ) (ns : List LutNode) (os : List Output) (w : Network) → Passed o ns os
     → withNet i (record { net = o; nodes = ns; outputs = os }) o ≡ Good w → Admissible w
-unfolding SoFar withNet netOf
+unfolding Passed withNet netOf
 at-end none i ns os w s e = absurd (zero≢one (cc))
 at-end (some n) i ns os w s e = subst Admissible (good-same _ w e) (record { limits = s .0; nodes = s .1; outputs = s .2 })
 
 pub admitted-admissible : (text : List ℕ) (w : Network) → readAdmitted text ≡ Good w → Admissible w
-unfolding admissions readAdmitted networkEnded noNetwork So SoFar
+unfolding admissions readAdmitted networkEnded noNetwork PassedSoFar Passed
 admitted-admissible text w e =
-    let r = kept admissions networkEnded So kept-so 1 noNetwork (lines text) w (refl, refl) e in
+    let r = kept admissions networkEnded PassedSoFar kept-so 1 noNetwork (lines text) w (refl, refl) e in
     at-end (r .1 .net) (r .0) (r .1 .nodes) (r .1 .outputs) w (r .2) (r .3)
   where
-    kept-so : (i : ℕ) (c : NetPrefix) (s : List ℕ) (l : NetworkLine) → networkLine s ≡ some l → NoneMet (admissionConditions c l) → So c
-        → So (withNetworkLine i c l)
+    kept-so : (i : ℕ) (c : NetPrefix) (s : List ℕ) (l : NetworkLine) → networkLine s ≡ some l → NoneMet (admissionConditions c l) → PassedSoFar c
+        → PassedSoFar (withNetworkLine i c l)
     kept-so i c s l f m h = with-line (c .net) (c .nodes) (c .outputs) i l m (line-bits s l f) h
 
 -- ---- What a line that passes is known by.
