@@ -11,6 +11,7 @@ use mir.Syntax.{Width}
 use mir.Val.{SFits, hbits, toZ, ofZ, bits}
 use mir.Facts.{toZ-ofZ}
 use mir.Syntax.{w64}
+use Rattle.laws.specs.Test.{and-true-left, and-true-right}
 
 -- z is plus z - minus z, and one of the two is 0
 unfoldable pub plus : ℤ → ℕ
@@ -177,6 +178,13 @@ false-ltZ x y h = T-false (ltZ x y) (λ t. let k = ltZ-parts x y t in omega arit
 
 pub false-leZ : (x y : ℤ) → plus y + minus x < plus x + minus y → leZ x y ≡ false
 false-leZ x y h = T-false (leZ x y) (λ t. let k = leZ-parts x y t in omega arith)
+
+pub eqZ-true : (x y : ℤ) → eqZ x y ≡ true → x ≡ y
+unfolding eqZ
+eqZ-true x y e =
+    let h = leZ-true x y (and-true-left (leZ x y) (leZ y x) e) in
+    let k = leZ-true y x (and-true-right (leZ x y) (leZ y x) e) in
+    eq-of (omega arith)
 
 -- the rules that `omega` is handed beside `arith`: it then reads hypotheses of ℤ's order and equations, and proves such goals
 pub ruleset ints = (of-le, le-of, of-lt, lt-of, of-eq, eq-of, ltZ-true, ltZ-false, leZ-true, leZ-false)

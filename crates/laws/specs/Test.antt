@@ -1,6 +1,6 @@
 -- Tests that compute, and what they say.
 use mathlib.Core.Path.{_≡_, refl, sym, subst, ap, ap₂}
-use mathlib.Core.Bool.{Bool, true, false, not, _&&_}
+use mathlib.Core.Bool.{Bool, true, false, not, _&&_, _||_, true≢false, false≢true}
 use mathlib.Core.List.{List, [], _∷_, _++_}
 use mathlib.Core.Logic.{_⊎_, inl, inr, ⊎-elim}
 use mathlib.Core.Option.{Option, none, some}
@@ -33,6 +33,27 @@ and-right false b t = absurd t
 pub and-both : (a b : Bool) → T a → T b → T (a && b)
 and-both true b s t = t
 and-both false b s t = absurd s
+
+-- the same as equations
+pub and-true-left : (a b : Bool) → (a && b) ≡ true → a ≡ true
+and-true-left true b e = refl
+and-true-left false b e = e
+
+pub and-true-right : (a b : Bool) → (a && b) ≡ true → b ≡ true
+and-true-right true b e = e
+and-true-right false b e = absurd (false≢true e)
+
+pub or-false-left : (a b : Bool) → (a || b) ≡ false → a ≡ false
+or-false-left true b e = e
+or-false-left false b e = refl
+
+pub or-false-right : (a b : Bool) → (a || b) ≡ false → b ≡ false
+or-false-right true b e = absurd (true≢false e)
+or-false-right false b e = e
+
+-- two constructors that are said to be one: `cc` then proves 0 ≡ 1
+pub zero≢one : _≡_ {A = ℕ} 0 1 → ⊥
+zero≢one e = omega arith
 
 -- of every index below n
 unfoldable pub allb : ℕ → (ℕ → Bool) → Bool

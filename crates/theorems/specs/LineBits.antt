@@ -1,0 +1,146 @@
+-- What the forms of a network text give: BITS are bits, and so is the constant of a WIRE.
+use mathlib.Core.Path.{_≡_, refl, subst}
+use mathlib.Core.Bool.{Bool, true, false, _||_}
+use mathlib.Core.List.{List, [], _∷_}
+use mathlib.Core.Option.{Option, none, some}
+use Prim.Native.Nat.{ℕ, _-_, _≤_}
+use native.Mathlib.Omega.{arith}
+use lib.Dec.{T, leb, eqb, eqb→eq, le→leb}
+use lib.ListN.{length, drop}
+use Rattle.laws.specs.Test.{if_then_else_, and-both, zero≢one}
+use Rattle.rules.specs.declared.Wire.{Wire}
+use Rattle.rules.specs.declared.Wire.the-variants.{Const, Node}
+use Rattle.rules.specs.Circuit.{Output}
+use Rattle.rules.specs.Form.{Piece, Reader, give, onward, either, only, run, runOf, isBitByte, isBits, bitsFrom, bits, wire, outLine, inLine}
+use Rattle.rules.specs.Network.{LutNode, Input, Linear, Bootstrap}
+use Rattle.rules.specs.NetworkText.{NetworkLine, NetLine, NodeLine, OutLine, netLine, linLine, bootLine, networkLine}
+use Rattle.rules.specs.Runs.{allBits}
+
+-- The constant of a WIRE is a bit.
+unfoldable pub WireBit : Wire → Type 0
+WireBit (Const b) = b ≤ 1
+WireBit (Node i) = Unit {0}
+
+-- The bits of a table are.
+unfoldable pub NodeBits : LutNode → Type 0
+NodeBits (Input a) = Unit {0}
+NodeBits (Linear c ts) = Unit {0}
+NodeBits (Bootstrap i table) = T (allBits table)
+
+unfoldable pub LineBits : NetworkLine → Type 0
+LineBits (NetLine n) = Unit {0}
+LineBits (NodeLine x) = NodeBits x
+LineBits (OutLine o) = WireBit (o .wire)
+
+-- ---- Readers: what they give, if anything, is Q.
+
+Gives : {A : Type 0} → (A → Type 0) → Option (Piece A) → Type 0
+Gives Q none = Unit {0}
+Gives Q (some t) = Q (t .value)
+
+module _ {A B : Type 0} (R : A → Type 0) (Q : B → Type 0) where
+  onward-gives : (o : Option (Piece A)) (f : A → Reader B) → Gives R o → ((a : A) (s : List ℕ) → R a → Gives Q (f a s)) → Gives Q (onward o f)
+  unfolding onward Gives
+  onward-gives none f g h = tt
+  onward-gives (some t) f g h = h (t .value) (t .rest) g
+
+anything : {A : Type 0} → A → Type 0
+anything a = Unit {0}
+
+gives-anything : {A : Type 0} (o : Option (Piece A)) → Gives anything o
+unfolding Gives anything
+gives-anything none = tt
+gives-anything (some t) = tt
+
+-- a piece of which nothing is asked, and then the next
+module _ {A B : Type 0} (Q : B → Type 0) where
+  then-gives : (o : Option (Piece A)) (f : A → Reader B) → ((a : A) (s : List ℕ) → Gives Q (f a s)) → Gives Q (onward o f)
+  then-gives o f h = onward-gives anything Q o f (gives-anything o) (λ a s r. h a s)
+
+either-gives : {A : Type 0} (Q : A → Type 0) (o p : Option (Piece A)) → Gives Q o → Gives Q p → Gives Q (either o p)
+unfolding either Gives
+either-gives Q none p g h = h
+either-gives Q (some t) p g h = g
+
+only-gives : {A : Type 0} (Q : A → Type 0) (o : Option (Piece A)) → Gives Q o → (a : A) → only o ≡ some a → Q a
+unfolding only Gives
+only-gives Q none g a e = absurd (zero≢one (cc))
+only-gives Q (some t) g a e = by (eqb (length (t .rest)) 0) e
+  where
+    by : (b : Bool) → (if b then some (t .value) else none) ≡ some a → Q a
+    by true f = subst Q (cc) g
+    by false f = absurd (zero≢one (cc))
+
+-- ---- BITS and WIRE.
+
+bit-byte : (b : ℕ) → isBitByte b ≡ true → T (leb (b - 48) 1)
+unfolding isBitByte
+bit-byte b e = by (eqb b 48) (eqb b 49) e (eqb→eq b 48) (eqb→eq b 49)
+  where
+    by : (s t : Bool) → (s || t) ≡ true → (T s → b ≡ 48) → (T t → b ≡ 49) → T (leb (b - 48) 1)
+    by true t e f g = let h = f tt in le→leb (b - 48) 1 (omega arith)
+    by false true e f g = let h = g tt in le→leb (b - 48) 1 (omega arith)
+    by false false e f g = absurd (zero≢one (cc))
+
+run-bits : (s : List ℕ) → T (allBits (bitsFrom (run isBitByte s)))
+unfolding allBits bitsFrom run
+run-bits [] = tt
+run-bits (b ∷ s) = by (isBitByte b) (bit-byte b) (run-bits s)
+  where
+    by : (t : Bool) → (t ≡ true → T (leb (b - 48) 1)) → T (allBits (bitsFrom (run isBitByte s)))
+        → T (allBits (bitsFrom (if t then b ∷ run isBitByte s else [])))
+    by true f r = and-both (leb (b - 48) 1) (allBits (bitsFrom (run isBitByte s))) (f refl) r
+    by false f r = tt
+
+bits-gives : (s : List ℕ) → Gives (λ b. T (allBits b)) (bits s)
+unfolding bits runOf onward Gives
+bits-gives s = by (isBits (run isBitByte s))
+  where
+    by : (t : Bool)
+        → Gives (λ b. T (allBits b))
+        (onward (if t then some (record { value = run isBitByte s; rest = drop (length (run isBitByte s)) s }) else none) (λ w. give (bitsFrom w)))
+    by true = run-bits s
+    by false = tt
+
+wire-gives : (s : List ℕ) → Gives WireBit (wire s)
+unfolding wire WireBit Gives
+wire-gives s =
+    either-gives WireBit _ _ (then-gives WireBit _ _ (λ _ s. then-gives WireBit _ _ (λ i s. then-gives WireBit _ _ (λ _ s. tt))))
+    (either-gives WireBit _ _ (then-gives WireBit _ _ (λ _ s. omega arith)) (then-gives WireBit _ _ (λ _ s. omega arith)))
+
+-- ---- The lines.
+
+-- `(lin CONST (COEF ID) ..)`
+lin-gives : (s : List ℕ) → Gives NodeBits (linLine s)
+unfolding linLine NodeBits Gives
+lin-gives s =
+    then-gives NodeBits _ _ (λ _ s. then-gives NodeBits _ _ (λ c s. then-gives NodeBits _ _ (λ ts s. then-gives NodeBits _ _ (λ _ s. tt))))
+
+-- `(boot ID BITS)`
+boot-gives : (s : List ℕ) → Gives NodeBits (bootLine s)
+unfolding bootLine NodeBits Gives
+boot-gives s =
+    then-gives NodeBits _ _
+    (λ _ s. then-gives NodeBits _ _ (λ i s. then-gives NodeBits _ _
+    (λ _ s. onward-gives (λ b. T (allBits b)) NodeBits (bits s) _ (bits-gives s) (λ b s r. then-gives NodeBits _ _ (λ _ s. r)))))
+
+-- `(out NAME WIRE)`
+OutputBit : Output → Type 0
+OutputBit o = WireBit (o .wire)
+
+out-gives : (s : List ℕ) → Gives OutputBit (outLine s)
+unfolding outLine OutputBit Gives
+out-gives s =
+    then-gives OutputBit _ _
+    (λ _ s. then-gives OutputBit _ _ (λ n s. then-gives OutputBit _ _
+    (λ _ s. onward-gives WireBit OutputBit (wire s) _ (wire-gives s) (λ w s r. then-gives OutputBit _ _ (λ _ s. r)))))
+
+pub line-bits : (s : List ℕ) (l : NetworkLine) → networkLine s ≡ some l → LineBits l
+unfolding networkLine LineBits NodeBits OutputBit Gives
+line-bits s l e =
+    only-gives LineBits _
+    (either-gives LineBits _ _ (then-gives LineBits (netLine s) _ (λ n s. tt))
+    (either-gives LineBits _ _ (then-gives LineBits (inLine s) _ (λ n s. tt))
+    (either-gives LineBits _ _ (onward-gives NodeBits LineBits (linLine s) _ (lin-gives s) (λ n s r. r))
+    (either-gives LineBits _ _ (onward-gives NodeBits LineBits (bootLine s) _ (boot-gives s) (λ n s r. r))
+    (onward-gives OutputBit LineBits (outLine s) _ (out-gives s) (λ n s r. r)))))) l e
