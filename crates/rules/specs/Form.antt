@@ -43,7 +43,7 @@ Reader A = List ℕ → Option (Piece A)
 abbrev pub give : {A : Type 0} → A → Reader A
 give a s = some (record { value = a; rest = s })
 
-abbrev pub onward : {A B : Type 0} → Option (Piece A) → (A → Reader B) → Option (Piece B)
+unfoldable pub onward : {A B : Type 0} → Option (Piece A) → (A → Reader B) → Option (Piece B)
 onward none f = none
 onward (some t) f = f (t .value) (t .rest)
 
@@ -56,7 +56,7 @@ _>>=_ r f s = onward (r s) f
 abbrev pub _>>_ : {A B : Type 0} → Reader A → Reader B → Reader B
 _>>_ r q = r >>= (λ _. q)
 
-abbrev pub either : {A : Type 0} → Option (Piece A) → Option (Piece A) → Option (Piece A)
+unfoldable pub either : {A : Type 0} → Option (Piece A) → Option (Piece A) → Option (Piece A)
 either none q = q
 either (some t) q = some t
 
@@ -66,7 +66,7 @@ abbrev pub _or_ : {A : Type 0} → Reader A → Reader A → Reader A
 _or_ r q s = either (r s) (q s)
 
 -- All of the bytes are one piece.
-abbrev pub only : {A : Type 0} → Option (Piece A) → Option A
+unfoldable pub only : {A : Type 0} → Option (Piece A) → Option A
 only none = none
 only (some t) = if eqb (length (t .rest)) 0 then some (t .value) else none
 
@@ -74,7 +74,7 @@ abbrev pub whole : {A : Type 0} → Reader A → List ℕ → Option A
 whole r s = only (r s)
 
 -- The pieces from s on, where the first of them is known, or that there is none.
-abbrev pub gather : {A : Type 0} → List ℕ → Option (Piece A) → Reader (List A) → Option (Piece (List A))
+unfoldable pub gather : {A : Type 0} → List ℕ → Option (Piece A) → Reader (List A) → Option (Piece (List A))
 gather s none q = give [] s
 gather s (some t) q = onward (q (t .rest)) (λ ts. give (t .value ∷ ts))
 
