@@ -1,4 +1,4 @@
 -- How the code's answers stand for the readers of crates/rules.
 pub mod Reads
 pub mod Exactly
-pub mod Two
+pub mod Chain

@@ -1,5 +1,5 @@
 -- What a reading function's answer stands for: a piece and the bytes left, or nothing.
-use mathlib.Core.Path.{_≡_}
+use mathlib.Core.Path.{_≡_, sym, ap, subst, _∙_}
 use mathlib.Core.List.{List}
 use mathlib.Core.Option.{Option, none, some}
 use Prim.Native.Nat.{ℕ, _-_, _≤_}
@@ -25,3 +25,14 @@ passed s Nothing = none
 abbrev pub taken : List ℕ → ℕ → Found → Option (Piece (List ℕ))
 taken s a (At e) = some (record { value = take (e - a) (drop a s); rest = drop e s })
 taken s a Nothing = none
+
+-- What is known of a chain's next piece once the function's answer is taken apart.
+module _ {n : ℕ} (s : List ℕ) (r : Found) {w : Option (Piece (Unit {0}))} (h : Reads n (passed s r) (endOf r) w) where
+  pub word-at : (e : ℕ) → r ≡ At e → w ≡ some (record { value = tt; rest = drop e s })
+  word-at e k = sym (h .same) ∙ ap (passed s) k
+
+  pub word-missing : r ≡ Nothing → w ≡ none
+  word-missing k = sym (h .same) ∙ ap (passed s) k
+
+pub end-inside : {A : Type 0} {n : ℕ} (r : Found) {o w : Option (Piece A)} (e : ℕ) → Reads n o (endOf r) w → r ≡ At e → e ≤ n
+end-inside {n = n} r e h k = subst (λ q. endOf q ≤ n) k (h .inside)

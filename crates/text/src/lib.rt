@@ -2,9 +2,8 @@
 ghost use mathlib.Core.Path.{_≡_};
 ghost use Prim.Native.Nat.{_≤_};
 ghost use lib.ListN.{length, drop};
-ghost use Rattle.rules.specs.Form.{exactly, name, inLine};
-ghost use Rattle.text.specs.Two.{two};
-ghost use Rattle.text.specs.Reads.{Reads, passed, taken, endOf};
+ghost use Rattle.rules.specs.Form.{exactly};
+ghost use Rattle.text.specs.Reads.{Reads, passed, endOf};
 
 // Where a piece ends.
 pub enum Found {
@@ -12,6 +11,7 @@ pub enum Found {
     Nothing,
 }
 
+// The word w, from `at` on.
 pub fn read_word(s: &[u8], at: usize, w: &[u8]) -> Found
     requires { ⌜ at ≤ length (now s) ⌝ }
     ensures { λ r. ⌜ Reads (length (now (s .entry))) (passed (now (s .entry)) r) (endOf r) (exactly (now (w .entry)) (drop at (now (s .entry)))) ⌝ }
@@ -27,17 +27,4 @@ pub fn read_word(s: &[u8], at: usize, w: &[u8]) -> Found
         i += 1;
     }
     Found::At(at + i)
-}
-
-pub fn read_two(s: &[u8], at: usize) -> Found
-    requires { ⌜ at ≤ length (now s) ⌝ }
-    ensures { λ r. ⌜ Reads (length (now (s .entry))) (passed (now (s .entry)) r) (endOf r) (two (drop at (now (s .entry)))) ⌝ }
-{
-    let Found::At(a) = read_word(s, at, b"(in ") else {
-        return Found::Nothing;
-    };
-    let Found::At(b) = read_word(s, a, b")\n") else {
-        return Found::Nothing;
-    };
-    Found::At(b)
 }
