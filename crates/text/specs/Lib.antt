@@ -2,4 +2,5 @@
 pub mod Reads
 pub mod Line
 pub mod Exactly
+pub mod Run
 pub mod Chain
