@@ -4,3 +4,4 @@ pub mod Line
 pub mod Exactly
 pub mod Run
 pub mod Chain
+pub mod Name

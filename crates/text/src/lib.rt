@@ -2,10 +2,10 @@
 ghost use mathlib.Core.Path.{_≡_};
 ghost use Prim.Native.Nat.{_<_, _≤_};
 ghost use lib.ListN.{length, drop};
-ghost use Rattle.rules.specs.Form.{exactly, isDigit, isNameByte, isBitByte};
+ghost use Rattle.rules.specs.Form.{exactly, isDigit, isNameByte, isBitByte, name, bits};
 ghost use Rattle.text.specs.Line.{LineEnd};
 ghost use Rattle.text.specs.Run.{RunEnd, isOf};
-ghost use Rattle.text.specs.Reads.{Reads, passed, endOf};
+ghost use Rattle.text.specs.Reads.{Reads, passed, taken, bitsTaken, endOf};
 
 // Where the line from `at` on ends, behind its newline.
 pub fn line_end(s: &[u8], at: usize) -> usize
@@ -106,4 +106,31 @@ fn run_end(s: &[u8], at: usize, kind: Kind) -> usize
         i += 1;
     }
     i
+}
+
+// A name of 1 to 16 bytes, from `at` on.
+pub fn read_name(s: &[u8], at: usize) -> Found
+    requires { ⌜ at ≤ length (now s) ⌝ }
+    ensures { λ r. ⌜ Reads (length (now (s .entry))) (taken (now (s .entry)) at r) (endOf r) (name (drop at (now (s .entry)))) ⌝ }
+{
+    let e = run_end(s, at, Kind::NameByte);
+    if e == at {
+        return Found::Nothing;
+    }
+    if 16 < e - at {
+        return Found::Nothing;
+    }
+    Found::At(e)
+}
+
+// One or more bits, from `at` on.
+pub fn read_bits(s: &[u8], at: usize) -> Found
+    requires { ⌜ at ≤ length (now s) ⌝ }
+    ensures { λ r. ⌜ Reads (length (now (s .entry))) (bitsTaken (now (s .entry)) at r) (endOf r) (bits (drop at (now (s .entry)))) ⌝ }
+{
+    let e = run_end(s, at, Kind::BitByte);
+    if e == at {
+        return Found::Nothing;
+    }
+    Found::At(e)
 }
