@@ -4,4 +4,5 @@ pub mod Line
 pub mod Exactly
 pub mod Run
 pub mod Chain
+pub mod Number
 pub mod Name
