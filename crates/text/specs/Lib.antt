@@ -5,4 +5,6 @@ pub mod Exactly
 pub mod Run
 pub mod Chain
 pub mod Number
+pub mod Capped
+pub mod Wire
 pub mod Name

@@ -48,6 +48,10 @@ pub record ReadsNumber (s : List ℕ) (a : ℕ) (r : Number) : Type 0 where
   pub reads : Reads (length s) (numberTaken s a r) (numberEnd r) (number (drop a s))
   pub capped : numberValue r ≡ min 65536 (exactValue s a r)
 
+-- The value that was handed back, once the answer is taken apart.
+pub number-value : {s : List ℕ} {a v e : ℕ} {r : Number} → ReadsNumber s a r → r ≡ At v e → v ≡ min 65536 (digitsValue s a e)
+number-value {s} {a} h k = subst (λ q. numberValue q ≡ min 65536 (exactValue s a q)) k (h .capped)
+
 -- ---- The value, digit by digit.
 
 value-snoc : (u : ℕ) (w : List ℕ) (d : ℕ) → valueFrom u (w ++ (d ∷ [])) ≡ 10 * valueFrom u w + (d - 48)
