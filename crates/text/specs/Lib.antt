@@ -7,4 +7,6 @@ pub mod Chain
 pub mod Number
 pub mod Capped
 pub mod Wire
+pub mod Limit
+pub mod Signed
 pub mod Name
