@@ -9,4 +9,5 @@ pub mod Capped
 pub mod Wire
 pub mod Limit
 pub mod Signed
+pub mod Forms
 pub mod Name

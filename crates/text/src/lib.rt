@@ -7,6 +7,7 @@ ghost use lib.IntN.{pos, negℤ};
 ghost use lib.ListN.{length, drop};
 ghost use Rattle.rules.specs.Form.{exactly, isDigit, isNameByte, isBitByte, name, bits, wire, norm, signed};
 ghost use Rattle.text.specs.Capped.{capped};
+ghost use Rattle.text.specs.Forms.{ReadsIn, ReadsOut};
 ghost use Rattle.text.specs.Limit.{limitTaken, limitEnd};
 ghost use Rattle.text.specs.Line.{LineEnd};
 ghost use Rattle.text.specs.Number.{ReadsNumber, digitsValue};
@@ -295,4 +296,56 @@ pub fn read_signed(s: &[u8], at: usize) -> Signed
         return Signed::Nothing;
     };
     Signed::At(v as i64, e)
+}
+
+// A line's name, from its start to its end, and where the line ends.
+pub enum NameRead {
+    At(usize, usize, usize),
+    Nothing,
+}
+
+// `(in NAME)`, from `at` on.
+pub fn read_in(s: &[u8], at: usize) -> NameRead
+    requires { ⌜ at ≤ length (now s) ⌝ }
+    ensures { λ r. ⌜ ReadsIn (now (s .entry)) at r ⌝ }
+{
+    let Found::At(a) = read_word(s, at, b"(in ") else {
+        return NameRead::Nothing;
+    };
+    let Found::At(b) = read_name(s, a) else {
+        return NameRead::Nothing;
+    };
+    let Found::At(e) = read_word(s, b, b")\n") else {
+        return NameRead::Nothing;
+    };
+    NameRead::At(a, b, e)
+}
+
+// A line's name, from its start to its end, its wire, and where the line ends.
+pub enum OutRead {
+    At(usize, usize, Wire, usize),
+    Nothing,
+}
+
+// `(out NAME WIRE)`, from `at` on.
+pub fn read_out(s: &[u8], at: usize) -> OutRead
+    requires { ⌜ at ≤ length (now s) ⌝ }
+    ensures { λ r. ⌜ ReadsOut (now (s .entry)) at r ⌝ }
+{
+    let Found::At(a) = read_word(s, at, b"(out ") else {
+        return OutRead::Nothing;
+    };
+    let Found::At(b) = read_name(s, a) else {
+        return OutRead::Nothing;
+    };
+    let Found::At(c) = read_word(s, b, b" ") else {
+        return OutRead::Nothing;
+    };
+    let WireRead::At(w, d) = read_wire(s, c) else {
+        return OutRead::Nothing;
+    };
+    let Found::At(e) = read_word(s, d, b")\n") else {
+        return OutRead::Nothing;
+    };
+    OutRead::At(a, b, w, e)
 }
