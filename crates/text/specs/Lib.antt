@@ -10,4 +10,5 @@ pub mod Wire
 pub mod Limit
 pub mod Signed
 pub mod Forms
+pub mod Same
 pub mod Name

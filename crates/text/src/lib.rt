@@ -4,7 +4,8 @@ use rules::Wire;
 ghost use mathlib.Core.Path.{_≡_};
 ghost use Prim.Native.Nat.{_+_, _*_, _-_, _<_, _≤_, min};
 ghost use lib.IntN.{pos, negℤ};
-ghost use lib.ListN.{length, drop};
+ghost use lib.ListN.{length, take, drop};
+ghost use Rattle.rules.specs.CircuitText.{sameName};
 ghost use Rattle.rules.specs.Form.{exactly, isDigit, isNameByte, isBitByte, name, bits, wire, norm, signed};
 ghost use Rattle.text.specs.Capped.{capped};
 ghost use Rattle.text.specs.Forms.{ReadsIn, ReadsOut};
@@ -348,4 +349,22 @@ pub fn read_out(s: &[u8], at: usize) -> OutRead
         return OutRead::Nothing;
     };
     OutRead::At(a, b, w, e)
+}
+
+// Whether s from a up to e has the same bytes as t from b up to f.
+pub fn is_same(s: &[u8], a: usize, e: usize, t: &[u8], b: usize, f: usize) -> bool
+    requires { ⌜ ((a ≤ e) × (e ≤ length (now s))) × ((b ≤ f) × (f ≤ length (now t))) ⌝ }
+    ensures { λ r. ⌜ r ≡ sameName (take (e - a) (drop a (now (s .entry)))) (take (f - b) (drop b (now (t .entry)))) ⌝ }
+{
+    if e - a != f - b {
+        return false;
+    }
+    let mut i = 0;
+    while i < e - a {
+        if s[a + i] != t[b + i] {
+            return false;
+        }
+        i += 1;
+    }
+    true
 }
