@@ -11,4 +11,5 @@ pub mod Limit
 pub mod Signed
 pub mod Forms
 pub mod Same
+pub mod Decimal
 pub mod Name
