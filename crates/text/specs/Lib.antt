@@ -12,4 +12,5 @@ pub mod Signed
 pub mod Forms
 pub mod Same
 pub mod Decimal
+pub mod Names
 pub mod Name
