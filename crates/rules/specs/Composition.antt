@@ -1,5 +1,5 @@
 -- Composing two cones (document 01, "Scale pairs", "Span takes the least by"; `find_candidate` and `merge_cones` in the Rust).
-use mathlib.Core.Bool.{Bool, true, false, _&&_, not}
+use mathlib.Core.Bool.{Bool, true, _&&_, not}
 use mathlib.Core.List.{List, [], _∷_, _++_, map, flatMap}
 use mathlib.Core.Option.{Option, none, some, Option·map}
 use Prim.Native.Nat.{ℕ, zero, suc, _+_, _*_}
@@ -12,11 +12,11 @@ use Rattle.laws.specs.Test.{if_then_else_}
 use Rattle.rules.specs.declared.Policy.{Policy}
 use Rattle.rules.specs.declared.Policy.the-variants.{Basic, Naive, Span}
 use Rattle.rules.specs.declared.Settings.{Settings}
-use Rattle.rules.specs.Cone.{Cone, constant, coneBit, values, coneSpan, norm2, energy, Result, ok, no, validateCone, Candidate, best}
+use Rattle.rules.specs.Cone.{Cone, constant, coneBit, values, coneSpan, norm2, energy, fits, Result, ok, validateCone, Candidate, best}
 use Rattle.rules.specs.Network.{Term, LutNode, member}
 use Rattle.rules.specs.NetworkText.{sources}
 use Rattle.rules.specs.Scale.{normalised, isScalePair}
-use Rattle.rules.specs.Store.{terms, isUsed, coefficientOf, linearOf, hasBootstrap, fits}
+use Rattle.rules.specs.Store.{terms, isUsed, coefficientOf, linearOf, hasBootstrap}
 
 -- ---- The sources and the truth of a gate on two cones.
 

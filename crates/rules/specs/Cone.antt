@@ -80,23 +80,27 @@ isLutValid s c = let r = isSome (bootstrapTable (s .p) c) in leb (coneSpan c) (s
 unfoldable pub withinNorm : Settings → ℕ → Bool
 withinNorm s n = not (over (s .norm) n)
 
--- A result, or the number of a refusal; `?` in the Rust is `←`.
+-- A cone that may stand: evaluate_prepared of a candidate, reusable_cone_coefficients of a form.
+unfoldable pub fits : Settings → Cone → Bool
+fits s c = let r = isLutValid s c in withinNorm s (norm2 c) && r
+
+-- Result<A, String>, with the number of the refusal for its text; `>>=` is `?`.
 pub data Result (A : Type 0) : Type 0 where
   ok : A → Result A
-  no : ℕ → Result A
+  err : ℕ → Result A
 
 infixl 6 _>>=_
 abbrev pub _>>=_ : {A B : Type 0} → Result A → (A → Result B) → Result B
 ok a >>= f = f a
-no k >>= f = no k
+err k >>= f = err k
 
 -- validate_cone
 unfoldable pub validateCone : Settings → Cone → Result Cone
-validateCone s c = if isLutValid s c then (if withinNorm s (norm2 c) then ok c else no 8) else no 10
+validateCone s c = if not (isLutValid s c) then err 10 else if not (withinNorm s (norm2 c)) then err 8 else ok c
 
--- ---- Choosing among cones.
+-- ---- The best of some cones.
 
--- A cone, and what it is ranked by.
+-- A cone, and the numbers that it is ranked by.
 pub record Candidate : Type 0 where
   pub score : List ℤ
   pub cone : Cone
@@ -107,15 +111,19 @@ less [] ys = false
 less (x ∷ xs) [] = false
 less (x ∷ xs) (y ∷ ys) = let r = less xs ys in if ltZ x y then true else if ltZ y x then false else r
 
-unfoldable pub better : Candidate → Option Candidate → Candidate
-better c none = c
-better c (some d) = if less (d .score) (c .score) then d else c
+-- The best so far gives way only to a lower score.
+unfoldable pub better : Option Candidate → Candidate → Candidate
+better none c = c
+better (some d) c = if less (c .score) (d .score) then c else d
+
+unfoldable pub bestFrom : Option Candidate → List Candidate → Option Candidate
+bestFrom d [] = d
+bestFrom d (c ∷ cs) = bestFrom (some (better d c)) cs
 
 -- The first of the least score.
 unfoldable pub best : List Candidate → Option Candidate
-best [] = none
-best (c ∷ cs) = some (better c (best cs))
+best cs = bestFrom none cs
 
--- cone_order_key
+-- cone_order_key: span, norm.
 unfoldable pub coneOrderKey : Cone → List ℤ
 coneOrderKey c = pos (coneSpan c) ∷ pos (norm2 c) ∷ []

@@ -4,7 +4,7 @@ use mathlib.Core.List.{List, [], _∷_, _++_, map}
 use mathlib.Core.Option.{Option, none, some}
 use Prim.Native.Nat.{ℕ, _+_, _*_}
 use lib.Dec.{ltb, eqb}
-use lib.IntN.{ℤ, pos, negsuc}
+use lib.IntN.{pos, negsuc}
 use lib.ListN.{length, getD, set, drop, take}
 use Rattle.laws.specs.Over.{over}
 use Rattle.laws.specs.Select.{any}
@@ -19,9 +19,9 @@ use Rattle.rules.specs.declared.Wire.the-variants.{Const, Node}
 use Rattle.rules.specs.Circuit.{Gate, Output, Circuit}
 use Rattle.rules.specs.CircuitText.{readCircuit}
 use Rattle.rules.specs.Composition.{unionSupport, allEqual, compose}
-use Rattle.rules.specs.Cone.{Cone, constant, identity, Result, ok, no, _>>=_, withinNorm, validateCone, less, coneOrderKey}
+use Rattle.rules.specs.Cone.{Cone, constant, identity, Result, ok, err, _>>=_, withinNorm, validateCone, less, coneOrderKey}
 use Rattle.rules.specs.Form.{Reading, Good, Refused}
-use Rattle.rules.specs.Network.{Term, LutNode, Input, Linear, Bootstrap, Network, nodeNorm, largest}
+use Rattle.rules.specs.Network.{LutNode, Input, Linear, Network, nodeNorm, largest}
 use Rattle.rules.specs.Outcome.{Answer, written, refused, Outcome, outcome}
 use Rattle.rules.specs.Store.{numberOf, intern, Stored, bootstrapCone, live, keptFrom, renumberedOutput}
 use Rattle.rules.specs.Writing.{networkText}
@@ -126,7 +126,7 @@ orElse w none next = next
 orElse w (some r) next = r >>= mapped w
 
 unfoldable pub thirdAttempt : Settings → Sides → Result Mapped
-thirdAttempt s w = bootstrapRight s w >>= (λ v. orElse v (attempt s v) (no 9))
+thirdAttempt s w = bootstrapRight s w >>= (λ v. orElse v (attempt s v) (err 9))
 
 unfoldable pub secondAttempt : Settings → Sides → Result Mapped
 secondAttempt s w = bootstrapLeft s w >>= (λ v. orElse v (attempt s v) (thirdAttempt s v))
@@ -144,13 +144,13 @@ constantValue c = getD (c .truth) 0 0
 
 -- map_gate: a constant side makes the gate unary.
 unfoldable pub mapGate : Settings → List LutNode → List Cone → List ℕ → Result Mapped
-mapGate s nodes [] gate = no 7
+mapGate s nodes [] gate = err 7
 mapGate s nodes (c ∷ []) gate = mapUnaryGate s nodes c gate
 mapGate s nodes (left ∷ right ∷ []) gate =
     if isConstant left then mapUnaryGate s nodes right (take 2 (drop (2 * constantValue left) gate))
     else if isConstant right then mapUnaryGate s nodes left (getD gate (constantValue right) 0 ∷ getD gate (2 + constantValue right) 0 ∷ [])
     else mapBinaryGate s nodes left right gate
-mapGate s nodes (a ∷ b ∷ c ∷ cs) gate = no 7
+mapGate s nodes (a ∷ b ∷ c ∷ cs) gate = err 7
 
 -- ---- All gates in turn.
 
@@ -194,14 +194,18 @@ mapNext s outputs st g = do
   b ← forced s (isForced s outputs (length (st .cones))) m
   ok (record { nodes = b .nodes; cones = replaced (g .wires) m (st .cones) ++ (b .cone ∷ []) })
 
--- Onward with a result; a refusal gets its line.
-unfoldable pub atLine : {A B : Type 0} → ℕ → Result A → (A → Reading B) → Reading B
-atLine line (ok a) next = next a
-atLine line (no k) next = Refused k line
+-- A refusal gets its line.
+unfoldable pub atLine : {A : Type 0} → ℕ → Result A → Reading A
+atLine line (ok a) = Good a
+atLine line (err k) = Refused k line
 
-unfoldable pub mapGates : {A : Type 0} → Settings → List Output → State → List Gate → (State → Reading A) → Reading A
-mapGates s outputs st [] next = next st
-mapGates s outputs st (g ∷ gs) next = atLine (g .line) (mapNext s outputs st g) (λ r. mapGates s outputs r gs next)
+unfoldable pub andThen : {A B : Type 0} → Reading A → (A → Reading B) → Reading B
+andThen (Good a) next = next a
+andThen (Refused k line) next = Refused k line
+
+unfoldable pub mapGates : Settings → List Output → State → List Gate → Reading State
+mapGates s outputs st [] = Good st
+mapGates s outputs st (g ∷ gs) = andThen (atLine (g .line) (mapNext s outputs st g)) (λ r. mapGates s outputs r gs)
 
 -- ---- Outputs.
 
@@ -262,28 +266,28 @@ start c =
     let nodes = map Input (c .inputs) in
     record { nodes = nodes; cones = map (λ n. identity (numberOf n nodes)) nodes }
 
-unfoldable pub finish : Settings → Circuit → State → Reading Network
-finish s c st =
-    atLine 0 (mapOutputs s (st .cones) (record { nodes = st .nodes; outputs = [] }) (c .outputs)) (λ done. checked s (pruned s done))
+unfoldable pub finish : Settings → List Output → State → Reading Network
+finish s outputs st =
+    andThen (atLine 0 (mapOutputs s (st .cones) (record { nodes = st .nodes; outputs = [] }) outputs)) (λ done. checked s (pruned s done))
+
+unfoldable pub mapWith : Settings → Circuit → Reading Network
+mapWith s c = andThen (mapGates s (c .outputs) (start c) (c .gates)) (finish s (c .outputs))
 
 unfoldable pub mapCircuit : Circuit → Reading Network
-mapCircuit c = let s = usedSettings (c .settings) in mapGates s (c .outputs) (start c) (c .gates) (finish s c)
+mapCircuit c = mapWith (usedSettings (c .settings)) c
 
 -- ---- From text to text.
 
-unfoldable pub mapReading : Reading Circuit → Reading Network
-mapReading (Good c) = mapCircuit c
-mapReading (Refused k line) = Refused k line
-
--- The network's text over the buffer's front, later bytes kept; 11 where the buffer is too short. A refusal keeps it.
-unfoldable pub writeOut : List ℕ → Reading Network → Outcome
-writeOut buffer (Refused k line) = outcome (refused k line) buffer
-writeOut buffer (Good w) =
+-- The network's text over the buffer's front, later bytes kept; 11 where the buffer is too short. A refusal keeps the buffer.
+unfoldable pub answerWith : List ℕ → Reading Network → Outcome
+answerWith buffer (Refused k line) = outcome (refused k line) buffer
+answerWith buffer (Good w) =
     let text = networkText w in
     if ltb (length buffer) (length text) then outcome (refused 11 0) buffer else outcome (written (length text)) (over text buffer)
 
-unfoldable pub mapping : List ℕ → List ℕ → Outcome
-mapping text buffer = writeOut buffer (mapReading (readCircuit text))
+-- The mapper: a circuit's text, and the answer buffer as it was.
+unfoldable pub mapper : List ℕ → List ℕ → Outcome
+mapper text buffer = answerWith buffer (andThen (readCircuit text) mapCircuit)
 
 -- Document 01's number and values for each reply.
 unfoldable pub mapReply : MapReply → Answer

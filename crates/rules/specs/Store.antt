@@ -14,7 +14,7 @@ use Rattle.rules.specs.declared.Wire.{Wire}
 use Rattle.rules.specs.declared.Wire.the-variants.{Const, Node}
 use Rattle.rules.specs.Circuit.{Output}
 use Rattle.rules.specs.CircuitText.{sameName}
-use Rattle.rules.specs.Cone.{Cone, identity, values, norm2, bootstrapTable, isLutValid, withinNorm, Result, ok, no, Candidate, best, coneOrderKey}
+use Rattle.rules.specs.Cone.{Cone, identity, values, bootstrapTable, fits, Result, ok, err, Candidate, best, coneOrderKey}
 use Rattle.rules.specs.Network.{Term, LutNode, Input, Linear, Bootstrap, member, bootSources}
 use Rattle.rules.specs.NetworkText.{sources, nodeAt}
 use Rattle.rules.specs.Span.{least}
@@ -27,7 +27,7 @@ sameTerms [] (u ∷ us) = false
 sameTerms (t ∷ ts) [] = false
 sameTerms (t ∷ ts) (u ∷ us) = let r = sameTerms ts us in (eqZ (t .coef) (u .coef) && eqb (t .node) (u .node)) && r
 
--- Equal nodes are equal in the order of their terms too.
+-- Nodes are equal in the order of their terms too.
 unfoldable pub sameNode : LutNode → LutNode → Bool
 sameNode (Input n) (Input m) = sameName n m
 sameNode (Input n) (Linear d us) = false
@@ -39,7 +39,7 @@ sameNode (Bootstrap i t) (Input m) = false
 sameNode (Bootstrap i t) (Linear d us) = false
 sameNode (Bootstrap i t) (Bootstrap j u) = eqb i j && sameName t u
 
--- The number of the first node equal to n; as many as there are nodes where none is.
+-- cache.get: the number of the first node equal to n; as many as there are nodes where none is.
 unfoldable pub numberOf : LutNode → List LutNode → ℕ
 numberOf n [] = 0
 numberOf n (m ∷ ms) = let r = suc (numberOf n ms) in if sameNode n m then 0 else r
@@ -80,9 +80,13 @@ coefficientOf (t ∷ ts) n = let r = coefficientOf ts n in if eqb (t .node) n th
 
 -- ---- What is bootstrapped already.
 
--- has_bootstrap: the node is there, and some bootstrap has it as its input.
+-- bootstrap_inputs: the nodes that are bootstrapped, in the order of their bootstraps.
+unfoldable pub bootstrapInputs : List LutNode → List LutNode
+bootstrapInputs nodes = map (nodeAt nodes) (bootSources nodes)
+
+-- has_bootstrap
 unfoldable pub hasBootstrap : List LutNode → LutNode → Bool
-hasBootstrap nodes n = member (numberOf n nodes) (bootSources nodes)
+hasBootstrap nodes n = any (sameNode n) (bootstrapInputs nodes)
 
 unfoldable pub termsOf : LutNode → List Term
 termsOf (Input n) = []
@@ -92,29 +96,26 @@ termsOf (Bootstrap i table) = []
 unfoldable pub sameSources : List ℕ → List Term → Bool
 sameSources support ts = eqb (length support) (length ts) && all (λ n. member n (sources ts)) support
 
--- reusable_linear_coefficients: the bootstrapped sums of exactly these sources, in the order of their first bootstraps.
-unfoldable pub reusableSums : List LutNode → List ℕ → List (List Term)
-reusableSums nodes support = select (sameSources support) (map (λ i. termsOf (nodeAt nodes i)) (bootSources nodes))
+-- bootstrap_forms: the bootstrapped sums of exactly these sources, in the order of their bootstraps.
+unfoldable pub bootstrapForms : List LutNode → List ℕ → List (List Term)
+bootstrapForms nodes support = select (sameSources support) (map termsOf (bootstrapInputs nodes))
 
--- The cone with the coefficients of such a sum.
-unfoldable pub alignedTo : Cone → List Term → Cone
-alignedTo c ts = record { support = c .support; coefficients = map (coefficientOf ts) (c .support); truth = c .truth }
+-- reusable_linear_coefficients: the cone with the coefficients of such a sum, in the order of its support.
+unfoldable pub withForm : Cone → List Term → Cone
+withForm c ts = record { support = c .support; coefficients = map (coefficientOf ts) (c .support); truth = c .truth }
 
-unfoldable pub fits : Settings → Cone → Bool
-fits s c = let r = isLutValid s c in withinNorm s (norm2 c) && r
-
-unfoldable pub rankedBySpan : Cone → Candidate
-rankedBySpan c = record { score = coneOrderKey c; cone = c }
+unfoldable pub ranked : Cone → Candidate
+ranked c = record { score = coneOrderKey c; cone = c }
 
 unfoldable pub coneOr : Cone → Option Candidate → Cone
 coneOr c none = c
 coneOr c (some d) = d .cone
 
--- reusable_cone_coefficients, and the cone with them: the first of the least span and norm.
+-- reusable_cone_coefficients: with many tables a sum, the cone by the first form of the least span and norm that fits, if there is one.
 unfoldable pub realigned : Settings → List LutNode → Cone → Cone
 realigned s nodes c =
-    let forms = select (fits s) (map (alignedTo c) (reusableSums nodes (c .support))) in
-    let r = coneOr c (best (map rankedBySpan forms)) in
+    let forms = select (fits s) (map (withForm c) (bootstrapForms nodes (c .support))) in
+    let r = coneOr c (best (map ranked forms)) in
     if s .many then r else c
 
 -- ---- Bootstrapping.
@@ -125,7 +126,7 @@ pub record Stored : Type 0 where
   pub cone : Cone
 
 unfoldable pub bootstrapped : Settings → List LutNode → Cone → Option (List ℕ) → Result Stored
-bootstrapped s nodes c none = no 10
+bootstrapped s nodes c none = err 10
 bootstrapped s nodes c (some table) =
     let linear = linearOf s c in
     let withLinear = intern linear nodes in
