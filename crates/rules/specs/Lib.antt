@@ -15,3 +15,4 @@ pub mod Cone
 pub mod Store
 pub mod Composition
 pub mod Mapper
+pub mod Computed
