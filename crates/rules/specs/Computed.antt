@@ -3,6 +3,7 @@ pub mod Case
 pub mod Computing
 pub mod Policies
 pub mod Gates
+pub mod Pairs
 pub mod Fillings
 pub mod Bootstraps
 pub mod Sharing
