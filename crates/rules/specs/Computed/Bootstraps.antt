@@ -13,7 +13,7 @@ cases =
     -- the second attempt, with the larger side bootstrapped; a later gate finds that side bootstrapped
     ("(fbs 2 3 10 none span one)\n(in a)\n(in b)\n(in c)\n(gate g 0001 (n 0) (n 1))\n(gate h 0110 (n 3) (n 2))\n(gate i 0111 (n 3) (n 0))\n(out y (n 4))\n(out z (n 5))\n" ⇒ network "(net 2 3 none)\n(in a)\n(in b)\n(in c)\n(lin 0 (1 0) (1 1))\n(boot 3 001)\n(lin 1 (1 4) (-1 2))\n(boot 5 101)\n(lin 0 (1 4) (1 0))\n(boot 7 011)\n(out y (n 6))\n(out z (n 8))\n") ∷
     -- the same with the larger side second
-    ("(fbs 2 3 10 none span one)\n(in a)\n(in b)\n(in c)\n(gate g 0001 (n 0) (n 1))\n(gate h 0110 (n 2) (n 3))\n(gate i 0111 (n 3) (n 0))\n(out y (n 4))\n(out z (n 5))\n" ⇒ network "(net 2 3 none)\n(in a)\n(in b)\n(in c)\n(lin 0 (1 0) (1 1))\n(boot 3 001)\n(lin 1 (1 4) (-1 2))\n(boot 5 101)\n(lin 0 (1 4) (1 0))\n(boot 7 011)\n(out y (n 6))\n(out z (n 8))\n") ∷
+    ("(fbs 2 3 10 none span one)\n(in a)\n(in b)\n(in c)\n(gate g 0001 (n 0) (n 1))\n(gate h 0110 (n 2) (n 3))\n(gate i 0111 (n 3) (n 2))\n(out y (n 4))\n(out z (n 5))\n" ⇒ network "(net 2 3 none)\n(in a)\n(in b)\n(in c)\n(lin 0 (1 0) (1 1))\n(boot 3 001)\n(lin 1 (1 4) (-1 2))\n(boot 5 101)\n(lin 0 (1 4) (1 2))\n(boot 7 011)\n(out y (n 6))\n(out z (n 8))\n") ∷
     -- the third attempt, with both sides bootstrapped
     ("(fbs 5 5 10 none naive many)\n(in a)\n(in b)\n(gate g 0110 (n 0) (n 1))\n(gate h 1110 (n 1) (n 0))\n(gate i 1000 (n 2) (n 3))\n(out y (n 4))\n" ⇒ network "(net 5 5 none)\n(in a)\n(in b)\n(lin 0 (2 0) (1 1))\n(boot 2 0110)\n(boot 2 1110)\n(lin 0 (2 3) (1 4))\n(boot 5 1000)\n(out y (n 6))\n") ∷
     -- a constant that only the second attempt finds: both sides become one bootstrap
