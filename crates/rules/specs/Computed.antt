@@ -8,3 +8,4 @@ pub mod Fillings
 pub mod Bootstraps
 pub mod Sharing
 pub mod Refusals
+pub mod Buffers

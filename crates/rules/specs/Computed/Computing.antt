@@ -28,7 +28,7 @@ reading = tt
 
 -- values, scale pairs and tables
 unfoldable pub tables : Unit {0}
-unfolding Test.allb Gcd.gcdWithin Gcd.gcd Tabulate.tabulate Span.leastFrom Span.greatestFrom Span.least Span.greatest Span.span Scale.gcdFrom Scale.startsNegative Scale.divisor Scale.quotients Scale.normalised Scale.isScalePair Scale.norm Rotation.pairSum Rotation.sameSum Rotation.centre Rotation.rotatable Builder.enter Builder.knownEntries Builder.knownOr Builder.filled Builder.against Builder.opposedAt Builder.opposed Builder.completion Builder.tableLimits
+unfolding Test.allb Gcd.gcdWithin Gcd.gcd Tabulate.tabulate Span.leastFrom Span.greatestFrom Span.least Span.greatest Span.span Scale.gcdFrom Scale.startsNegative Scale.divisor Scale.quotients Scale.normalised Scale.isScalePair Scale.norm Rotation.pairSum Rotation.sameSum Rotation.centre Rotation.rotatable Builder.agrees Builder.enter Builder.knownEntries Builder.knownOr Builder.filled Builder.against Builder.opposedAt Builder.opposed Builder.completion Builder.tableLimits
 tables = tt
 
 -- cones and the store
