@@ -53,11 +53,11 @@ values c = linearTable (c .coefficients)
 unfoldable pub coneSpan : Cone → ℕ
 coneSpan c = span (values c)
 
--- Cone::norm2
+-- Cone::norm2: each source counts 1.
 unfoldable pub norm2 : Cone → ℕ
 norm2 c = norm (c .coefficients)
 
--- raw_energy: squared values summed over all rows.
+-- EnergyMoments::energy over the divisor's square: squared values summed over all rows.
 unfoldable pub energy : List ℤ → ℕ
 energy [] = 0
 energy (v ∷ vs) = natAbs v * natAbs v + energy vs

@@ -8,6 +8,7 @@ use lib.IntN.{pos, negsuc}
 use lib.ListN.{length, getD, set, drop, take}
 use Rattle.laws.specs.Over.{over}
 use Rattle.laws.specs.Select.{any}
+use Rattle.laws.specs.Tabulate.{tabulate}
 use Rattle.laws.specs.Test.{if_then_else_}
 use Rattle.rules.specs.declared.MapReply.{MapReply}
 use Rattle.rules.specs.declared.MapReply.the-variants as Reply
@@ -104,9 +105,11 @@ limitSecond s w = if overLimit s w then bootstrapLeft s w else ok w
 unfoldable pub limitSources : Settings → Sides → Result Sides
 limitSources s w = if overLimit s w then (bootstrapLeft s w >>= (λ v. limitSecond s (switchInputs v))) else ok w
 
+-- One of map_binary_gate's three attempts.
 unfoldable pub attempt : Settings → Sides → Option (Result Cone)
 attempt s w = compose s (w .nodes) (w .left .cone) (w .right .cone) (w .gate)
 
+-- updates: a bootstrapped side, and only such a side, replaces its wire's cone.
 unfoldable pub update : Side → Option Cone
 update x = if x .new then some (x .cone) else none
 
@@ -142,7 +145,7 @@ isConstant c = eqb (length (c .support)) 0
 unfoldable pub constantValue : Cone → ℕ
 constantValue c = getD (c .truth) 0 0
 
--- map_gate: a constant side makes the gate unary.
+-- map_gate: a constant side makes the gate unary. The reader refuses other counts of wires (7).
 unfoldable pub mapGate : Settings → List LutNode → List Cone → List ℕ → Result Mapped
 mapGate s nodes [] gate = err 7
 mapGate s nodes (c ∷ []) gate = mapUnaryGate s nodes c gate
@@ -154,7 +157,7 @@ mapGate s nodes (a ∷ b ∷ c ∷ cs) gate = err 7
 
 -- ---- All gates in turn.
 
--- The store, and the cone of each node of the circuit so far.
+-- The store, and the cone of each node of the circuit so far: environment and wires in the Rust.
 pub record State : Type 0 where
   pub nodes : List LutNode
   pub cones : List Cone
@@ -188,6 +191,7 @@ isForced s outputs i = isBasic (s .policy) || (not (s .many) && any (λ (o : Out
 unfoldable pub forced : Settings → Bool → Mapped → Result Stored
 forced s f m = if f then bootstrapCone s (m .nodes) (m .cone) else ok (record { nodes = m .nodes; cone = m .cone })
 
+-- The loop of map_once over the gates: one gate.
 unfoldable pub mapNext : Settings → List Output → State → Gate → Result State
 mapNext s outputs st g = do
   m ← mapGate s (st .nodes) (map (coneAt (st .cones)) (g .wires)) (g .bits)
@@ -213,7 +217,7 @@ pub record Signal : Type 0 where
   pub nodes : List LutNode
   pub wire : Wire
 
--- A cone of no source or one source as a wire.
+-- A cone of no source or one source as a wire: NOT is 1 less the node.
 unfoldable pub wireOf : List LutNode → List ℕ → List ℕ → Signal
 wireOf nodes [] truth = record { nodes = nodes; wire = Const (getD truth 0 0) }
 wireOf nodes (n ∷ ns) truth =
@@ -228,7 +232,7 @@ outputSignal s nodes c = do
   b ← bootstrapCone s nodes c
   ok (wireOf (b .nodes) (b .cone .support) (b .cone .truth))
 
--- The outputs so far, and the store.
+-- The store, and the outputs so far.
 pub record Outputs : Type 0 where
   pub nodes : List LutNode
   pub outputs : List Output
@@ -262,9 +266,7 @@ checked s w =
 
 -- map_once: the inputs are the first nodes, and each is its own cone.
 unfoldable pub start : Circuit → State
-start c =
-    let nodes = map Input (c .inputs) in
-    record { nodes = nodes; cones = map (λ n. identity (numberOf n nodes)) nodes }
+start c = record { nodes = map Input (c .inputs); cones = tabulate (length (c .inputs)) identity }
 
 unfoldable pub finish : Settings → List Output → State → Reading Network
 finish s outputs st =

@@ -50,6 +50,7 @@ intern n nodes = if ltb (numberOf n nodes) (length nodes) then nodes else nodes 
 
 -- ---- Sums.
 
+-- Each coefficient with its source.
 unfoldable pub terms : Cone → List Term
 terms c = zipWith (λ (k : ℤ) (n : ℕ). record { coef = k; node = n }) (c .coefficients) (c .support)
 
@@ -73,7 +74,7 @@ linearTerms many ts = if many then sorted (select isUsed ts) else ts
 unfoldable pub linearOf : Settings → Cone → LutNode
 linearOf s c = Linear (negℤ (least (values c))) (linearTerms (s .many) (terms c))
 
--- The coefficient of a node, 0 where it is not among the terms.
+-- coefficient_pair: the coefficient of a node, 0 where it is not among the terms.
 unfoldable pub coefficientOf : List Term → ℕ → ℤ
 coefficientOf [] n = pos 0
 coefficientOf (t ∷ ts) n = let r = coefficientOf ts n in if eqb (t .node) n then t .coef else r
@@ -93,6 +94,7 @@ termsOf (Input n) = []
 termsOf (Linear c ts) = ts
 termsOf (Bootstrap i table) = []
 
+-- The sum has these sources and no other.
 unfoldable pub sameSources : List ℕ → List Term → Bool
 sameSources support ts = eqb (length support) (length ts) && all (λ n. member n (sources ts)) support
 
@@ -125,6 +127,7 @@ pub record Stored : Type 0 where
   pub nodes : List LutNode
   pub cone : Cone
 
+-- The sum and the bootstrap are interned; a cone without a table has no valid encoding (10).
 unfoldable pub bootstrapped : Settings → List LutNode → Cone → Option (List ℕ) → Result Stored
 bootstrapped s nodes c none = err 10
 bootstrapped s nodes c (some table) =
