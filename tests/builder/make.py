@@ -76,10 +76,10 @@ def reply(P, M, room, values, truths):
 
 
 def exhaustive():
-    """P = 2: every list of up to three rows with values 0..4, and all truths of four rows."""
+    """P = 2: every list of one or two rows with values 0..4, of three rows with values 0..3, and all truths of four rows."""
     for M, longest in ((2, 2), (3, 2), (4, 3)):
         for n in range(1, longest + 1):
-            for values in itertools.product(range(5), repeat=n):
+            for values in itertools.product(range(5 if n < 3 else 4), repeat=n):
                 for truths in itertools.product((0, 1, 2) if n < 3 else (0, 1), repeat=n):
                     yield 2, M, 5, list(values), list(truths)
     for truths in itertools.product((0, 1), repeat=4):
@@ -105,8 +105,8 @@ def shapes():
         yield 2, 4, room, [0, 1, 2, 3], [0, 0, 0, 1]
         yield 2, 4, room, [-1, -1], [0, 1]
     yield 2, 2, 2, [0, 1], [0, 255]
-    yield 2, 2, 2, [5] * 300, [1] * 300
-    yield 2, 2, 2, [5] * 300, [1] * 299 + [0]
+    yield 2, 2, 2, [5] * 64, [1] * 64
+    yield 2, 2, 2, [5] * 64, [1] * 63 + [0]
 
 
 def table(rng, P, length):
@@ -149,7 +149,7 @@ def cases():
     yield from exhaustive()
     yield from settings()
     yield from shapes()
-    yield from random_cases(random.Random(1), 900)
+    yield from random_cases(random.Random(1), 420)
 
 
 def files():
@@ -161,7 +161,7 @@ def files():
         asked.append(" ".join(map(str, [P, M, room, len(values), *values, len(truths), *truths])))
         answered.append(f"{number} {len(bits)} " + "".join(map(str, bits)) + letters[len(bits) :])
     stdin, stdout = "\n".join(asked) + "\n", "\n".join(answered) + "\n"
-    assert len(stdin) < 131072, len(stdin)
+    assert len(stdin) < 65536, len(stdin)
     return {"stdin": stdin, "stdout": stdout}, len(asked), seen
 
 

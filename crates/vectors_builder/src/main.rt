@@ -3,12 +3,9 @@
 // For each case it writes the reply's number and count and the buffer, whose bytes were letters before.
 use libc::STDIN_FILENO;
 use libc::STDOUT_FILENO;
+ghost use Prim.Native.Nat.{_≤_};
 
-const ROWS: usize = 300;
-
-const ROOM: usize = 40;
-
-struct Number {
+struct Token {
     value: u64,
     negative: bool,
     next: usize,
@@ -31,21 +28,22 @@ fn skip(text: &[u8], from: usize) -> usize {
     i
 }
 
+// One digit more; where that would not fit, the value stays.
 fn with_digit(value: u64, b: u8) -> u64 {
-    if value < 1000000000000000000 && is_digit(b) {
-        10 * value + ((b - 48) as u64)
+    if value < 1000000000000000000 {
+        10 * value + ((b % 16) as u64)
     } else {
         value
     }
 }
 
-fn digits(text: &[u8], from: usize, negative: bool) -> Number {
+fn digits(text: &[u8], from: usize, negative: bool) -> Token {
     let mut value = 0;
     let mut i = from;
     while i < text.len() {
         let b = text[i];
         if !is_digit(b) {
-            return Number {
+            return Token {
                 value,
                 negative,
                 next: i,
@@ -54,14 +52,14 @@ fn digits(text: &[u8], from: usize, negative: bool) -> Number {
         value = with_digit(value, b);
         i += 1;
     }
-    Number {
+    Token {
         value,
         negative,
         next: i,
     }
 }
 
-fn number(text: &[u8], from: usize) -> Number {
+fn next_token(text: &[u8], from: usize) -> Token {
     let at = skip(text, from);
     if at < text.len() {
         if text[at] == b'-' {
@@ -71,20 +69,24 @@ fn number(text: &[u8], from: usize) -> Number {
     digits(text, at, false)
 }
 
-fn signed(n: Number) -> i32 {
+fn signed(n: Token) -> i32 {
     if 2147483647 < n.value {
         return -2147483648;
     }
-    let v = n.value as i32;
-    if n.negative { 0 - v } else { v }
+    if n.negative {
+        return 0 - (n.value as i32);
+    }
+    n.value as i32
 }
 
-fn byte(n: Number) -> u8 {
+fn byte(n: Token) -> u8 {
     if n.value < 256 { n.value as u8 } else { 255 }
 }
 
 // A number at most `most`.
-fn at_most(n: Number, most: usize) -> usize {
+fn at_most(n: Token, most: usize) -> usize
+    ensures { λ r. ⌜ r ≤ most ⌝ }
+{
     if n.value < (most as u64) {
         n.value as usize
     } else {
@@ -96,7 +98,7 @@ fn take_values(text: &[u8], from: usize, values: &mut [i32]) -> usize {
     let mut at = from;
     let mut i = 0;
     while i < values.len() {
-        let n = number(text, at);
+        let n = next_token(text, at);
         values[i] = signed(n);
         at = n.next;
         i += 1;
@@ -108,7 +110,7 @@ fn take_truths(text: &[u8], from: usize, truths: &mut [u8]) -> usize {
     let mut at = from;
     let mut i = 0;
     while i < truths.len() {
-        let n = number(text, at);
+        let n = next_token(text, at);
         truths[i] = byte(n);
         at = n.next;
         i += 1;
@@ -116,63 +118,144 @@ fn take_truths(text: &[u8], from: usize, truths: &mut [u8]) -> usize {
     at
 }
 
-// The letters a, b, .. before the builder runs.
-fn letters(out: &mut [u8]) {
+fn shown(b: u8) -> u8 {
+    if b < 2 { 48 + b } else { b }
+}
+
+// Bytes 0 and 1 as digits.
+fn as_digits(out: &mut [u8]) {
     let mut i = 0;
     while i < out.len() {
-        out[i] = 97 + ((i % 26) as u8);
+        out[i] = shown(out[i]);
         i += 1;
     }
 }
 
-// Bytes 0 and 1 as digits, and a line end.
 fn show(out: &mut [u8]) {
-    let mut i = 0;
-    while i < out.len() {
-        let b = out[i];
-        if b < 2 {
-            out[i] = 48 + b;
-        }
-        i += 1;
-    }
+    as_digits(out);
     io::write_all(STDOUT_FILENO, out);
     io::write_all(STDOUT_FILENO, b"\n");
 }
 
-fn run(p: usize, m: usize, values: &[i32], truths: &[u8], room: usize) {
-    let mut buffer = [0u8; 40];
-    if 40 < room {
-        return;
-    }
-    letters(&mut buffer[..room]);
-    let reply = rotation::composed_bootstrap_table(p, m, values, truths, &mut buffer[..room]);
+// The reply's number and count, and the buffer after it.
+fn run(p: usize, m: usize, values: &[i32], truths: &[u8], out: &mut [u8]) {
+    let reply = rotation::composed_bootstrap_table(p, m, values, truths, out);
     io::print_decimal(STDOUT_FILENO, rotation::reply_number(reply) as u64);
     io::write_all(STDOUT_FILENO, b" ");
     io::print_decimal(STDOUT_FILENO, rotation::reply_count(reply) as u64);
     io::write_all(STDOUT_FILENO, b" ");
-    show(&mut buffer[..room]);
+    show(out);
+}
+
+fn with_buffer(p: usize, m: usize, values: &[i32], truths: &[u8], room: usize)
+    requires { ⌜ room ≤ 40 ⌝ }
+{
+    let mut buffer = [
+        b'a',
+        b'b',
+        b'c',
+        b'd',
+        b'e',
+        b'f',
+        b'g',
+        b'h',
+        b'i',
+        b'j',
+        b'k',
+        b'l',
+        b'm',
+        b'n',
+        b'o',
+        b'p',
+        b'q',
+        b'r',
+        b's',
+        b't',
+        b'u',
+        b'v',
+        b'w',
+        b'x',
+        b'y',
+        b'z',
+        b'a',
+        b'b',
+        b'c',
+        b'd',
+        b'e',
+        b'f',
+        b'g',
+        b'h',
+        b'i',
+        b'j',
+        b'k',
+        b'l',
+        b'm',
+        b'n',
+    ];
+    run(p, m, values, truths, &mut buffer[..room]);
+}
+
+// The truths of a case into their place, and the case run.
+fn fill_truths(
+    text: &[u8],
+    from: usize,
+    p: usize,
+    m: usize,
+    room: usize,
+    values: &[i32],
+    truths: &mut [u8],
+) -> usize
+    requires { ⌜ room ≤ 40 ⌝ }
+{
+    let next = take_truths(text, from, truths);
+    with_buffer(p, m, values, truths, room);
+    next
+}
+
+fn with_truths(text: &[u8], from: usize, p: usize, m: usize, room: usize, values: &[i32]) -> usize
+    requires { ⌜ room ≤ 40 ⌝ }
+{
+    let mut truths = [0u8; 64];
+    let n = next_token(text, from);
+    let count = at_most(n, 64);
+    fill_truths(text, n.next, p, m, room, values, &mut truths[..count])
+}
+
+// The values of a case into their place, and the rest of the case.
+fn fill_values(
+    text: &[u8],
+    from: usize,
+    p: usize,
+    m: usize,
+    room: usize,
+    values: &mut [i32],
+) -> usize
+    requires { ⌜ room ≤ 40 ⌝ }
+{
+    let next = take_values(text, from, values);
+    with_truths(text, next, p, m, room, values)
+}
+
+fn with_values(text: &[u8], from: usize, p: usize, m: usize, room: usize) -> usize
+    requires { ⌜ room ≤ 40 ⌝ }
+{
+    let mut values = [0i32; 64];
+    let n = next_token(text, from);
+    let count = at_most(n, 64);
+    fill_values(text, n.next, p, m, room, &mut values[..count])
 }
 
 // One case from a place of the text, and where the next one starts.
 fn replay(text: &[u8], from: usize) -> usize {
-    let p = number(text, from);
-    let m = number(text, p.next);
-    let b = number(text, m.next);
-    let room = at_most(b, ROOM);
-    let mut values = [0i32; 300];
-    let n = number(text, b.next);
-    let rows = at_most(n, ROWS);
-    let after = take_values(text, n.next, &mut values[..rows]);
-    let mut truths = [0u8; 300];
-    let k = number(text, after);
-    let count = at_most(k, ROWS);
-    let next = take_truths(text, k.next, &mut truths[..count]);
-    run(
+    let p = next_token(text, from);
+    let m = next_token(text, p.next);
+    let b = next_token(text, m.next);
+    let next = with_values(
+        text,
+        b.next,
         p.value as usize,
         m.value as usize,
-        &values[..rows],
-        &truths[..count],
-        room,
+        at_most(b, 40),
     );
     skip(text, next)
 }
@@ -191,7 +274,7 @@ fn replay_all(text: &[u8]) {
 }
 
 fn main() {
-    let mut text = [0u8; 131072];
+    let mut text = io::large_buffer();
     let n = io::read_full(STDIN_FILENO, &mut text);
     replay_all(&text[..n]);
 }
