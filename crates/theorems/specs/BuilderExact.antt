@@ -18,8 +18,7 @@ use Rattle.rules.specs.Span.{least, span}
 use Rattle.rules.specs.Builder.{Entries, knownEntries, completion, tableLimits, fromTable, fromKnown, builder}
 use Rattle.theorems.specs.RotationRule.{rotation-rule}
 use Rattle.theorems.specs.Completions.{some-table, completion-is, completion-found}
-use Rattle.theorems.specs.Spans.{offset-lt}
-use Rattle.theorems.specs.Rows.{Within, entered, entered-left, entered-entries, unknown-entries, unknown-completes}
+use Rattle.theorems.specs.Rows.{within, entered, entered-left, entered-entries, unknown-entries, unknown-completes}
 
 -- The settings, the lists' lengths and the buffer are in order.
 pub record InOrder (P M : ℕ) (values : List ℤ) (truths buffer : List ℕ) : Type 0 where
@@ -43,10 +42,6 @@ Accepted P M values truths buffer = builder P M values truths buffer .answer .nu
 -- The reply is this table, written from the buffer's start.
 abbrev pub Answers : (P M : ℕ) (values : List ℤ) (truths buffer t : List ℕ) → Type 0
 Answers P M values truths buffer t = builder P M values truths buffer ≡ outcome (written (length t)) (over t buffer)
-
--- each row has its entry
-within : (values : List ℤ) → Within (least values) values (length (replicate {A = ℕ} (span values) 2))
-within values = record { at = λ i h. rw length-replicate (offset-lt values i h) }
 
 -- ---- the definition's tests in turn
 from-table : (buffer t : List ℕ) → length t ≤ length buffer → fromTable buffer (some t) ≡ outcome (written (length t)) (over t buffer)

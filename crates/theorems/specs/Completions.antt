@@ -241,7 +241,7 @@ module _ (P : ℕ) (known : List ℕ) where
 
 -- ---- what is found is a completion that can be rotated
 module _ (known : List ℕ) (entries : Entries known) where
-  filled-completes : (d : ℕ) → d ≤ 1 → Completes known (filled d known)
+  pub filled-completes : (d : ℕ) → d ≤ 1 → Completes known (filled d known)
   filled-completes d h =
       record {
         long = filled-length d known;

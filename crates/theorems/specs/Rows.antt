@@ -2,7 +2,7 @@
 use mathlib.Core.Path.{_≡_, refl, sym, ap, _∙_, subst}
 use mathlib.Core.Bool.{true, false, true≢false}
 use mathlib.Core.List.{List, [], _∷_}
-use mathlib.Core.Logic.{⊎-elim, _≢_}
+use mathlib.Core.Logic.{⊎-elim, _≢_, _↔_}
 use mathlib.Core.Option.{none, some}
 use Prim.Native.Nat.{ℕ, zero, suc, _+_, _<_, _≤_}
 use native.Mathlib.Nat.{not-suc-le-zero, le-of-suc-le-suc}
@@ -13,9 +13,13 @@ use lib.Dec.{leb}
 use lib.IntN.{ℤ, pos, natAbs, _-ℤ_}
 use lib.ListN.{length, getD, set, drop, replicate, drop-of-length-le, length-set, length-replicate, getD-replicate, List·getD-eq-default}
 use lib.Seq.{getD-set-same, getD-set-other, set-out, drop-cons}
+use lib.Signed.{_≤ℤ_}
+use Rattle.laws.specs.Integer.{ints, abs-parts, sub-parts, one-part-zero}
 use Rattle.laws.specs.Test.{lt-or-le, eq-or-ne, decide}
-use Rattle.rules.specs.Builder.{Entries, agrees, enter}
-use Rattle.theorems.specs.Completions.{Completes}
+use Rattle.rules.specs.Builder.{Entries, agrees, enter, knownEntries, filled}
+use Rattle.rules.specs.Span.{least, span}
+use Rattle.theorems.specs.Completions.{Completes, filled-completes}
+use Rattle.theorems.specs.Spans.{least-le, offset-lt}
 
 -- the test of a row
 agrees-yes : (x t : ℕ) → t ≤ 1 → (x ≢ 2 → x ≡ t) → agrees x t ≡ true
@@ -170,6 +174,74 @@ unknown-completes n t e h =
       bits = λ i l. h i (rw e (rw length-replicate at l));
       keeps = λ i l x. absurd (x (getD-replicate {A = ℕ} n i 2 0 (rw length-replicate at l)));
     }
+
+-- ---- the rows agree among themselves: each truth is a bit, and rows of one value have one truth
+pub record Consistent (values : List ℤ) (truths : List ℕ) : Type 0 where
+  pub bits : (i : ℕ) → i < length values → getD truths i 0 ≤ 1
+  pub same : (i j : ℕ) → i < length values → j < length values → getD values i (pos 0) ≡ getD values j (pos 0) → getD truths i 0 ≡ getD truths j 0
+
+-- one more row's entry still has the truth of every row to come
+kept : (known : List ℕ) (k b j x : ℕ) → (j ≡ k → b ≡ x) → (getD known j 0 ≢ 2 → getD known j 0 ≡ x) → getD (set known k b) j 0 ≢ 2 → getD (set known k b) j 0 ≡ x
+kept known k b j x same old =
+    ⊎-elim
+    (λ (e : j ≡ k). ⊎-elim
+    (λ (l : k < length known). λ n. rw (e, getD-set-same known k b 0 l) (same e))
+    (λ (l : length known ≤ k). rw (set-out known k b l) old)
+    (lt-or-le k (length known)))
+    (λ (e : j ≢ k). rw (getD-set-other known k j b 0 e) old)
+    (eq-or-ne j k)
+
+enters : (low : ℤ) (values : List ℤ) (truths known : List ℕ) → length values ≡ length truths
+    → ((i : ℕ) → i < length values → getD truths i 0 ≤ 1)
+    → ((i j : ℕ) → i < length values → j < length values → offset low values i ≡ offset low values j → getD truths i 0 ≡ getD truths j 0)
+    → ((i : ℕ) → i < length values → getD known (offset low values i) 0 ≢ 2 → getD known (offset low values i) 0 ≡ getD truths i 0)
+    → (k : List ℕ) × (enter low values truths known ≡ some k)
+unfolding enter
+enters low [] truths known e bits same old = (known, refl)
+enters low (v ∷ values) [] known e bits same old = absurd (omega arith)
+enters low (v ∷ values) (b ∷ truths) known e bits same old =
+    let k = natAbs (v -ℤ low) in
+    let yes : agrees (getD known k 0) b ≡ true = agrees-yes (getD known k 0) b (bits 0 (omega arith)) (old 0 (omega arith)) in
+    let r = enters low values truths (set known k b) (omega arith)
+    (λ i h. bits (suc i) (omega arith))
+    (λ i j h l. same (suc i) (suc j) (omega arith) (omega arith))
+    (λ i h. kept known k b (offset low values i) (getD truths i 0) (λ s. same 0 (suc i) (omega arith) (omega arith) (sym s)) (old (suc i) (omega arith))) in
+    (r .0, rw yes (r .1))
+
+-- offsets from a least value tell values apart
+one-value : (low a b : ℤ) → low ≤ℤ a → low ≤ℤ b → natAbs (a -ℤ low) ≡ natAbs (b -ℤ low) → a ≡ b
+one-value low a b h k e =
+    omega
+    (arith, ints, abs-parts (a -ℤ low), abs-parts (b -ℤ low), sub-parts a low, sub-parts b low, one-part-zero (a -ℤ low), one-part-zero (b -ℤ low))
+
+-- each row has its entry
+pub within : (values : List ℤ) → Within (least values) values (length (replicate {A = ℕ} (span values) 2))
+within values = record { at = λ i h. rw length-replicate (offset-lt values i h) }
+
+-- known entries there are exactly when the rows agree among themselves: else a truth is not a bit, or one value has two truths
+module _ (values : List ℤ) (truths : List ℕ) (e : length values ≡ length truths) where
+  known-yes : Consistent values truths → (k : List ℕ) × (knownEntries values truths ≡ some k)
+  unfolding knownEntries
+  known-yes c =
+      enters (least values) values truths (replicate (span values) 2) e (c .bits)
+      (λ i j h l s. c .same i j h l (one-value (least values) (getD values i (pos 0)) (getD values j (pos 0)) (least-le values i h) (least-le values j l) s))
+      (λ i h n. absurd (n (getD-replicate {A = ℕ} (span values) (offset (least values) values i) 2 0 (offset-lt values i h))))
+
+  known-no : (k : List ℕ) × (knownEntries values truths ≡ some k) → Consistent values truths
+  unfolding knownEntries
+  known-no w =
+      let is = entered-entries (least values) values truths (replicate (span values) 2) (w .0) (w .1) (unknown-entries (span values)) in
+      let t = filled 0 (w .0) in
+      let fills = filled-completes (w .0) (is .0) 0 (omega arith) in
+      let a = entered-left (least values) t values truths (replicate (span values) 2) (w .0) e (within values) (w .1) fills .1 in
+      let long : length (w .0) ≡ span values = is .1 ∙ length-replicate {A = ℕ} (span values) 2 in
+      record {
+        bits = λ i h. subst (λ b. b ≤ 1) (a .at i h) (fills .bits (offset (least values) values i) (rw long (offset-lt values i h)));
+        same = λ i j h l s. sym (a .at i h) ∙ ap (λ v. getD t (natAbs (v -ℤ least values)) 0) s ∙ a .at j l;
+      }
+
+  pub known-exact : ((k : List ℕ) × (knownEntries values truths ≡ some k)) ↔ Consistent values truths
+  known-exact = (known-no, known-yes)
 
 -- ---- a loop over the rows: a turn, a row that does not fit, and the end
 module _ (low : ℤ) (values : List ℤ) (truths known : List ℕ) (i : ℕ) where
