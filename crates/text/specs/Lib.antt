@@ -3,3 +3,4 @@ pub mod Reads
 pub mod Line
 pub mod Exactly
 pub mod Chain
+pub mod Judged
