@@ -1,7 +1,15 @@
 // The circuit's text: its lines, the refusals 1 to 7, and a run of the circuit.
 ghost use mathlib.Core.Path.{_≡_};
-ghost use Rattle.rules.specs.CircuitText.{noNode};
-ghost use Rattle.circuit.specs.Wires.{withWire};
+ghost use mathlib.Core.Bool.{_&&_, _||_, not};
+ghost use mathlib.Core.List.{[], _∷_};
+ghost use Prim.Native.Nat.{_+_, _≤_};
+ghost use lib.Dec.{leb, ltb};
+ghost use Rattle.rules.specs.Builder.{tableLimits};
+ghost use Rattle.rules.specs.CircuitText.{noNode, inLimits};
+ghost use Rattle.rules.specs.Form.{_when_};
+ghost use Rattle.text.specs.Judged.{lowest};
+ghost use Rattle.circuit.specs.Wires.{withWire, shape};
+use rules::Settings;
 use rules::Wire;
 
 // What is kept of a gate's wires: how many (3 for more), the first two, and whether one of them goes to no earlier node.
@@ -35,4 +43,90 @@ fn with_wire(n: usize, v: Wires, w: Wire) -> Wires
         return Wires { count: 2, left, right: w, astray };
     }
     Wires { count: 3, left, right, astray }
+}
+
+// P from 2 to 16, M from P to 2P.
+pub fn is_within(p: usize, m: usize) -> bool
+    ensures { λ r. ⌜ r ≡ tableLimits p m ⌝ }
+{
+    if p < 2 {
+        return false;
+    }
+    if 16 < p {
+        return false;
+    }
+    if m < p {
+        return false;
+    }
+    m <= 2 * p
+}
+
+// The lowest condition that a line meets, 0 for none.
+fn fbs_number(started: bool, within: bool, t: usize) -> usize
+    ensures { λ r. ⌜ r ≡ lowest ((2 when not (within && (leb 1 t && leb t 10))) ∷ (4 when started) ∷ []) ⌝ }
+{
+    if within {
+        if t < 1 {
+            return 2;
+        }
+        if 10 < t {
+            return 2;
+        }
+        return if started { 4 } else { 0 };
+    }
+    2
+}
+
+fn in_number(started: bool, inputs: usize, gates: usize, outs: usize, repeated: bool) -> usize
+    ensures { λ r. ⌜ r ≡ lowest ((3 when leb 32 inputs) ∷ (4 when (not started || (ltb 0 gates || ltb 0 outs))) ∷ (5 when repeated) ∷ []) ⌝ }
+{
+    if 32 <= inputs {
+        return 3;
+    }
+    if !started {
+        return 4;
+    }
+    if 0 < gates {
+        return 4;
+    }
+    if 0 < outs {
+        return 4;
+    }
+    if repeated { 5 } else { 0 }
+}
+
+fn gate_number(started: bool, gates: usize, outs: usize, astray: bool, count: usize, bits: usize) -> usize
+    ensures { λ r. ⌜ r ≡ lowest ((3 when leb 96 gates) ∷ (4 when (not started || ltb 0 outs)) ∷ (6 when astray) ∷ (7 when not (shape count bits)) ∷ []) ⌝ }
+{
+    if 96 <= gates {
+        return 3;
+    }
+    if !started {
+        return 4;
+    }
+    if 0 < outs {
+        return 4;
+    }
+    if astray {
+        return 6;
+    }
+    if count == 1 {
+        return if bits == 2 { 0 } else { 7 };
+    }
+    if count == 2 {
+        return if bits == 4 { 0 } else { 7 };
+    }
+    7
+}
+
+fn out_number(started: bool, outs: usize, astray: bool) -> usize
+    ensures { λ r. ⌜ r ≡ lowest ((3 when leb 32 outs) ∷ (4 when not started) ∷ (6 when astray) ∷ []) ⌝ }
+{
+    if 32 <= outs {
+        return 3;
+    }
+    if !started {
+        return 4;
+    }
+    if astray { 6 } else { 0 }
 }
