@@ -26,6 +26,10 @@ abbrev pub taken : List ℕ → ℕ → Found → Option (Piece (List ℕ))
 taken s a (At e) = some (record { value = take (e - a) (drop a s); rest = drop e s })
 taken s a Nothing = none
 
+abbrev pub bitsTaken : List ℕ → ℕ → Found → Option (Piece (List ℕ))
+bitsTaken s a (At e) = some (record { value = bitsFrom (take (e - a) (drop a s)); rest = drop e s })
+bitsTaken s a Nothing = none
+
 -- What is known of a chain's next piece once the function's answer r is taken apart: it is q.
 module _ {R A : Type 0} (view : R → Option (Piece A)) {n e : ℕ} {r q : R} {w : Option (Piece A)} where
   pub found : Reads n (view r) e w → r ≡ q → w ≡ view q
