@@ -78,11 +78,17 @@ three n v (w ∷ ws) e = three n (withWire n v (capWire w)) ws (rw e)
 unfoldable pub shape : ℕ → ℕ → Bool
 shape count bits = (eqb count 1 && eqb bits 2) || (eqb count 2 && eqb bits 4)
 
+pub long-unmatched : (b : List ℕ) (u v w : Wire) (ws : List Wire) → matching b (u ∷ v ∷ w ∷ ws) ≡ false
+unfolding matching
+long-unmatched b u v w ws =
+    let m = suc (suc (suc (length ws))) in
+    rw (ne-eqb m 1 (λ (e : m ≡ 1). omega arith), ne-eqb m 2 (λ (e : m ≡ 2). omega arith))
+
 pub shape-is : (n : ℕ) (b : List ℕ) (ws : List Wire) → shape (withWires n noWires ws .count) (length b) ≡ matching b ws
 unfolding shape matching noWires withWires withWire
 shape-is n b [] = refl
 shape-is n b (u ∷ []) = refl
 shape-is n b (u ∷ v ∷ []) = refl
 shape-is n b (u ∷ v ∷ w ∷ ws) =
-    let m = suc (suc (suc (length ws))) in
-    rw (ne-eqb m 1 (λ (e : m ≡ 1). omega arith), ne-eqb m 2 (λ (e : m ≡ 2). omega arith), three n (withWire n (withWire n (withWire n noWires (capWire u)) (capWire v)) (capWire w)) ws refl)
+    rw (three n (withWire n (withWire n (withWire n noWires (capWire u)) (capWire v)) (capWire w)) ws refl)
+    (sym (long-unmatched b u v w ws))

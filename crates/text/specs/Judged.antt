@@ -19,6 +19,15 @@ abbrev pub Numbered : List Condition → Type 0
 Numbered [] = Unit {0}
 Numbered (k ∷ ks) = (0 < k .no) × Numbered ks
 
+-- A line that meets none meets the first one not.
+pub unmet : (k : Condition) (ks : List Condition) → 0 < k .no → lowest (k ∷ ks) ≡ 0 → (k .met ≡ false) × (lowest ks ≡ 0)
+unfolding lowest
+unmet k ks h = by (k .met)
+  where
+    by : (b : Bool) → (if b then k .no else lowest ks) ≡ 0 → (b ≡ false) × (lowest ks ≡ 0)
+    by true e = absurd (omega arith)
+    by false e = (refl, e)
+
 module _ {A : Type 0} (i : ℕ) where
   pub judged-good : (ks : List Condition) (next : Reading A) → Numbered ks → lowest ks ≡ 0 → judged i ks next ≡ next
   unfolding judged lowest

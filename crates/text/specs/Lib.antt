@@ -2,6 +2,7 @@
 pub mod Reads
 pub mod Line
 pub mod Judged
+pub mod Cap
 pub mod Exactly
 pub mod Run
 pub mod Chain
