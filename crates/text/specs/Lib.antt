@@ -3,6 +3,7 @@ pub mod Reads
 pub mod Line
 pub mod Judged
 pub mod Cap
+pub mod Many
 pub mod Exactly
 pub mod Run
 pub mod Chain
