@@ -20,6 +20,7 @@ use Rattle.rules.specs.Form.{Condition, _when_}
 use Rattle.text.specs.Cap.{cap-table, cap-ten, cap-small}
 use Rattle.text.specs.Judged.{lowest, unmet}
 use Rattle.circuit.specs.declared.Wires.{Wires}
+use Rattle.circuit.specs.View.{twoWires}
 use Rattle.circuit.specs.Wires.{capWire, noWires, withWire, withWires, shape, cap-noNode, astray-is, shape-is, long-unmatched}
 
 pub data Brief : Type 0 where
@@ -77,9 +78,6 @@ brief-conditions c (GateLine b ws) h = rw (some-is (c .outputs), astray-is (node
 brief-conditions c (OutLine o) h = ap (λ t. (3 when leb 32 (length (c .outputs))) ∷ (4 when not (isSome (c .settings))) ∷ (6 when t) ∷ []) (cap-noNode (nodeCount c) (o .wire) h)
 
 -- ---- A line that meets no condition is kept whole.
-
-unfoldable pub twoWires : ℕ → Wire → Wire → List Wire
-twoWires n u v = if eqb n 1 then u ∷ [] else u ∷ v ∷ []
 
 unfoldable pub told : Brief → CircuitLine
 told (FbsBrief s) = FbsLine s

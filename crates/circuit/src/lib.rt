@@ -1,13 +1,17 @@
 // The circuit's text: its lines, the refusals 1 to 7, and a run of the circuit.
 ghost use mathlib.Core.Path.{_≡_};
-ghost use mathlib.Core.Bool.{_&&_, _||_, not};
+ghost use mathlib.Core.Bool.{false, _&&_, _||_, not};
 ghost use mathlib.Core.List.{[], _∷_};
-ghost use Prim.Native.Nat.{_+_, _≤_};
-ghost use lib.Dec.{leb, ltb};
+ghost use Prim.Native.Nat.{_+_, _*_, _≤_};
+ghost use lib.Dec.{leb, ltb, eqb};
+ghost use lib.ListN.{getD};
+ghost use Rattle.laws.specs.Test.{if_then_else_};
 ghost use Rattle.rules.specs.Builder.{tableLimits};
 ghost use Rattle.rules.specs.CircuitText.{noNode, inLimits};
 ghost use Rattle.rules.specs.Form.{_when_};
+ghost use Rattle.rules.specs.Circuit.{wireBit};
 ghost use Rattle.text.specs.Judged.{lowest};
+ghost use Rattle.circuit.specs.View.{gateOf};
 ghost use Rattle.circuit.specs.Wires.{withWire, shape};
 use rules::Settings;
 use rules::Wire;
@@ -18,6 +22,15 @@ pub struct Wires {
     pub left: Wire,
     pub right: Wire,
     pub astray: bool,
+}
+
+// A gate: how many wires it has, one or two, and its answers.
+pub struct Gate {
+    pub arity: usize,
+    pub left: Wire,
+    pub right: Wire,
+    pub bits: [u8; 4],
+    pub line: usize,
 }
 
 // Whether a wire goes to none of n nodes.
@@ -37,12 +50,27 @@ fn with_wire(n: usize, v: Wires, w: Wire) -> Wires
     let right = v.right;
     let astray = v.astray | is_astray(n, w);
     if v.count == 0 {
-        return Wires { count: 1, left: w, right, astray };
+        return Wires {
+            count: 1,
+            left: w,
+            right,
+            astray,
+        };
     }
     if v.count == 1 {
-        return Wires { count: 2, left, right: w, astray };
+        return Wires {
+            count: 2,
+            left,
+            right: w,
+            astray,
+        };
     }
-    Wires { count: 3, left, right, astray }
+    Wires {
+        count: 3,
+        left,
+        right,
+        astray,
+    }
 }
 
 // P from 2 to 16, M from P to 2P.
@@ -95,7 +123,14 @@ fn in_number(started: bool, inputs: usize, gates: usize, outs: usize, repeated: 
     if repeated { 5 } else { 0 }
 }
 
-fn gate_number(started: bool, gates: usize, outs: usize, astray: bool, count: usize, bits: usize) -> usize
+fn gate_number(
+    started: bool,
+    gates: usize,
+    outs: usize,
+    astray: bool,
+    count: usize,
+    bits: usize,
+) -> usize
     ensures { λ r. ⌜ r ≡ lowest ((3 when leb 96 gates) ∷ (4 when (not started || ltb 0 outs)) ∷ (6 when astray) ∷ (7 when not (shape count bits)) ∷ []) ⌝ }
 {
     if 96 <= gates {
@@ -129,4 +164,25 @@ fn out_number(started: bool, outs: usize, astray: bool) -> usize
         return 4;
     }
     if astray { 6 } else { 0 }
+}
+
+fn wire_value(values: &[u8; 128], w: Wire) -> u8
+    requires { ⌜ noNode 128 w ≡ false ⌝ }
+    ensures { λ r. ⌜ r ≡ wireBit (now (values .entry)) w ⌝ }
+{
+    match w {
+        Wire::Const(b) => b,
+        Wire::Node(id) => values[id],
+    }
+}
+
+// The bit of a gate whose wires have the bits l and r.
+fn answer(g: Gate, l: u8, r: u8) -> u8
+    requires { ⌜ (l ≤ 1) × (r ≤ 1) ⌝ }
+    ensures { λ b. ⌜ b ≡ getD (gateOf g .bits) (if eqb (g .arity) 1 then l else 2 * l + r) 0 ⌝ }
+{
+    if g.arity == 1 {
+        return g.bits[l as usize];
+    }
+    g.bits[2 * (l as usize) + (r as usize)]
 }

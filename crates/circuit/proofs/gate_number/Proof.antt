@@ -40,12 +40,12 @@ returns-6 c = simp (lt-leb _ _ (c .before .before .before .before .before .if1 .
 -- src/lib.rt:117:9
 returns-7 : tie.Need-returns-7
 unfolding lowest shape
-returns-7 c = simp (lt-leb _ _ (c .before .before .before .before .before .before .if1 .left), c .before .before .before .before .before .if2 .left, le-ltb _ _ (c .before .before .before .before .if3 .left), c .before .before .before .if4 .left, ne-eqb _ _ (c .before .before .if5 .left), c .before .if7 .taken, eq-eqb _ _ (c .if8 .taken))
+returns-7 c = simp (lt-leb _ _ (c .before .before .before .before .before .before .if1 .left), c .before .before .before .before .before .if2 .left, le-ltb _ _ (c .before .before .before .before .if3 .left), c .before .before .before .if4 .left, c .before .if7 .taken, eq-eqb _ _ (c .if8 .taken))
 
 -- src/lib.rt:117:9
 returns-8 : tie.Need-returns-8
 unfolding lowest shape
-returns-8 c = simp (lt-leb _ _ (c .before .before .before .before .before .before .if1 .left), c .before .before .before .before .before .if2 .left, le-ltb _ _ (c .before .before .before .before .if3 .left), c .before .before .before .if4 .left, ne-eqb _ _ (c .before .before .if5 .left), c .before .if7 .taken, ne-eqb _ _ (c .if8 .left))
+returns-8 c = simp (lt-leb _ _ (c .before .before .before .before .before .before .if1 .left), c .before .before .before .before .before .if2 .left, le-ltb _ _ (c .before .before .before .before .if3 .left), c .before .before .before .if4 .left, c .before .if7 .taken, ne-eqb _ _ (c .if8 .left))
 
 -- src/lib.rt:98:1
 returns-9 : tie.Need-returns-9
