@@ -7,4 +7,7 @@ pub mod Many
 pub mod Exactly
 pub mod Run
 pub mod Chain
+pub mod Number
+pub mod Capped
+pub mod Wire
 pub mod Name
