@@ -18,10 +18,11 @@ use Rattle.rules.specs.Circuit.{Name, Gate, Output}
 use Rattle.rules.specs.CircuitText.{CircuitLine, FbsLine, InLine, GateLine, OutLine, Prefix, inLimits, some?, listed, nodeCount, noNode, anyNoNode, matching, conditions, withLine}
 use Rattle.rules.specs.Form.{Condition, _when_}
 use Rattle.text.specs.Cap.{cap-table, cap-ten, cap-small}
+use Rattle.text.specs.Wire.{capWire}
 use Rattle.text.specs.Judged.{lowest, unmet}
 use Rattle.circuit.specs.declared.Wires.{Wires}
 use Rattle.circuit.specs.View.{twoWires}
-use Rattle.circuit.specs.Wires.{capWire, noWires, withWire, withWires, shape, cap-noNode, astray-is, shape-is, long-unmatched}
+use Rattle.circuit.specs.Wires.{noWires, withWire, withWires, shape, cap-noNode, astray-is, shape-is, long-unmatched}
 
 pub data Brief : Type 0 where
   FbsBrief : Settings → Brief

@@ -1,5 +1,6 @@
 -- What the code keeps of a circuit's text, and how that stands for the definitions of crates/rules.
 pub mod Wires
+pub mod WiresRead
 pub mod Brief
 pub mod View
 pub mod Run

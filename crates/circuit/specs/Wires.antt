@@ -12,12 +12,8 @@ use Rattle.laws.specs.Test.{if_then_else_, lt-or-le}
 use Rattle.rules.specs.declared.Wire.{Wire}
 use Rattle.rules.specs.declared.Wire.the-variants.{Const, Node}
 use Rattle.rules.specs.CircuitText.{noNode, anyNoNode, matching}
+use Rattle.text.specs.Wire.{capWire}
 use Rattle.circuit.specs.declared.Wires.{Wires}
-
--- The code keeps a node's number up to 65536, which is no circuit's node.
-unfoldable pub capWire : Wire → Wire
-capWire (Const b) = Const b
-capWire (Node i) = Node (min 65536 i)
 
 unfoldable pub noWires : Wires
 noWires = record { count = 0; left = Const 0; right = Const 0; astray = false }

@@ -4,17 +4,23 @@ ghost use mathlib.Core.Bool.{false, _&&_, _||_, not};
 ghost use mathlib.Core.List.{[], _∷_};
 ghost use Prim.Native.Nat.{_+_, _*_, _≤_};
 ghost use lib.Dec.{leb, ltb, eqb};
-ghost use lib.ListN.{getD};
+ghost use lib.ListN.{length, getD, drop};
 ghost use Rattle.laws.specs.Test.{if_then_else_};
 ghost use Rattle.rules.specs.Builder.{tableLimits};
 ghost use Rattle.rules.specs.CircuitText.{noNode, inLimits};
 ghost use Rattle.rules.specs.Form.{_when_};
 ghost use Rattle.rules.specs.Circuit.{wireBit};
+ghost use Rattle.text.specs.Capped.{capped};
 ghost use Rattle.text.specs.Judged.{lowest};
+ghost use Rattle.text.specs.Reads.{Reads};
+ghost use Rattle.text.specs.Wire.{capWire, wireTaken, wireEnd};
 ghost use Rattle.circuit.specs.View.{gateOf};
-ghost use Rattle.circuit.specs.Wires.{withWire, shape};
+ghost use Rattle.circuit.specs.Wires.{noWires, withWire, shape};
+ghost use Rattle.circuit.specs.WiresRead.{spacedWire, wiresTaken, wiresFrom};
 use rules::Settings;
 use rules::Wire;
+use text::Found;
+use text::WireRead;
 
 // What is kept of a gate's wires: how many (3 for more), the first two, and whether one of them goes to no earlier node.
 pub struct Wires {
@@ -70,6 +76,45 @@ fn with_wire(n: usize, v: Wires, w: Wire) -> Wires
         left,
         right,
         astray,
+    }
+}
+
+// A wire behind a space, from `at` on.
+fn spaced_wire(s: &[u8], at: usize) -> WireRead
+    requires { ⌜ at ≤ length (now s) ⌝ }
+    ensures { λ r. ⌜ Reads (length (now (s .entry))) (wireTaken (now (s .entry)) r) (wireEnd r) (capped capWire (spacedWire (drop at (now (s .entry))))) ⌝ }
+{
+    let Found::At(a) = text::read_word(s, at, b" ") else {
+        return WireRead::Nothing;
+    };
+    text::read_wire(s, a)
+}
+
+// The wires of a gate, and where they end.
+struct WiresRead {
+    wires: Wires,
+    end: usize,
+}
+
+// As many wires as there are from `at` on, of a gate after n nodes.
+fn read_wires(s: &[u8], at: usize, n: usize) -> WiresRead
+    requires { ⌜ at ≤ length (now s) ⌝ }
+    ensures { λ r. ⌜ Reads (length (now (s .entry))) (wiresTaken (now (s .entry)) r) (r .end) (wiresFrom n (now (s .entry)) noWires at) ⌝ }
+{
+    let mut v = Wires {
+        count: 0,
+        left: Wire::Const(0),
+        right: Wire::Const(0),
+        astray: false,
+    };
+    let mut i = at;
+    loop {
+        let next = spaced_wire(s, i);
+        let WireRead::At(w, e) = next else {
+            return WiresRead { wires: v, end: i };
+        };
+        v = with_wire(n, v, w);
+        i = e;
     }
 }
 
