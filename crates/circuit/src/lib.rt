@@ -7,16 +7,18 @@ ghost use lib.Dec.{leb, ltb, eqb};
 ghost use lib.ListN.{length, getD, drop};
 ghost use Rattle.laws.specs.Test.{if_then_else_};
 ghost use Rattle.rules.specs.Builder.{tableLimits};
-ghost use Rattle.rules.specs.CircuitText.{noNode, inLimits};
+ghost use Rattle.rules.specs.CircuitText.{noNode, policy, tables};
 ghost use Rattle.rules.specs.Form.{_when_};
 ghost use Rattle.rules.specs.Circuit.{wireBit};
 ghost use Rattle.text.specs.Capped.{capped};
 ghost use Rattle.text.specs.Judged.{lowest};
 ghost use Rattle.text.specs.Reads.{Reads};
 ghost use Rattle.text.specs.Wire.{capWire, wireTaken, wireEnd};
+ghost use Rattle.circuit.specs.Settings.{policyTaken, policyEnd, tablesTaken, tablesEnd};
 ghost use Rattle.circuit.specs.View.{gateOf};
 ghost use Rattle.circuit.specs.Wires.{noWires, withWire, shape};
 ghost use Rattle.circuit.specs.WiresRead.{spacedWire, wiresTaken, wiresFrom};
+use rules::Policy;
 use rules::Settings;
 use rules::Wire;
 use text::Found;
@@ -77,6 +79,47 @@ fn with_wire(n: usize, v: Wires, w: Wire) -> Wires
         right,
         astray,
     }
+}
+
+// POLICY, and where it ends.
+enum PolicyRead {
+    At(Policy, usize),
+    Nothing,
+}
+
+fn read_policy(s: &[u8], at: usize) -> PolicyRead
+    requires { ⌜ at ≤ length (now s) ⌝ }
+    ensures { λ r. ⌜ Reads (length (now (s .entry))) (policyTaken (now (s .entry)) r) (policyEnd r) (policy (drop at (now (s .entry)))) ⌝ }
+{
+    if let Found::At(e) = text::read_word(s, at, b"basic") {
+        return PolicyRead::At(Policy::Basic, e);
+    }
+    if let Found::At(e) = text::read_word(s, at, b"naive") {
+        return PolicyRead::At(Policy::Naive, e);
+    }
+    let Found::At(e) = text::read_word(s, at, b"span") else {
+        return PolicyRead::Nothing;
+    };
+    PolicyRead::At(Policy::Span, e)
+}
+
+// TABLES, whether there may be many, and where it ends.
+enum TablesRead {
+    At(bool, usize),
+    Nothing,
+}
+
+fn read_tables(s: &[u8], at: usize) -> TablesRead
+    requires { ⌜ at ≤ length (now s) ⌝ }
+    ensures { λ r. ⌜ Reads (length (now (s .entry))) (tablesTaken (now (s .entry)) r) (tablesEnd r) (tables (drop at (now (s .entry)))) ⌝ }
+{
+    if let Found::At(e) = text::read_word(s, at, b"one") {
+        return TablesRead::At(false, e);
+    }
+    let Found::At(e) = text::read_word(s, at, b"many") else {
+        return TablesRead::Nothing;
+    };
+    TablesRead::At(true, e)
 }
 
 // A wire behind a space, from `at` on.
