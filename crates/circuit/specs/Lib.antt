@@ -3,5 +3,6 @@ pub mod Settings
 pub mod Wires
 pub mod WiresRead
 pub mod Brief
+pub mod Line
 pub mod View
 pub mod Run

@@ -1,7 +1,7 @@
 -- A gate's wires read one after another.
 use mathlib.Core.Path.{_≡_, refl, sym, ap, _∙_}
 use mathlib.Core.List.{List, [], _∷_}
-use mathlib.Core.Option.{Option, none, some}
+use mathlib.Core.Option.{Option, none, some, Option·some-injective, Option·none-ne-some}
 use Prim.Native.Nat.{ℕ, _<_, _≤_}
 use native.Mathlib.Omega.{arith}
 use lib.ListN.{length, drop, length-drop}
@@ -36,6 +36,19 @@ onto-cons : (n : ℕ) (v : Wires) (u : Wire) (o : Option (Piece (List Wire))) �
 unfolding onto onward withWires
 onto-cons n v u none = refl
 onto-cons n v u (some p) = refl
+
+-- the wires themselves, where what they come to is known
+pub wires-exact : (n : ℕ) (s : List ℕ) (v : Wires) (i : ℕ) {u : Wires} {x : List ℕ} → some (record { value = u; rest = x }) ≡ wiresFrom n s v i
+    → (ws : List Wire) × (many spacedWire (drop i s) ≡ some (record { value = ws; rest = x })) × (u ≡ withWires n v ws)
+unfolding wiresFrom onto
+wires-exact n s v i {u} {x} = by (many spacedWire (drop i s))
+  where
+    by : (o : Option (Piece (List Wire))) → some (record { value = u; rest = x }) ≡ onto n v o
+        → (ws : List Wire) × (o ≡ some (record { value = ws; rest = x })) × (u ≡ withWires n v ws)
+    by none e = absurd (Option·none-ne-some _ (sym e))
+    by (some p) e =
+        let q = Option·some-injective _ _ e in
+        (p .value, ap (λ y. some (record { value = p .value; rest = y })) (sym (ap (λ t. t .rest) q)), ap (λ t. t .value) q)
 
 module _ (n : ℕ) (s : List ℕ) (v : Wires) (i : ℕ) where
   pub wires-done : capped capWire (spacedWire (drop i s)) ≡ none → wiresFrom n s v i ≡ some (record { value = v; rest = drop i s })

@@ -7,13 +7,14 @@ ghost use lib.Dec.{leb, ltb, eqb};
 ghost use lib.ListN.{length, getD, drop};
 ghost use Rattle.laws.specs.Test.{if_then_else_};
 ghost use Rattle.rules.specs.Builder.{tableLimits};
-ghost use Rattle.rules.specs.CircuitText.{noNode, policy, tables};
+ghost use Rattle.rules.specs.CircuitText.{noNode, policy, tables, gateLine};
 ghost use Rattle.rules.specs.Form.{_when_};
 ghost use Rattle.rules.specs.Circuit.{wireBit};
 ghost use Rattle.text.specs.Capped.{capped};
 ghost use Rattle.text.specs.Judged.{lowest};
 ghost use Rattle.text.specs.Reads.{Reads};
 ghost use Rattle.text.specs.Wire.{capWire, wireTaken, wireEnd};
+ghost use Rattle.circuit.specs.Line.{briefed, gateTaken, gateEnd, BitsIn};
 ghost use Rattle.circuit.specs.Settings.{policyTaken, policyEnd, tablesTaken, tablesEnd};
 ghost use Rattle.circuit.specs.View.{gateOf};
 ghost use Rattle.circuit.specs.Wires.{noWires, withWire, shape};
@@ -159,6 +160,38 @@ fn read_wires(s: &[u8], at: usize, n: usize) -> WiresRead
         v = with_wire(n, v, w);
         i = e;
     }
+}
+
+// A gate's line: where its bits start and end, its wires, and where the line ends.
+enum GateRead {
+    At(usize, usize, Wires, usize),
+    Nothing,
+}
+
+fn read_gate(s: &[u8], at: usize, n: usize) -> GateRead
+    requires { ⌜ at ≤ length (now s) ⌝ }
+    ensures { λ r. ⌜ Reads (length (now (s .entry))) (gateTaken (now (s .entry)) r) (gateEnd r) (briefed n (gateLine (drop at (now (s .entry))))) ⌝ }
+    ensures { λ r. ⌜ BitsIn (length (now (s .entry))) r ⌝ }
+{
+    let Found::At(a) = text::read_word(s, at, b"(gate ") else {
+        return GateRead::Nothing;
+    };
+    let Found::At(b) = text::read_name(s, a) else {
+        return GateRead::Nothing;
+    };
+    let Found::At(d) = text::read_word(s, b, b" ") else {
+        return GateRead::Nothing;
+    };
+    let Found::At(e) = text::read_bits(s, d) else {
+        return GateRead::Nothing;
+    };
+    let w = read_wires(s, e, n);
+    let v = w.wires;
+    let z = w.end;
+    let Found::At(last) = text::read_word(s, z, b")\n") else {
+        return GateRead::Nothing;
+    };
+    GateRead::At(d, e, v, last)
 }
 
 // P from 2 to 16, M from P to 2P.
