@@ -10,4 +10,7 @@ pub mod Chain
 pub mod Number
 pub mod Capped
 pub mod Wire
+pub mod Limit
+pub mod Signed
+pub mod Forms
 pub mod Name
