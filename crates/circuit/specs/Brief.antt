@@ -21,6 +21,7 @@ use Rattle.text.specs.Cap.{cap-table, cap-ten, cap-small}
 use Rattle.text.specs.Wire.{capWire}
 use Rattle.text.specs.Judged.{lowest, unmet}
 use Rattle.circuit.specs.declared.Wires.{Wires}
+use Rattle.circuit.specs.Settings.{capSettings}
 use Rattle.circuit.specs.View.{twoWires}
 use Rattle.circuit.specs.Wires.{noWires, withWire, withWires, shape, cap-noNode, astray-is, shape-is, long-unmatched}
 
@@ -29,10 +30,6 @@ pub data Brief : Type 0 where
   InBrief : Name → Brief
   GateBrief : List ℕ → Wires → Brief
   OutBrief : Name → Wire → Brief
-
--- P, M and T are kept up to 65536.
-unfoldable pub capSettings : Settings → Settings
-capSettings s = record { p = min 65536 (s .p); m = min 65536 (s .m); t = min 65536 (s .t); norm = s .norm; policy = s .policy; many = s .many }
 
 -- A line after n nodes.
 unfoldable pub brief : ℕ → CircuitLine → Brief

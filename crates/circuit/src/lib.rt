@@ -2,12 +2,12 @@
 ghost use mathlib.Core.Path.{_≡_};
 ghost use mathlib.Core.Bool.{false, _&&_, _||_, not};
 ghost use mathlib.Core.List.{[], _∷_};
-ghost use Prim.Native.Nat.{_+_, _*_, _≤_};
+ghost use Prim.Native.Nat.{ℕ, _+_, _*_, _≤_};
 ghost use lib.Dec.{leb, ltb, eqb};
 ghost use lib.ListN.{length, getD, drop};
 ghost use Rattle.laws.specs.Test.{if_then_else_};
 ghost use Rattle.rules.specs.Builder.{tableLimits};
-ghost use Rattle.rules.specs.CircuitText.{noNode, policy, tables, gateLine};
+ghost use Rattle.rules.specs.CircuitText.{noNode, policy, tables, fbsLine, gateLine};
 ghost use Rattle.rules.specs.Form.{_when_};
 ghost use Rattle.rules.specs.Circuit.{wireBit};
 ghost use Rattle.text.specs.Capped.{capped};
@@ -15,14 +15,17 @@ ghost use Rattle.text.specs.Judged.{lowest};
 ghost use Rattle.text.specs.Reads.{Reads};
 ghost use Rattle.text.specs.Wire.{capWire, wireTaken, wireEnd};
 ghost use Rattle.circuit.specs.Line.{briefed, gateTaken, gateEnd, BitsIn};
-ghost use Rattle.circuit.specs.Settings.{policyTaken, policyEnd, tablesTaken, tablesEnd};
+ghost use Rattle.circuit.specs.Settings.{policyTaken, policyEnd, tablesTaken, tablesEnd, fbsTail, tailTaken, tailEnd, capSettings, fbsTaken, fbsEnd};
 ghost use Rattle.circuit.specs.View.{gateOf};
 ghost use Rattle.circuit.specs.Wires.{noWires, withWire, shape};
 ghost use Rattle.circuit.specs.WiresRead.{spacedWire, wiresTaken, wiresFrom};
+use rules::Limit;
 use rules::Policy;
 use rules::Settings;
 use rules::Wire;
 use text::Found;
+use text::LimitRead;
+use text::Number;
 use text::WireRead;
 
 // What is kept of a gate's wires: how many (3 for more), the first two, and whether one of them goes to no earlier node.
@@ -121,6 +124,74 @@ fn read_tables(s: &[u8], at: usize) -> TablesRead
         return TablesRead::Nothing;
     };
     TablesRead::At(true, e)
+}
+
+// NORM, POLICY and TABLES, and where the line ends.
+enum TailRead {
+    At(Limit, Policy, bool, usize),
+    Nothing,
+}
+
+fn read_tail(s: &[u8], at: usize) -> TailRead
+    requires { ⌜ at ≤ length (now s) ⌝ }
+    ensures { λ r. ⌜ ((p m t : ℕ) → Reads (length (now (s .entry))) (tailTaken p m t (now (s .entry)) r) (tailEnd r) (fbsTail p m t (drop at (now (s .entry))))) ⌝ }
+{
+    let LimitRead::At(l, a) = text::read_norm(s, at) else {
+        return TailRead::Nothing;
+    };
+    let Found::At(b) = text::read_word(s, a, b" ") else {
+        return TailRead::Nothing;
+    };
+    let PolicyRead::At(q, d) = read_policy(s, b) else {
+        return TailRead::Nothing;
+    };
+    let Found::At(e) = text::read_word(s, d, b" ") else {
+        return TailRead::Nothing;
+    };
+    let TablesRead::At(many, f) = read_tables(s, e) else {
+        return TailRead::Nothing;
+    };
+    let Found::At(last) = text::read_word(s, f, b")\n") else {
+        return TailRead::Nothing;
+    };
+    TailRead::At(l, q, many, last)
+}
+
+// An `fbs` line, its numbers at most 65536, and where it ends.
+enum FbsRead {
+    At(Settings, usize),
+    Nothing,
+}
+
+fn read_fbs(s: &[u8], at: usize) -> FbsRead
+    requires { ⌜ at ≤ length (now s) ⌝ }
+    ensures { λ r. ⌜ Reads (length (now (s .entry))) (fbsTaken (now (s .entry)) r) (fbsEnd r) (capped capSettings (fbsLine (drop at (now (s .entry))))) ⌝ }
+{
+    let Found::At(a) = text::read_word(s, at, b"(fbs ") else {
+        return FbsRead::Nothing;
+    };
+    let Number::At(p, b) = text::read_number(s, a) else {
+        return FbsRead::Nothing;
+    };
+    let Found::At(d) = text::read_word(s, b, b" ") else {
+        return FbsRead::Nothing;
+    };
+    let Number::At(m, e) = text::read_number(s, d) else {
+        return FbsRead::Nothing;
+    };
+    let Found::At(f) = text::read_word(s, e, b" ") else {
+        return FbsRead::Nothing;
+    };
+    let Number::At(t, g) = text::read_number(s, f) else {
+        return FbsRead::Nothing;
+    };
+    let Found::At(h) = text::read_word(s, g, b" ") else {
+        return FbsRead::Nothing;
+    };
+    let TailRead::At(norm, policy, many, last) = read_tail(s, h) else {
+        return FbsRead::Nothing;
+    };
+    FbsRead::At(Settings { p, m, t, norm, policy, many }, last)
 }
 
 // A wire behind a space, from `at` on.
