@@ -4,5 +4,6 @@ pub mod Wires
 pub mod WiresRead
 pub mod Brief
 pub mod Line
+pub mod LineRead
 pub mod View
 pub mod Run

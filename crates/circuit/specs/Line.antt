@@ -32,6 +32,19 @@ pub briefed-none : (n : ℕ) {o : Option (Piece CircuitLine)} → o ≡ none →
 unfolding briefed
 briefed-none n e = sym (ap (briefed n) e)
 
+pub exact-line : (n : ℕ) {b : Brief} {x : List ℕ} (o : Option (Piece CircuitLine)) → briefed n o ≡ some (record { value = b; rest = x })
+    → (l : CircuitLine) × (o ≡ some (record { value = l; rest = x })) × (b ≡ brief n l)
+unfolding briefed
+exact-line n none e = absurd (Option·none-ne-some _ e)
+exact-line n (some p) e =
+    let q = Option·some-injective _ _ e in
+    (p .value, ap (λ y. some (record { value = p .value; rest = y })) (ap (λ t. t .rest) q), sym (ap (λ t. t .value) q))
+
+pub exact-no-line : (n : ℕ) (o : Option (Piece CircuitLine)) → briefed n o ≡ none → o ≡ none
+unfolding briefed
+exact-no-line n none e = refl
+exact-no-line n (some p) e = absurd (Option·none-ne-some _ (sym e))
+
 -- ---- A gate's line: its bits stand from d up to e.
 
 abbrev pub gateEnd : GateRead → ℕ

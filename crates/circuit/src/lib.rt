@@ -15,6 +15,7 @@ ghost use Rattle.text.specs.Judged.{lowest};
 ghost use Rattle.text.specs.Reads.{Reads};
 ghost use Rattle.text.specs.Wire.{capWire, wireTaken, wireEnd};
 ghost use Rattle.circuit.specs.Line.{briefed, gateTaken, gateEnd, BitsIn};
+ghost use Rattle.circuit.specs.LineRead.{LineIs};
 ghost use Rattle.circuit.specs.Settings.{policyTaken, policyEnd, tablesTaken, tablesEnd, fbsTail, tailTaken, tailEnd, capSettings, fbsTaken, fbsEnd};
 ghost use Rattle.circuit.specs.View.{gateOf};
 ghost use Rattle.circuit.specs.Wires.{noWires, withWire, shape};
@@ -25,7 +26,9 @@ use rules::Settings;
 use rules::Wire;
 use text::Found;
 use text::LimitRead;
+use text::NameRead;
 use text::Number;
+use text::OutRead;
 use text::WireRead;
 
 // What is kept of a gate's wires: how many (3 for more), the first two, and whether one of them goes to no earlier node.
@@ -263,6 +266,34 @@ fn read_gate(s: &[u8], at: usize, n: usize) -> GateRead
         return GateRead::Nothing;
     };
     GateRead::At(d, e, v, last)
+}
+
+// A line: its settings; its name from start to end; its bits from start to end, and its wires; its name, and its wire.
+enum Line {
+    Fbs(Settings),
+    In(usize, usize),
+    Gate(usize, usize, Wires),
+    Out(usize, usize, Wire),
+    Nothing,
+}
+
+// All of s as a line, after n nodes.
+fn read_line(s: &[u8], n: usize) -> Line
+    ensures { λ r. ⌜ LineIs n (now (s .entry)) r ⌝ }
+{
+    if let FbsRead::At(f, e) = read_fbs(s, 0) {
+        return if e == s.len() { Line::Fbs(f) } else { Line::Nothing };
+    }
+    if let NameRead::At(a, b, e) = text::read_in(s, 0) {
+        return if e == s.len() { Line::In(a, b) } else { Line::Nothing };
+    }
+    if let GateRead::At(d, c, v, e) = read_gate(s, 0, n) {
+        return if e == s.len() { Line::Gate(d, c, v) } else { Line::Nothing };
+    }
+    if let OutRead::At(a, b, w, e) = text::read_out(s, 0) {
+        return if e == s.len() { Line::Out(a, b, w) } else { Line::Nothing };
+    }
+    Line::Nothing
 }
 
 // P from 2 to 16, M from P to 2P.
