@@ -98,7 +98,7 @@ limits-small s e =
     let p = leb→le (s .p) 16 (and-right (leb 2 (s .p)) _ (and-left (leb 2 (s .p) && leb (s .p) 16) _ (and-left (leb 2 (s .p) && leb (s .p) 16 && leb (s .p) (s .m)) _ table))) in
     rw (cap-small (s .p) (omega arith), cap-small (s .m) (omega arith), cap-small (s .t) (omega arith))
 
-or-left : (a b : Bool) → (a || b) ≡ false → a ≡ false
+pub or-left : (a b : Bool) → (a || b) ≡ false → a ≡ false
 or-left true b e = e
 or-left false b e = refl
 
@@ -106,7 +106,7 @@ or-right : (a b : Bool) → (a || b) ≡ false → b ≡ false
 or-right true b e = absurd (true≢false e)
 or-right false b e = e
 
-not-false : (b : Bool) → not b ≡ false → b ≡ true
+pub not-false : (b : Bool) → not b ≡ false → b ≡ true
 not-false true e = refl
 not-false false e = absurd (true≢false e)
 

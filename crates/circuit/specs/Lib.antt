@@ -6,4 +6,6 @@ pub mod Brief
 pub mod Line
 pub mod LineRead
 pub mod View
+pub mod Added
+pub mod Took
 pub mod Run

@@ -2,7 +2,7 @@
 ghost use mathlib.Core.Path.{_≡_};
 ghost use mathlib.Core.Bool.{false, _&&_, _||_, not};
 ghost use mathlib.Core.List.{[], _∷_};
-ghost use Prim.Native.Nat.{ℕ, _+_, _*_, _≤_};
+ghost use Prim.Native.Nat.{ℕ, _+_, _*_, _<_, _≤_};
 ghost use lib.Dec.{leb, ltb, eqb};
 ghost use lib.ListN.{length, getD, drop};
 ghost use Rattle.laws.specs.Test.{if_then_else_};
@@ -14,6 +14,7 @@ ghost use Rattle.text.specs.Capped.{capped};
 ghost use Rattle.text.specs.Judged.{lowest};
 ghost use Rattle.text.specs.Reads.{Reads};
 ghost use Rattle.text.specs.Wire.{capWire, wireTaken, wireEnd};
+ghost use Rattle.circuit.specs.Added.{withSettings, withInput, withGate, withOut};
 ghost use Rattle.circuit.specs.Line.{briefed, gateTaken, gateEnd, BitsIn};
 ghost use Rattle.circuit.specs.LineRead.{LineIs};
 ghost use Rattle.circuit.specs.Settings.{policyTaken, policyEnd, tablesTaken, tablesEnd, fbsTail, tailTaken, tailEnd, capSettings, fbsTaken, fbsEnd};
@@ -26,6 +27,7 @@ use rules::Settings;
 use rules::Wire;
 use text::Found;
 use text::LimitRead;
+use text::Name;
 use text::NameRead;
 use text::Number;
 use text::OutRead;
@@ -46,6 +48,23 @@ pub struct Gate {
     pub right: Wire,
     pub bits: [u8; 4],
     pub line: usize,
+}
+
+// An output: its name and its wire.
+pub struct Out {
+    pub name: Name,
+    pub wire: Wire,
+}
+
+// A circuit: its settings, its inputs, its gates and its outputs.
+pub struct Circuit {
+    pub settings: Settings,
+    pub inputs: usize,
+    pub names: [Name; 32],
+    pub gate_count: usize,
+    pub gates: [Gate; 96],
+    pub out_count: usize,
+    pub outs: [Out; 32],
 }
 
 // Whether a wire goes to none of n nodes.
@@ -294,6 +313,53 @@ fn read_line(s: &[u8], n: usize) -> Line
         return if e == s.len() { Line::Out(a, b, w) } else { Line::Nothing };
     }
     Line::Nothing
+}
+
+// What a line makes of the circuit: the lowest number that it meets, or 0 and the circuit with the line.
+struct Step {
+    number: usize,
+    circuit: Circuit,
+}
+
+fn with_settings(c: Circuit, f: Settings) -> Circuit
+    ensures { λ r. ⌜ r ≡ withSettings c f ⌝ }
+{
+    let mut d = c;
+    d.settings = f;
+    d
+}
+
+fn with_input(c: Circuit, name: Name) -> Circuit
+    requires { ⌜ c .inputs < 32 ⌝ }
+    ensures { λ r. ⌜ r ≡ withInput c name ⌝ }
+{
+    let mut d = c;
+    let k = d.inputs;
+    d.names[k] = name;
+    d.inputs = k + 1;
+    d
+}
+
+fn with_gate(c: Circuit, gate: Gate) -> Circuit
+    requires { ⌜ c .«gate_count» < 96 ⌝ }
+    ensures { λ r. ⌜ r ≡ withGate c gate ⌝ }
+{
+    let mut d = c;
+    let k = d.gate_count;
+    d.gates[k] = gate;
+    d.gate_count = k + 1;
+    d
+}
+
+fn with_out(c: Circuit, out: Out) -> Circuit
+    requires { ⌜ c .«out_count» < 32 ⌝ }
+    ensures { λ r. ⌜ r ≡ withOut c out ⌝ }
+{
+    let mut d = c;
+    let k = d.out_count;
+    d.outs[k] = out;
+    d.out_count = k + 1;
+    d
 }
 
 // P from 2 to 16, M from P to 2P.
