@@ -5,6 +5,7 @@ pub mod WiresRead
 pub mod Brief
 pub mod Line
 pub mod LineRead
+pub mod Bits
 pub mod View
 pub mod Added
 pub mod Took

@@ -1,9 +1,9 @@
 -- Lines as the code reads them: where names and bits stand, and what is kept of the rest.
 use mathlib.Core.Path.{_≡_, refl, sym, ap, subst, _∙_}
 use mathlib.Core.Bool.{Bool, true, false}
-use mathlib.Core.List.{List, [], _∷_}
+use mathlib.Core.List.{List}
 use mathlib.Core.Option.{Option, none, some, Option·some-injective, Option·none-ne-some}
-use Prim.Native.Nat.{ℕ, suc, _-_, _≤_}
+use Prim.Native.Nat.{ℕ, _-_, _≤_}
 use native.Mathlib.Omega.{arith}
 use lib.Dec.{leb→le}
 use lib.ListN.{length, take, drop, length-take, length-drop}
@@ -15,6 +15,7 @@ use Rattle.text.specs.Reads.{Reads}
 use Rattle.circuit.specs.declared.GateRead.{GateRead}
 use Rattle.circuit.specs.declared.GateRead.the-variants.{At as GateAt, Nothing as NoGate}
 use Rattle.circuit.specs.declared.Wires.{Wires}
+use Rattle.circuit.specs.Bits.{bits-length}
 use Rattle.circuit.specs.Brief.{Brief, GateBrief, brief}
 use Rattle.circuit.specs.Wires.{noWires, withWires}
 
@@ -62,11 +63,6 @@ gate-brief n b ws e = ap (GateBrief b) e
 abbrev pub BitsIn : ℕ → GateRead → Type 0
 BitsIn k (GateAt d e v z) = (d ≤ e) × (e ≤ k)
 BitsIn k NoGate = Unit {0}
-
-pub bits-length : (w : List ℕ) → length (bitsFrom w) ≡ length w
-unfolding bitsFrom
-bits-length [] = refl
-bits-length (b ∷ w) = ap suc (bits-length w)
 
 some-bits : (l w x : List ℕ) → bits l ≡ some (record { value = w; rest = x }) → 1 ≤ length w
 unfolding bits runOf isBits onward

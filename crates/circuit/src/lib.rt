@@ -2,22 +2,26 @@
 ghost use mathlib.Core.Path.{_≡_};
 ghost use mathlib.Core.Bool.{false, _&&_, _||_, not};
 ghost use mathlib.Core.List.{[], _∷_};
-ghost use Prim.Native.Nat.{ℕ, _+_, _*_, _<_, _≤_};
+ghost use Prim.Native.Nat.{ℕ, _+_, _*_, _-_, _<_, _≤_};
 ghost use lib.Dec.{leb, ltb, eqb};
-ghost use lib.ListN.{length, getD, drop};
+ghost use lib.ListN.{length, getD, take, drop};
 ghost use Rattle.laws.specs.Test.{if_then_else_};
 ghost use Rattle.rules.specs.Builder.{tableLimits};
 ghost use Rattle.rules.specs.CircuitText.{noNode, policy, tables, fbsLine, gateLine};
 ghost use Rattle.rules.specs.Form.{_when_};
 ghost use Rattle.rules.specs.Circuit.{wireBit};
 ghost use Rattle.text.specs.Capped.{capped};
+ghost use Rattle.text.specs.Forms.{Named};
 ghost use Rattle.text.specs.Judged.{lowest};
 ghost use Rattle.text.specs.Reads.{Reads};
 ghost use Rattle.text.specs.Wire.{capWire, wireTaken, wireEnd};
 ghost use Rattle.circuit.specs.Added.{withSettings, withInput, withGate, withOut};
+ghost use Rattle.circuit.specs.Bits.{bitsAt};
+ghost use Rattle.circuit.specs.Brief.{FbsBrief, InBrief, GateBrief, OutBrief};
 ghost use Rattle.circuit.specs.Line.{briefed, gateTaken, gateEnd, BitsIn};
 ghost use Rattle.circuit.specs.LineRead.{LineIs};
 ghost use Rattle.circuit.specs.Settings.{policyTaken, policyEnd, tablesTaken, tablesEnd, fbsTail, tailTaken, tailEnd, capSettings, fbsTaken, fbsEnd};
+ghost use Rattle.circuit.specs.Took.{Ready, Took};
 ghost use Rattle.circuit.specs.View.{gateOf};
 ghost use Rattle.circuit.specs.Wires.{noWires, withWire, shape};
 ghost use Rattle.circuit.specs.WiresRead.{spacedWire, wiresTaken, wiresFrom};
@@ -453,6 +457,91 @@ fn out_number(started: bool, outs: usize, astray: bool) -> usize
         return 4;
     }
     if astray { 6 } else { 0 }
+}
+
+fn bit_of(b: u8) -> u8
+    ensures { λ r. ⌜ r ≡ b - 48 ⌝ }
+{
+    if b < b'0' { 0 } else { b - b'0' }
+}
+
+// The bits that stand in s from d up to e.
+fn bits_of(s: &[u8], d: usize, e: usize) -> [u8; 4]
+    requires { ⌜ (d ≤ e) × (e ≤ length (now s)) × (e ≤ d + 4) ⌝ }
+    ensures { λ r. ⌜ take (e - d) r ≡ bitsAt (now (s .entry)) d (e - d) ⌝ }
+{
+    let mut bits = [0u8; 4];
+    let mut i = 0;
+    while i < e - d {
+        bits[i] = bit_of(s[d + i]);
+        i += 1;
+    }
+    bits
+}
+
+fn take_fbs(c: Circuit, line: usize, f: Settings) -> Step
+    requires { ⌜ Ready line c ⌝ }
+    ensures { λ r. ⌜ Took line c (FbsBrief f) r ⌝ }
+{
+    let within = is_within(f.p, f.m);
+    let number = fbs_number(line != 1, within, f.t);
+    let circuit = with_settings(c, f);
+    Step { number, circuit }
+}
+
+fn take_in(c: Circuit, line: usize, s: &[u8], a: usize, b: usize) -> Step
+    requires { ⌜ Ready line c ⌝ }
+    requires { ⌜ Named (length (now s)) a b ⌝ }
+    ensures { λ r. ⌜ Took line c (InBrief (take (b - a) (drop a (now (s .entry))))) r ⌝ }
+{
+    let name = text::name_of(s, a, b);
+    let names = c.names;
+    let repeated = text::is_listed(names, c.inputs, name);
+    let number = in_number(line != 1, c.inputs, c.gate_count, c.out_count, repeated);
+    if number != 0 {
+        return Step { number, circuit: c };
+    }
+    let circuit = with_input(c, name);
+    Step { number: 0, circuit }
+}
+
+fn take_gate(c: Circuit, line: usize, s: &[u8], d: usize, e: usize, v: Wires) -> Step
+    requires { ⌜ Ready line c ⌝ }
+    requires { ⌜ (d ≤ e) × (e ≤ length (now s)) ⌝ }
+    ensures { λ r. ⌜ Took line c (GateBrief (bitsAt (now (s .entry)) d (e - d)) v) r ⌝ }
+{
+    let number = gate_number(line != 1, c.gate_count, c.out_count, v.astray, v.count, e - d);
+    if number != 0 {
+        return Step { number, circuit: c };
+    }
+    let bits = bits_of(s, d, e);
+    let left = v.left;
+    let right = v.right;
+    let gate = Gate {
+        arity: v.count,
+        left,
+        right,
+        bits,
+        line,
+    };
+    let circuit = with_gate(c, gate);
+    Step { number: 0, circuit }
+}
+
+fn take_out(c: Circuit, line: usize, s: &[u8], a: usize, b: usize, wire: Wire) -> Step
+    requires { ⌜ Ready line c ⌝ }
+    requires { ⌜ Named (length (now s)) a b ⌝ }
+    ensures { λ r. ⌜ Took line c (OutBrief (take (b - a) (drop a (now (s .entry)))) wire) r ⌝ }
+{
+    let astray = is_astray(c.inputs + c.gate_count, wire);
+    let number = out_number(line != 1, c.out_count, astray);
+    if number != 0 {
+        return Step { number, circuit: c };
+    }
+    let name = text::name_of(s, a, b);
+    let out = Out { name, wire };
+    let circuit = with_out(c, out);
+    Step { number: 0, circuit }
 }
 
 fn wire_value(values: &[u8; 128], w: Wire) -> u8
