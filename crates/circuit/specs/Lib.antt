@@ -9,4 +9,5 @@ pub mod Bits
 pub mod View
 pub mod Added
 pub mod Took
+pub mod Reading
 pub mod Run

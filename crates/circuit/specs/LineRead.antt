@@ -1,5 +1,5 @@
 -- A whole line: one of the four forms, and nothing behind it.
-use mathlib.Core.Path.{_≡_, refl, sym, ap, _∙_}
+use mathlib.Core.Path.{_≡_, refl, sym, ap, subst, _∙_}
 use mathlib.Core.List.{List}
 use mathlib.Core.Option.{Option, none, some}
 use Prim.Native.Nat.{ℕ, _-_, _≤_}
@@ -162,3 +162,11 @@ module _ (n : ℕ) (s : List ℕ) where
                   (second _ (stop _ noIn) (second _ (exact-no-line n _ noGate) (stop _ (exact-none capOutput _ h))))));
               placed = tt;
             }
+
+-- What is known of a line once the code takes it apart: it is q.
+module _ (n : ℕ) (s : List ℕ) {r q : Line} (h : LineIs n s r) (e : r ≡ q) where
+  pub line-same : lineOf s q ≡ kept n (circuitLine s)
+  line-same = ap (lineOf s) (sym e) ∙ h .same
+
+  pub line-placed : Placed (length s) q
+  line-placed = subst (Placed (length s)) e (h .placed)

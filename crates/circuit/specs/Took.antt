@@ -7,13 +7,13 @@ use Prim.Native.Nat.{ℕ, suc, _+_, _-_, _<_, _≤_}
 use native.Mathlib.Omega.{arith}
 use borrow.Author.Tests.{ne-eqb, eqb-true, leb-false}
 use lib.Dec.{leb, ltb, eqb}
-use lib.ListN.{length, take, drop}
+use lib.ListN.{length, take, drop, replicate, length-replicate}
 use Rattle.laws.specs.Test.{if_then_else_, if-both, isSome, is-T, T-is, and-right}
 use Rattle.rules.specs.declared.Settings.{Settings}
 use Rattle.rules.specs.declared.Wire.{Wire}
 use Rattle.rules.specs.Builder.{tableLimits}
 use Rattle.rules.specs.Circuit as C
-use Rattle.rules.specs.CircuitText.{CircuitLine, Prefix, FbsLine, InLine, GateLine, OutLine, listed, noNode, nodeCount, conditions, withLine, circuitLine}
+use Rattle.rules.specs.CircuitText.{CircuitLine, Prefix, FbsLine, InLine, GateLine, OutLine, listed, noNode, nodeCount, conditions, withLine, nothing}
 use Rattle.rules.specs.Form.{Condition, _when_}
 use Rattle.text.specs.declared.Name.{Name}
 use Rattle.text.specs.Judged.{lowest, unmet}
@@ -27,7 +27,7 @@ use Rattle.circuit.specs.Added.{Sized, withSettings, withInput, withGate
 use Rattle.circuit.specs.Bits.{bitsAt, bits-at-length}
 use Rattle.circuit.specs.Brief.{Brief, FbsBrief, InBrief, GateBrief, OutBrief, briefConditions, brief, brief-conditions, told, brief-told, or-left, not-false}
 use Rattle.circuit.specs.LineRead.{kept}
-use Rattle.circuit.specs.View.{gateOf, outOf, inputsOf, gatesOf, outputsOf, prefixOf, twoWires}
+use Rattle.circuit.specs.View.{firstOf, gateOf, outOf, inputsOf, gatesOf, outputsOf, prefixOf, twoWires}
 use Rattle.circuit.specs.Wires.{shape}
 
 -- Line i is b, after the circuit c.
@@ -268,3 +268,28 @@ module _ (i : ℕ) (c : Circuit) (y : Ready i c) (n : ℕ) (m : n ≡ c .inputs 
   unfolding kept
   took-nothing none e = record { number = refl; next = λ g. absurd (omega arith); sized = y .sized }
   took-nothing (some l) e = absurd (Option·none-ne-some _ e)
+
+-- The circuit before the first line.
+pub record Blank (c : Circuit) : Type 0 where
+  pub none : prefixOf 1 c ≡ nothing
+  pub sized : Sized c
+
+module _ (f : Settings) (n : Name) (g : Gate) (o : Out) where
+  abbrev pub blankOf : Circuit
+  blankOf =
+      record { settings = f; inputs = 0; names = replicate 32 n; «gate_count» = 0; gates = replicate 96 g; «out_count» = 0; outs = replicate 32 o }
+
+  pub blank-is : Blank blankOf
+  unfolding prefixOf nothing inputsOf gatesOf outputsOf firstOf
+  blank-is =
+      record {
+        none = refl;
+        sized = record {
+          names = length-replicate 32 n;
+          gates = length-replicate 96 g;
+          outs = length-replicate 32 o;
+          inputs = omega arith;
+          «gate_count» = omega arith;
+          «out_count» = omega arith;
+        };
+      }

@@ -7,7 +7,7 @@ ghost use lib.Dec.{leb, ltb, eqb};
 ghost use lib.ListN.{length, getD, take, drop};
 ghost use Rattle.laws.specs.Test.{if_then_else_};
 ghost use Rattle.rules.specs.Builder.{tableLimits};
-ghost use Rattle.rules.specs.CircuitText.{noNode, policy, tables, fbsLine, gateLine};
+ghost use Rattle.rules.specs.CircuitText.{noNode, policy, tables, fbsLine, gateLine, circuitLine};
 ghost use Rattle.rules.specs.Form.{_when_};
 ghost use Rattle.rules.specs.Circuit.{wireBit};
 ghost use Rattle.text.specs.Capped.{capped};
@@ -21,7 +21,7 @@ ghost use Rattle.circuit.specs.Brief.{FbsBrief, InBrief, GateBrief, OutB
 ghost use Rattle.circuit.specs.Line.{briefed, gateTaken, gateEnd, BitsIn};
 ghost use Rattle.circuit.specs.LineRead.{LineIs};
 ghost use Rattle.circuit.specs.Settings.{policyTaken, policyEnd, tablesTaken, tablesEnd, fbsTail, tailTaken, tailEnd, capSettings, fbsTaken, fbsEnd};
-ghost use Rattle.circuit.specs.Took.{Ready, Took};
+ghost use Rattle.circuit.specs.Took.{Ready, Took, TookLine, Blank};
 ghost use Rattle.circuit.specs.View.{gateOf};
 ghost use Rattle.circuit.specs.Wires.{noWires, withWire, shape};
 ghost use Rattle.circuit.specs.WiresRead.{spacedWire, wiresTaken, wiresFrom};
@@ -542,6 +542,69 @@ fn take_out(c: Circuit, line: usize, s: &[u8], a: usize, b: usize, wire: Wire) -
     let out = Out { name, wire };
     let circuit = with_out(c, out);
     Step { number: 0, circuit }
+}
+
+// All of s as a line, the circuit being what the lines before it say.
+fn take_line(c: Circuit, line: usize, s: &[u8]) -> Step
+    requires { ⌜ Ready line c ⌝ }
+    ensures { λ r. ⌜ TookLine line c (circuitLine (now (s .entry))) r ⌝ }
+{
+    let l = read_line(s, c.inputs + c.gate_count);
+    match l {
+        Line::Fbs(f) => take_fbs(c, line, f),
+        Line::In(a, b) => take_in(c, line, s, a, b),
+        Line::Gate(d, e, v) => take_gate(c, line, s, d, e, v),
+        Line::Out(a, b, w) => take_out(c, line, s, a, b, w),
+        Line::Nothing => Step {
+            number: 1,
+            circuit: c,
+        },
+    }
+}
+
+// The circuit of no line.
+fn blank() -> Circuit
+    ensures { λ r. ⌜ Blank r ⌝ }
+{
+    let settings = Settings {
+        p: 0,
+        m: 0,
+        t: 0,
+        norm: Limit::Unlimited,
+        policy: Policy::Basic,
+        many: false,
+    };
+    let name = Name {
+        len: 0,
+        bytes: [0u8; 16],
+    };
+    let gate = Gate {
+        arity: 0,
+        left: Wire::Const(0),
+        right: Wire::Const(0),
+        bits: [0u8; 4],
+        line: 0,
+    };
+    let out = Out {
+        name,
+        wire: Wire::Const(0),
+    };
+    Circuit {
+        settings,
+        inputs: 0,
+        names: [name; 32],
+        gate_count: 0,
+        gates: [gate; 96],
+        out_count: 0,
+        outs: [out; 32],
+    }
+}
+
+// What a text says: number 0 and its circuit, or the number and the line of its refusal.
+pub struct Reading {
+    pub number: usize,
+    pub line: usize,
+    pub circuit: Circuit,
 }
 
 fn wire_value(values: &[u8; 128], w: Wire) -> u8
