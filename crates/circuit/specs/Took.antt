@@ -205,8 +205,8 @@ module _ (i : ℕ) (c : Circuit) (y : Ready i c) where
 
   module _ (s : List ℕ) (d e : ℕ) (v : Wires) (k : ℕ) (l : e ≤ length s)
       (g : k ≡ lowest
-          ((3 when leb 96 (c .«gate_count»))
-          ∷ (4 when (not (not (eqb i 1)) || ltb 0 (c .«out_count»))) ∷ (6 when v .astray) ∷ (7 when not (shape (v .count) (e - d))) ∷ [])) where
+      ((3 when leb 96 (c .«gate_count»))
+      ∷ (4 when (not (not (eqb i 1)) || ltb 0 (c .«out_count»))) ∷ (6 when v .astray) ∷ (7 when not (shape (v .count) (e - d))) ∷ [])) where
     number-gate : k ≡ lowest (briefConditions (prefixOf i c) (GateBrief (bitsAt s d (e - d)) v))
     number-gate = g ∙ rw (bits-at-length s d e l) at (gate-number i c (y .sized) (bitsAt s d (e - d)) v)
 
@@ -257,7 +257,7 @@ module _ (i : ℕ) (c : Circuit) (y : Ready i c) (n : ℕ) (m : n ≡ c .inputs 
       let f : b ≡ brief (nodeCount (prefixOf i c)) l = Option·some-injective _ _ e ∙ ap (λ k. brief k l) q in
       let small : nodeCount (prefixOf i c) ≤ 65536 = omega (arith, node-count i c z, z .inputs, z .«gate_count») in
       let number : r .number ≡ lowest (conditions (prefixOf i c) l)
-          = t .number ∙ (ap (λ x. lowest (briefConditions (prefixOf i c) x)) f ∙ ap lowest (brief-conditions (prefixOf i c) l small)) in
+      = t .number ∙ (ap (λ x. lowest (briefConditions (prefixOf i c) x)) f ∙ ap lowest (brief-conditions (prefixOf i c) l small)) in
       record {
         number = number;
         next = λ g. t .next g ∙ ap (withLine i (prefixOf i c)) (ap told f ∙ brief-told (prefixOf i c) l small (sym number ∙ g));

@@ -7,7 +7,7 @@ ghost use lib.Dec.{leb, ltb, eqb};
 ghost use lib.ListN.{length, getD, take, drop};
 ghost use Rattle.laws.specs.Test.{if_then_else_};
 ghost use Rattle.rules.specs.Builder.{tableLimits};
-ghost use Rattle.rules.specs.CircuitText.{noNode, policy, tables, fbsLine, gateLine, circuitLine};
+ghost use Rattle.rules.specs.CircuitText.{noNode, policy, tables, fbsLine, gateLine, circuitLine, readCircuit};
 ghost use Rattle.rules.specs.Form.{_when_};
 ghost use Rattle.rules.specs.Circuit.{wireBit};
 ghost use Rattle.text.specs.Capped.{capped};
@@ -15,11 +15,12 @@ ghost use Rattle.text.specs.Forms.{Named};
 ghost use Rattle.text.specs.Judged.{lowest};
 ghost use Rattle.text.specs.Reads.{Reads};
 ghost use Rattle.text.specs.Wire.{capWire, wireTaken, wireEnd};
-ghost use Rattle.circuit.specs.Added.{withSettings, withInput, withGate, withOut};
+ghost use Rattle.circuit.specs.Added.{Sized, withSettings, withInput, withGate, withOut};
 ghost use Rattle.circuit.specs.Bits.{bitsAt};
 ghost use Rattle.circuit.specs.Brief.{FbsBrief, InBrief, GateBrief, OutBrief};
 ghost use Rattle.circuit.specs.Line.{briefed, gateTaken, gateEnd, BitsIn};
 ghost use Rattle.circuit.specs.LineRead.{LineIs};
+ghost use Rattle.circuit.specs.Reading.{readingOf};
 ghost use Rattle.circuit.specs.Settings.{policyTaken, policyEnd, tablesTaken, tablesEnd, fbsTail, tailTaken, tailEnd, capSettings, fbsTaken, fbsEnd};
 ghost use Rattle.circuit.specs.Took.{Ready, Took, TookLine, Blank};
 ghost use Rattle.circuit.specs.View.{gateOf};
@@ -217,7 +218,17 @@ fn read_fbs(s: &[u8], at: usize) -> FbsRead
     let TailRead::At(norm, policy, many, last) = read_tail(s, h) else {
         return FbsRead::Nothing;
     };
-    FbsRead::At(Settings { p, m, t, norm, policy, many }, last)
+    FbsRead::At(
+        Settings {
+            p,
+            m,
+            t,
+            norm,
+            policy,
+            many,
+        },
+        last,
+    )
 }
 
 // A wire behind a space, from `at` on.
@@ -305,16 +316,32 @@ fn read_line(s: &[u8], n: usize) -> Line
     ensures { λ r. ⌜ LineIs n (now (s .entry)) r ⌝ }
 {
     if let FbsRead::At(f, e) = read_fbs(s, 0) {
-        return if e == s.len() { Line::Fbs(f) } else { Line::Nothing };
+        return if e == s.len() {
+            Line::Fbs(f)
+        } else {
+            Line::Nothing
+        };
     }
     if let NameRead::At(a, b, e) = text::read_in(s, 0) {
-        return if e == s.len() { Line::In(a, b) } else { Line::Nothing };
+        return if e == s.len() {
+            Line::In(a, b)
+        } else {
+            Line::Nothing
+        };
     }
     if let GateRead::At(d, c, v, e) = read_gate(s, 0, n) {
-        return if e == s.len() { Line::Gate(d, c, v) } else { Line::Nothing };
+        return if e == s.len() {
+            Line::Gate(d, c, v)
+        } else {
+            Line::Nothing
+        };
     }
     if let OutRead::At(a, b, w, e) = text::read_out(s, 0) {
-        return if e == s.len() { Line::Out(a, b, w) } else { Line::Nothing };
+        return if e == s.len() {
+            Line::Out(a, b, w)
+        } else {
+            Line::Nothing
+        };
     }
     Line::Nothing
 }
@@ -510,7 +537,14 @@ fn take_gate(c: Circuit, line: usize, s: &[u8], d: usize, e: usize, v: Wires) ->
     requires { ⌜ (d ≤ e) × (e ≤ length (now s)) ⌝ }
     ensures { λ r. ⌜ Took line c (GateBrief (bitsAt (now (s .entry)) d (e - d)) v) r ⌝ }
 {
-    let number = gate_number(line != 1, c.gate_count, c.out_count, v.astray, v.count, e - d);
+    let number = gate_number(
+        line != 1,
+        c.gate_count,
+        c.out_count,
+        v.astray,
+        v.count,
+        e - d,
+    );
     if number != 0 {
         return Step { number, circuit: c };
     }
@@ -605,6 +639,42 @@ pub struct Reading {
     pub number: usize,
     pub line: usize,
     pub circuit: Circuit,
+}
+
+// The circuit that a text describes.
+pub fn read(s: &[u8]) -> Reading
+    ensures { λ r. ⌜ readingOf r ≡ readCircuit (now (s .entry)) ⌝ }
+    ensures { λ r. ⌜ Sized (r .circuit) ⌝ }
+{
+    let mut c = blank();
+    let mut at = 0;
+    let mut line = 1;
+    while at < s.len() {
+        let end = text::line_end(s, at);
+        let next = take_line(c, line, &s[at..end]);
+        if next.number != 0 {
+            return Reading {
+                number: next.number,
+                line,
+                circuit: c,
+            };
+        }
+        c = next.circuit;
+        at = end;
+        line += 1;
+    }
+    if line == 1 {
+        return Reading {
+            number: 4,
+            line,
+            circuit: c,
+        };
+    }
+    Reading {
+        number: 0,
+        line: 0,
+        circuit: c,
+    }
 }
 
 fn wire_value(values: &[u8; 128], w: Wire) -> u8
