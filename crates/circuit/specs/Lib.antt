@@ -10,4 +10,5 @@ pub mod View
 pub mod Added
 pub mod Took
 pub mod Reading
+pub mod Sound
 pub mod Run
