@@ -1,17 +1,20 @@
 // The circuit's text: its lines, the refusals 1 to 7, and a run of the circuit.
 ghost use mathlib.Core.Path.{_≡_};
-ghost use mathlib.Core.Bool.{false, _&&_, _||_, not};
+ghost use mathlib.Core.Bool.{true, false, _&&_, _||_, not};
 ghost use mathlib.Core.List.{[], _∷_};
 ghost use Prim.Native.Nat.{ℕ, _+_, _*_, _-_, _<_, _≤_};
 ghost use lib.Dec.{leb, ltb, eqb};
 ghost use lib.ListN.{length, getD, take, drop};
-ghost use Rattle.laws.specs.Test.{if_then_else_};
+ghost use Rattle.laws.specs.Over.{over};
+
 ghost use Rattle.rules.specs.Builder.{tableLimits};
 ghost use Rattle.rules.specs.CircuitText.{noNode, policy, tables, fbsLine, gateLine, circuitLine, readCircuit};
 ghost use Rattle.rules.specs.Form.{_when_};
-ghost use Rattle.rules.specs.Circuit.{wireBit};
+ghost use Rattle.rules.specs.Runs.{allBits, bitsFor, ran, runCircuit};
+ghost use Rattle.rules.specs.Circuit.{wireBit, gateBit, gateValues};
 ghost use Rattle.text.specs.Capped.{capped};
 ghost use Rattle.text.specs.Forms.{Named};
+ghost use Rattle.text.specs.Gives.{Each};
 ghost use Rattle.text.specs.Judged.{lowest};
 ghost use Rattle.text.specs.Reads.{Reads};
 ghost use Rattle.text.specs.Wire.{capWire, wireTaken, wireEnd};
@@ -21,13 +24,16 @@ ghost use Rattle.circuit.specs.Brief.{FbsBrief, InBrief, GateBrief, OutB
 ghost use Rattle.circuit.specs.Line.{briefed, gateTaken, gateEnd, BitsIn};
 ghost use Rattle.circuit.specs.LineRead.{LineIs};
 ghost use Rattle.circuit.specs.Reading.{readingOf};
+ghost use Rattle.circuit.specs.Run.{padded, Runs, outputBits};
 ghost use Rattle.circuit.specs.Settings.{policyTaken, policyEnd, tablesTaken, tablesEnd, fbsTail, tailTaken, tailEnd, capSettings, fbsTaken, fbsEnd};
+ghost use Rattle.circuit.specs.Sound.{SoundGate, SoundOutput};
 ghost use Rattle.circuit.specs.Took.{Ready, Took, TookLine, Blank};
-ghost use Rattle.circuit.specs.View.{gateOf};
+ghost use Rattle.circuit.specs.View.{gateOf, gatesOf, outputsOf};
 ghost use Rattle.circuit.specs.Wires.{noWires, withWire, shape};
 ghost use Rattle.circuit.specs.WiresRead.{spacedWire, wiresTaken, wiresFrom};
 use rules::Limit;
 use rules::Policy;
+use rules::RunReply;
 use rules::Settings;
 use rules::Wire;
 use text::Found;
@@ -687,13 +693,103 @@ fn wire_value(values: &[u8; 128], w: Wire) -> u8
     }
 }
 
-// The bit of a gate whose wires have the bits l and r.
-fn answer(g: Gate, l: u8, r: u8) -> u8
-    requires { ⌜ (l ≤ 1) × (r ≤ 1) ⌝ }
-    ensures { λ b. ⌜ b ≡ getD (gateOf g .bits) (if eqb (g .arity) 1 then l else 2 * l + r) 0 ⌝ }
+// The bit of a gate: its answer.
+fn gate_value(values: &[u8; 128], g: Gate) -> u8
+    requires { ⌜ SoundGate 128 (gateOf g) ⌝ }
+    requires { ⌜ allBits (now values) ≡ true ⌝ }
+    ensures { λ r. ⌜ r ≡ gateBit (now (values .entry)) (gateOf g) ⌝ }
 {
+    let left = g.left;
+    let l = wire_value(values, left);
     if g.arity == 1 {
         return g.bits[l as usize];
     }
+    let right = g.right;
+    let r = wire_value(values, right);
     g.bits[2 * (l as usize) + (r as usize)]
+}
+
+// The bits of the inputs.
+fn input_values(bits: &[u8]) -> [u8; 128]
+    requires { ⌜ length (now bits) ≤ 128 ⌝ }
+    ensures { λ r. ⌜ r ≡ padded (now (bits .entry)) ⌝ }
+{
+    let mut values = [0u8; 128];
+    let mut i = 0;
+    while i < bits.len() {
+        values[i] = bits[i];
+        i += 1;
+    }
+    values
+}
+
+// The bits of the inputs and the gates.
+fn gate_values(c: Circuit, bits: &[u8]) -> [u8; 128]
+    requires { ⌜ Runs c (now bits) ⌝ }
+    ensures { λ r. ⌜ r ≡ padded (gateValues (now (bits .entry)) (gatesOf c)) ⌝ }
+{
+    let n = c.inputs;
+    let mut values = input_values(bits);
+    let mut i = 0;
+    while i < c.gate_count {
+        let g = c.gates[i];
+        let v = gate_value(&values, g);
+        values[n + i] = v;
+        i += 1;
+    }
+    values
+}
+
+// The bits of the outputs.
+fn put_outputs(c: Circuit, values: &[u8; 128], out: &mut [u8])
+    requires { ⌜ Sized c ⌝ }
+    requires { ⌜ Each (SoundOutput 128) (outputsOf c) ⌝ }
+    requires { ⌜ c .«out_count» ≤ length (now out) ⌝ }
+    ensures { λ r. ⌜ now (out .exit) ≡ over (outputBits (now (values .entry)) (outputsOf c)) (now (out .entry)) ⌝ }
+{
+    let mut i = 0;
+    while i < c.out_count {
+        let o = c.outs[i];
+        let w = o.wire;
+        out[i] = wire_value(values, w);
+        i += 1;
+    }
+}
+
+// Whether there is a bit for each of n inputs.
+fn are_bits_for(n: usize, bits: &[u8]) -> bool
+    ensures { λ r. ⌜ r ≡ bitsFor n (now (bits .entry)) ⌝ }
+{
+    if bits.len() != n {
+        return false;
+    }
+    let mut i = 0;
+    while i < bits.len() {
+        if 1 < bits[i] {
+            return false;
+        }
+        i += 1;
+    }
+    true
+}
+
+// The circuit that a text describes, run on a bit for each input.
+pub fn run_circuit(text: &[u8], bits: &[u8], values: &mut [u8]) -> RunReply
+    ensures { λ r. ⌜ ran r (now (values .exit)) ≡ runCircuit (now (text .entry)) (now (bits .entry)) (now (values .entry)) ⌝ }
+{
+    let reading = read(text);
+    if reading.number != 0 {
+        return RunReply::Unreadable(reading.number, reading.line);
+    }
+    let c = reading.circuit;
+    let n = c.out_count;
+    if !are_bits_for(c.inputs, bits) {
+        return RunReply::BadBits;
+    }
+    if values.len() < n {
+        return RunReply::ShortBuffer;
+    }
+    let all = gate_values(c, bits);
+    put_outputs(c, &all, values);
+    RunReply::Ran(n)
 }
