@@ -12,3 +12,4 @@ pub mod Took
 pub mod Reading
 pub mod Sound
 pub mod Run
+pub mod Entry

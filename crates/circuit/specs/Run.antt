@@ -1,5 +1,5 @@
 -- The run, as the code has it: the nodes' bits stand in an array of 128, with zeros behind them.
-use mathlib.Core.Path.{_≡_, refl, sym, ap, subst, _∙_}
+use mathlib.Core.Path.{_≡_, refl, sym, ap, ap₂, subst, _∙_}
 use mathlib.Core.Bool.{Bool, true, false, _&&_, _||_}
 use mathlib.Core.List.{List, [], _∷_, _++_, map, append-assoc}
 use Prim.Native.Nat.{ℕ, zero, suc, _+_, _*_, _-_, _<_, _≤_}
@@ -230,7 +230,7 @@ sound-take n zero gs s = tt
 sound-take n (suc i) [] s = tt
 sound-take n (suc i) (g ∷ gs) s = (s .0, sound-take (suc n) i gs (s .1))
 
-node-more : (n m : ℕ) (w : Wire) → n ≤ m → noNode n w ≡ false → noNode m w ≡ false
+pub node-more : (n m : ℕ) (w : Wire) → n ≤ m → noNode n w ≡ false → noNode m w ≡ false
 unfolding noNode
 node-more n m (Const b) h e = refl
 node-more n m (Node i) h e = lt-leb m i (omega (arith, leb-false))
@@ -289,6 +289,11 @@ module _ (c : Circuit) (bits : List ℕ) (y : Runs c bits) where
           (padded-set l (c .inputs + i) (gateBit l (getD gs i (gateOf d))) n (omega arith))
 
 -- ---- The outputs.
+
+pub padded-outputs : (l : List ℕ) (os : List C.Output) → outputBits (padded l) os ≡ outputBits l os
+unfolding outputBits
+padded-outputs l [] = refl
+padded-outputs l (o ∷ os) = ap₂ {C = List ℕ} (λ b bs. b ∷ bs) (padded-wire l (o .wire)) (padded-outputs l os)
 
 each-get : {A : Type 0} (Q : A → Type 0) (l : List A) (i : ℕ) (d : A) → Each Q l → i < length l → Q (getD l i d)
 each-get Q [] i d s h = absurd (not-suc-le-zero h)
