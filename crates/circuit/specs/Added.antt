@@ -1,30 +1,18 @@
 -- A line added to a circuit.
-use mathlib.Core.Path.{_≡_, refl, sym, ap, _∙_}
-use mathlib.Core.Bool.{Bool, true, false, _&&_, _||_, not, true≢false}
+use mathlib.Core.Path.{_≡_, refl, ap, _∙_}
 use mathlib.Core.List.{List, [], _∷_, _++_, map}
-use mathlib.Core.Option.{Option, none, some}
 use Prim.Native.Nat.{ℕ, suc, _+_, _<_, _≤_}
 use native.Mathlib.Numerals.{add-one}
 use native.Mathlib.Omega.{arith}
-use borrow.Author.Tests.{ne-eqb, eqb-false}
-use lib.Dec.{leb, ltb, eqb}
 use lib.ListN.{length, take, set, length-set, length-take}
 use lib.Seq.{take-suc-set}
-use Rattle.laws.specs.Test.{if_then_else_, isSome}
 use Rattle.rules.specs.declared.Settings.{Settings}
-use Rattle.rules.specs.declared.Wire.{Wire}
-use Rattle.rules.specs.Circuit as C
-use Rattle.rules.specs.CircuitText.{Prefix, FbsLine, InLine, GateLine, OutLine, listed, noNode, nodeCount, withLine}
-use Rattle.rules.specs.Form.{_when_}
 use Rattle.text.specs.declared.Name.{Name}
-use Rattle.text.specs.Judged.{lowest, unmet}
 use Rattle.text.specs.Names.{nameBytes}
 use Rattle.circuit.specs.declared.Circuit.{Circuit}
 use Rattle.circuit.specs.declared.Gate.{Gate}
 use Rattle.circuit.specs.declared.Out.{Out}
-use Rattle.circuit.specs.declared.Step.{Step}
-use Rattle.circuit.specs.Brief.{Brief, FbsBrief, InBrief, GateBrief, OutBrief, briefConditions, told}
-use Rattle.circuit.specs.View.{firstOf, gateOf, outOf, inputsOf, gatesOf, outputsOf, prefixOf}
+use Rattle.circuit.specs.View.{firstOf, gateOf, outOf, inputsOf, gatesOf, outputsOf}
 
 -- ---- The structs.
 

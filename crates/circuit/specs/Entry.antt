@@ -3,14 +3,14 @@ use mathlib.Core.Path.{_≡_, refl, sym, ap, ap₂, subst, _∙_}
 use mathlib.Core.Bool.{Bool, true, false, not}
 use mathlib.Core.List.{List, [], _∷_}
 use mathlib.Core.Option.{some}
-use Prim.Native.Nat.{ℕ, suc, _+_, _<_, _≤_}
+use Prim.Native.Nat.{ℕ, _<_, _≤_}
 use native.Mathlib.Omega.{arith}
-use borrow.Author.Tests.{eq-eqb, ne-eqb, lt-ltb, le-ltb}
+use borrow.Author.Tests.{ne-eqb, lt-ltb, le-ltb}
 use lib.ListN.{length}
 use Rattle.laws.specs.Over.{over}
 use Rattle.rules.specs.declared.RunReply.the-variants.{Ran, Unreadable, BadBits, ShortBuffer}
 use Rattle.rules.specs.Circuit as C
-use Rattle.rules.specs.CircuitText.{noNode, readCircuit}
+use Rattle.rules.specs.CircuitText.{readCircuit}
 use Rattle.rules.specs.Form as F
 use Rattle.rules.specs.Runs.{ran, bitsFor, runOn, withValues, runCircuit, runCircuitOn}
 use Rattle.text.specs.Gives.{Each}
@@ -21,7 +21,7 @@ use Rattle.circuit.specs.Brief.{not-false}
 use Rattle.circuit.specs.Reading.{readingOf}
 use Rattle.circuit.specs.Run.{padded, Runs, outputBits, padded-outputs, output-count, node-more}
 use Rattle.circuit.specs.Sound.{SoundGates, SoundOutput, read-sound}
-use Rattle.circuit.specs.View.{inputsOf, gatesOf, outputsOf, circuitOf}
+use Rattle.circuit.specs.View.{gatesOf, outputsOf, circuitOf}
 
 outputs-more : (n m : ℕ) (os : List C.Output) → n ≤ m → Each (SoundOutput n) os → Each (SoundOutput m) os
 outputs-more n m [] h s = tt

@@ -6,12 +6,11 @@ use mathlib.Core.Option.{Option, none, some, Option·some-injective, Option·non
 use Prim.Native.Nat.{ℕ, _-_, _≤_}
 use native.Mathlib.Omega.{arith}
 use lib.Dec.{leb→le}
-use lib.ListN.{length, take, drop, length-take, length-drop}
+use lib.ListN.{length, take, drop, length-take}
 use Rattle.laws.specs.Test.{if_then_else_, is-T}
 use Rattle.rules.specs.declared.Wire.{Wire}
 use Rattle.rules.specs.CircuitText.{CircuitLine, GateLine}
 use Rattle.rules.specs.Form.{Piece, give, onward, run, runOf, bits, isBits, isBitByte, bitsFrom}
-use Rattle.text.specs.Reads.{Reads}
 use Rattle.circuit.specs.declared.GateRead.{GateRead}
 use Rattle.circuit.specs.declared.GateRead.the-variants.{At as GateAt, Nothing as NoGate}
 use Rattle.circuit.specs.declared.Wires.{Wires}

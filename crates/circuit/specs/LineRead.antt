@@ -9,8 +9,8 @@ use lib.ListN.{length, take, drop, length-drop}
 use Rattle.rules.specs.declared.Settings.{Settings}
 use Rattle.rules.specs.declared.Wire.{Wire}
 use Rattle.rules.specs.Circuit.{Name, Output}
-use Rattle.rules.specs.CircuitText.{CircuitLine, FbsLine, InLine, GateLine, OutLine, circuitLine, fbsLine, gateLine}
-use Rattle.rules.specs.Form.{Piece, give, onward, either, only, bitsFrom, inLine, outLine}
+use Rattle.rules.specs.CircuitText.{CircuitLine, circuitLine, fbsLine, gateLine}
+use Rattle.rules.specs.Form.{Piece, only, bitsFrom, inLine, outLine}
 use Rattle.text.specs.Capped.{capped, exact-some, exact-none}
 use Rattle.text.specs.Chain.{step, stop, first, second}
 use Rattle.text.specs.Forms.{Named, capOutput}

@@ -1,18 +1,17 @@
 -- The text read line by line.
 use mathlib.Core.Path.{_≡_, refl, sym, ap, _∙_}
-use mathlib.Core.Bool.{Bool, true, false}
-use mathlib.Core.List.{List, [], _∷_, map}
+use mathlib.Core.List.{List}
 use mathlib.Core.Option.{Option, none, some}
-use Prim.Native.Nat.{ℕ, _+_, _-_, _<_, _≤_}
+use Prim.Native.Nat.{ℕ, _+_, _-_, _≤_}
 use native.Mathlib.Omega.{arith}
-use borrow.Author.Tests.{eq-eqb, ne-eqb}
+use borrow.Author.Tests.{ne-eqb}
 use lib.Dec.{eqb}
-use lib.ListN.{length, take, drop, replicate, length-replicate}
+use lib.ListN.{length, take, drop}
 use Rattle.laws.specs.Test.{if_then_else_}
 use Rattle.rules.specs.Circuit as C
 use Rattle.rules.specs.CircuitText.{CircuitLine, FbsLine, InLine, GateLine, OutLine, Prefix, circuitLine, conditions, withLine, ended, nothing, withSettings, readCircuit}
 use Rattle.rules.specs.Form as F
-use Rattle.text.specs.Judged.{Numbered, lowest, readFrom, read-end, read-no-form, read-refused, read-next}
+use Rattle.text.specs.Judged.{Numbered, readFrom, read-end, read-no-form, read-refused, read-next}
 use Rattle.text.specs.Line.{LineEnd}
 use Rattle.circuit.specs.declared.Circuit.{Circuit}
 use Rattle.circuit.specs.declared.Reading.{Reading}

@@ -1,8 +1,8 @@
 -- The run, as the code has it: the nodes' bits stand in an array of 128, with zeros behind them.
 use mathlib.Core.Path.{_≡_, refl, sym, ap, ap₂, subst, _∙_}
-use mathlib.Core.Bool.{Bool, true, false, _&&_, _||_}
+use mathlib.Core.Bool.{Bool, true, false}
 use mathlib.Core.List.{List, [], _∷_, _++_, map, append-assoc}
-use Prim.Native.Nat.{ℕ, zero, suc, _+_, _*_, _-_, _<_, _≤_}
+use Prim.Native.Nat.{ℕ, zero, suc, _+_, _*_, _<_, _≤_}
 use native.Mathlib.Nat.{zero-add, not-suc-le-zero, le-of-suc-le-suc}
 use native.Mathlib.Numerals.{add-one}
 use native.Mathlib.Omega.{arith}
@@ -17,7 +17,7 @@ use Rattle.rules.specs.declared.Wire.{Wire}
 use Rattle.rules.specs.declared.Wire.the-variants.{Const, Node}
 use Rattle.rules.specs.Circuit as C
 use Rattle.rules.specs.Circuit.{wireBit, position, gateBit, gateValues}
-use Rattle.rules.specs.CircuitText.{noNode, anyNoNode, matching}
+use Rattle.rules.specs.CircuitText.{noNode, anyNoNode}
 use Rattle.rules.specs.Runs.{allBits, bitsFor}
 use Rattle.text.specs.Gives.{Each, isBitWire}
 use Rattle.circuit.specs.declared.Circuit.{Circuit}

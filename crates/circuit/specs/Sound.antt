@@ -1,6 +1,6 @@
 -- What holds of every circuit that a text describes: few enough lines, wires to earlier nodes, bits that are bits.
-use mathlib.Core.Path.{_≡_, refl, sym, ap, subst, _∙_}
-use mathlib.Core.Bool.{Bool, true, false, _&&_, _||_, not, true≢false}
+use mathlib.Core.Path.{_≡_, refl, sym, subst}
+use mathlib.Core.Bool.{true, false, not, true≢false}
 use mathlib.Core.List.{List, [], _∷_, _++_}
 use mathlib.Core.Option.{Option, none, some}
 use Prim.Native.Nat.{ℕ, suc, _+_, _<_, _≤_}
@@ -153,5 +153,5 @@ pub read-sound : (text : List ℕ) (c : Circuit) → readCircuit text ≡ F.Good
 unfolding readCircuit nothing
 read-sound text c e =
     let q = good-lines circuitLine 1 conditions withLine ended SoundPrefix keeps (F.lines text) 1 nothing c
-            (record { inputsFit = omega arith; gatesFit = omega arith; outputsFit = omega arith; gatesSound = tt; outputsSound = tt }) e in
+    (record { inputsFit = omega arith; gatesFit = omega arith; outputsFit = omega arith; gatesSound = tt; outputsSound = tt }) e in
     sound-ended (q .0) (q .1) c (q .2) (q .3)

@@ -1,19 +1,19 @@
 -- A line taken: its number, and the circuit with it where that is 0.
-use mathlib.Core.Path.{_≡_, refl, sym, ap, ap₂, subst, _∙_}
+use mathlib.Core.Path.{_≡_, refl, sym, ap, _∙_}
 use mathlib.Core.Bool.{Bool, true, false, _&&_, _||_, not, true≢false, or-false}
-use mathlib.Core.List.{List, [], _∷_, _++_, map}
+use mathlib.Core.List.{List, [], _∷_, _++_}
 use mathlib.Core.Option.{Option, none, some, Option·some-injective, Option·none-ne-some}
-use Prim.Native.Nat.{ℕ, suc, _+_, _-_, _<_, _≤_}
+use Prim.Native.Nat.{ℕ, _+_, _-_, _<_, _≤_}
 use native.Mathlib.Omega.{arith}
 use borrow.Author.Tests.{ne-eqb, eqb-true, leb-false}
 use lib.Dec.{leb, ltb, eqb}
-use lib.ListN.{length, take, drop, replicate, length-replicate}
+use lib.ListN.{length, take, replicate, length-replicate}
 use Rattle.laws.specs.Test.{if_then_else_, if-both, isSome, is-T, T-is, and-right}
 use Rattle.rules.specs.declared.Settings.{Settings}
 use Rattle.rules.specs.declared.Wire.{Wire}
 use Rattle.rules.specs.Builder.{tableLimits}
 use Rattle.rules.specs.Circuit as C
-use Rattle.rules.specs.CircuitText.{CircuitLine, Prefix, FbsLine, InLine, GateLine, OutLine, listed, noNode, nodeCount, conditions, withLine, nothing}
+use Rattle.rules.specs.CircuitText.{CircuitLine, Prefix, listed, noNode, nodeCount, conditions, withLine, nothing}
 use Rattle.rules.specs.Form.{Condition, _when_}
 use Rattle.text.specs.declared.Name.{Name}
 use Rattle.text.specs.Judged.{lowest, unmet}

@@ -3,10 +3,9 @@ ghost use mathlib.Core.Path.{_≡_};
 ghost use mathlib.Core.Bool.{true, false, _&&_, _||_, not};
 ghost use mathlib.Core.List.{[], _∷_};
 ghost use Prim.Native.Nat.{ℕ, _+_, _*_, _-_, _<_, _≤_};
-ghost use lib.Dec.{leb, ltb, eqb};
-ghost use lib.ListN.{length, getD, take, drop};
+ghost use lib.Dec.{leb, ltb};
+ghost use lib.ListN.{length, take, drop};
 ghost use Rattle.laws.specs.Over.{over};
-
 ghost use Rattle.rules.specs.Builder.{tableLimits};
 ghost use Rattle.rules.specs.CircuitText.{noNode, policy, tables, fbsLine, gateLine, circuitLine, readCircuit};
 ghost use Rattle.rules.specs.Form.{_when_};

@@ -1,29 +1,19 @@
 use native.Mathlib.Omega.{arith}
-use Rattle.circuit.specs.Run.{wire-small, left-node, left-bit, right-node, right-bit, gate-one, gate-two}
 use borrow.Author.Needs.{needs}
+use Rattle.circuit.specs.Run.{wire-small, left-node, left-bit, right-node, right-bit, gate-one, gate-two}
 use Rattle.circuit.proofs.gate_value.Statement.{statement}
 use Rattle.circuit.proofs.gate_value.Tie as tie
-use Rattle.circuit.proofs.gate_value.Reads as reads
-use Rattle.circuit.proofs.gate_value.Lts as lts
-use Rattle.circuit.proofs.wire_value.Reads as wire-value-reads
 
--- src/lib.rt:702:9
 wire-value-requires : tie.Need-wire-value-requires
 wire-value-requires c κs =
     left-node _ _ (c .pre .0)
 
--- src/lib.rt:704:23
-cast-result : tie.Need-cast-result
-cast-result c = search needs
-
--- src/lib.rt:704:16
 element-copy-out-result : tie.Need-element-copy-out-result
 element-copy-out-result c =
     let c1 = c .before in
     let c2 = c1 .before in
     omega (arith, wire-small _ _ (c2 .pre .1) (left-bit _ _ (c2 .pre .0)) (c1 .wire-value .ensures))
 
--- src/lib.rt:704:9
 returns : tie.Need-returns
 returns c =
     let c1 = c .before in
@@ -31,29 +21,11 @@ returns c =
     let c3 = c2 .before in
     gate-one _ _ (c2 .wire-value .ensures) (wire-small _ _ (c3 .pre .1) (left-bit _ _ (c3 .pre .0)) (c2 .wire-value .ensures)) (c1 .if1 .taken)
 
--- src/lib.rt:707:9
 wire-value-requires-2 : tie.Need-wire-value-requires-2
 wire-value-requires-2 c κs =
     let c2 = c .before .before in
     right-node _ _ (c2 .pre .0) (c .if1 .left)
 
--- src/lib.rt:708:17
-cast-result-2 : tie.Need-cast-result-2
-cast-result-2 c = search needs
-
--- src/lib.rt:708:12
-mul-result : tie.Need-mul-result
-mul-result c = search needs
-
--- src/lib.rt:708:32
-cast-result-3 : tie.Need-cast-result-3
-cast-result-3 c = search needs
-
--- src/lib.rt:708:12
-add-result : tie.Need-add-result
-add-result c = search needs
-
--- src/lib.rt:708:5
 element-copy-out-result-2 : tie.Need-element-copy-out-result-2
 element-copy-out-result-2 c =
     let c1 = c .before in
@@ -61,7 +33,6 @@ element-copy-out-result-2 c =
     let c3 = c2 .before in
     let l = wire-small _ _ (c3 .pre .1) (left-bit _ _ (c3 .pre .0)) (c2 .wire-value .ensures) in let r = wire-small _ _ (c3 .pre .1) (right-bit _ _ (c3 .pre .0) (c1 .if1 .left)) (c .wire-value2 .ensures) in omega arith
 
--- src/lib.rt:696:1
 returns-2 : tie.Need-returns-2
 returns-2 c =
     let c1 = c .before in
@@ -75,13 +46,13 @@ gate-value-spec =
     tie.close
     (tie.spec
     wire-value-requires
-    cast-result
+    (λ c. search needs)
     element-copy-out-result
     returns
     wire-value-requires-2
-    cast-result-2
-    mul-result
-    cast-result-3
-    add-result
+    (λ c. search needs)
+    (λ c. search needs)
+    (λ c. search needs)
+    (λ c. search needs)
     element-copy-out-result-2
     returns-2)

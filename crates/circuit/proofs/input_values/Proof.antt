@@ -1,10 +1,10 @@
-use mathlib.Core.Path.{_≡_, refl, sym, _∙_}
+use mathlib.Core.Path.{_≡_, sym, _∙_}
 use Prim.Native.Nat.{_-_, _≤_}
 use native.Mathlib.Omega.{arith}
 use borrow.Author.Needs.{needs}
 use lib.ListN.{length, replicate}
 use Rattle.laws.specs.Front.{front, front-zero}
-use Rattle.circuit.specs.Run.{padded, fill-next, fill-done}
+use Rattle.circuit.specs.Run.{fill-next, fill-done}
 use Rattle.circuit.proofs.input_values.Statement.{statement}
 use Rattle.circuit.proofs.input_values.Tie as tie
 

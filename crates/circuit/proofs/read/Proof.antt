@@ -9,11 +9,6 @@ use Rattle.circuit.specs.Took.{Ready}
 use Rattle.circuit.specs.View.{prefixOf}
 use Rattle.circuit.proofs.read.Statement.{statement}
 use Rattle.circuit.proofs.read.Tie as tie
-use Rattle.circuit.proofs.read.Reads as reads
-use Rattle.circuit.proofs.read.Lts as lts
-use Rattle.circuit.proofs.blank.Reads as blank-reads
-use Rattle.circuit.proofs.take_line.Reads as take-line-reads
-use Rattle.text.proofs.line_end.Reads as line-end-reads
 
 abbrev Inv-loop : tie.InvT-loop
 Inv-loop s c₀ at₀ line₀ c at line =
@@ -22,38 +17,15 @@ Inv-loop s c₀ at₀ line₀ c at line =
 abbrev μ-loop : tie.MeasureT-loop
 μ-loop s c₀ at₀ line₀ c at line = length s - at
 
--- src/lib.rt:616:9
-blank-requires : tie.Need-blank-requires Inv-loop μ-loop
-blank-requires c κs = search needs
-
--- src/lib.rt:619:5
 loop-holds : tie.Need-loop-holds Inv-loop μ-loop
 loop-holds c =
     (search needs, search needs, record { first = omega arith; sized = c .blank .ensures .sized }, from-start _ _ (c .blank .ensures .none))
 
--- src/lib.rt:620:13
-line-end-requires : tie.Need-line-end-requires Inv-loop μ-loop
-line-end-requires c κs = search needs
-
--- src/lib.rt:621:39
-sub-take-line : tie.Need-sub-take-line Inv-loop μ-loop
-sub-take-line c = search needs
-
--- src/lib.rt:621:39
-part-take-line-start : tie.Need-part-take-line-start Inv-loop μ-loop
-part-take-line-start c = search needs
-
--- src/lib.rt:621:39
-part-take-line-end : tie.Need-part-take-line-end Inv-loop μ-loop
-part-take-line-end c = search needs
-
--- src/lib.rt:621:13
 take-line-requires : tie.Need-take-line-requires Inv-loop μ-loop
 take-line-requires c κs =
     let c3 = c .before .before .before in
     c3 .loop .inv .2
 
--- src/lib.rt:623:13
 returns : tie.Need-returns Inv-loop μ-loop
 returns c =
     let c2 = c .before .before in
@@ -61,17 +33,11 @@ returns c =
     let c6 = c4 .before .before in
     let l = c6 .loop .inv in (reading-refused _ _ _ (c .if1 .taken) ∙ sym (l .3 ∙ turn-refused _ _ _ _ _ (c4 .line-end .ensures) _ (c2 .take-line .ensures) (c .if1 .taken)), l .2 .sized)
 
--- src/lib.rt:631:9
-add-line : tie.Need-add-line Inv-loop μ-loop
-add-line c = search needs
-
--- src/lib.rt:619:5
 loop-less : tie.Need-loop-less Inv-loop μ-loop
 loop-less c =
     let c5 = c .before .before .before .before .before in
     let l = c5 .line-end .ensures in omega (arith, l .later, l .inside)
 
--- src/lib.rt:619:5
 loop-again : tie.Need-loop-again Inv-loop μ-loop
 loop-again c =
     let c1 = c .before in
@@ -80,13 +46,11 @@ loop-again c =
     let c7 = c5 .before .before in
     let l = c7 .loop .inv in let e = (c5 .line-end .ensures) in (e .inside, omega (arith, e .later, l .1), record { first = omega arith; sized = (c3 .take-line .ensures) .sized }, l .3 ∙ turn-good _ _ _ _ _ e _ (c3 .take-line .ensures) _ (c1 .if1 .left) refl)
 
--- src/lib.rt:634:9
 returns-2 : tie.Need-returns-2 Inv-loop μ-loop
 returns-2 c =
     let c2 = c .before .before in
     let l = c2 .loop .inv in (reading-refused _ _ _ (λ (e : 4 ≡ 0). omega arith) ∙ sym (l .3 ∙ end-empty _ _ _ _ (search needs) (c .if2 .taken)), l .2 .sized)
 
--- src/lib.rt:612:1
 returns-3 : tie.Need-returns-3 Inv-loop μ-loop
 returns-3 c =
     let c2 = c .before .before in
@@ -98,15 +62,15 @@ read-spec =
     (tie.spec
     Inv-loop
     μ-loop
-    blank-requires
+    (λ c κs. search needs)
     loop-holds
-    line-end-requires
-    sub-take-line
-    part-take-line-start
-    part-take-line-end
+    (λ c κs. search needs)
+    (λ c. search needs)
+    (λ c. search needs)
+    (λ c. search needs)
     take-line-requires
     returns
-    add-line
+    (λ c. search needs)
     loop-less
     loop-again
     returns-2

@@ -1,54 +1,26 @@
-use lib.ListN.{length}
 use mathlib.Core.Path.{subst}
+use borrow.Author.Needs.{needs}
+use lib.ListN.{length}
 use Rattle.text.specs.Forms.{nameFrom, nameTo, nameEnd, nameTaken, outFrom, outTo, outEnd, outTaken, named-at}
 use Rattle.text.specs.Reads.{found, ends}
 use Rattle.circuit.specs.Line.{gateTaken, gateEnd, BitsIn}
 use Rattle.circuit.specs.LineRead.{fbs-whole, fbs-part, in-whole, in-part, gate-whole, gate-part, out-whole, out-part, no-line}
 use Rattle.circuit.specs.Settings.{fbsTaken, fbsEnd}
-use borrow.Author.Needs.{needs}
 use Rattle.circuit.proofs.read_line.Statement.{statement}
 use Rattle.circuit.proofs.read_line.Tie as tie
-use Rattle.circuit.proofs.read_line.Reads as reads
-use Rattle.circuit.proofs.read_line.Lts as lts
-use Rattle.circuit.proofs.read_fbs.Reads as read-fbs-reads
-use Rattle.circuit.proofs.read_gate.Reads as read-gate-reads
-use Rattle.text.proofs.read_in.Reads as read-in-reads
-use Rattle.text.proofs.read_out.Reads as read-out-reads
 
--- src/lib.rt:284:32
-read-fbs-requires : tie.Need-read-fbs-requires
-read-fbs-requires c κs = search needs
-
--- src/lib.rt:284:24
-enum-known-f : tie.Need-enum-known-f
-enum-known-f c = search needs
-
--- src/lib.rt:285:9
 returns : tie.Need-returns
 returns c =
     let c2 = c .before .before in
     let c4 = c2 .before .before in
     fbs-whole _ _ _ _ (found (fbsTaken _) (c4 .read-fbs .ensures) (c2 .f .given .1)) (ends fbsEnd (c4 .read-fbs .ensures) (c2 .f .given .1)) (c .if1 .taken)
 
--- src/lib.rt:285:9
 returns-2 : tie.Need-returns-2
 returns-2 c =
     let c2 = c .before .before in
     let c4 = c2 .before .before in
     fbs-part _ _ _ _ (found (fbsTaken _) (c4 .read-fbs .ensures) (c2 .f .given .1)) (ends fbsEnd (c4 .read-fbs .ensures) (c2 .f .given .1)) (c .if1 .left)
 
-enum-told : tie.Need-enum-told
-enum-told c = search needs
-
--- src/lib.rt:287:36
-read-in-requires : tie.Need-read-in-requires
-read-in-requires c κs = search needs
-
--- src/lib.rt:287:25
-enum-known-a : tie.Need-enum-known-a
-enum-known-a c = search needs
-
--- src/lib.rt:288:9
 returns-3 : tie.Need-returns-3
 returns-3 c =
     let c2 = c .before .before in
@@ -57,7 +29,6 @@ returns-3 c =
     let c7 = c5 .before .before in
     in-whole _ _ (found (fbsTaken _) (c7 .read-fbs .ensures) (c5 .enum-told .given .1)) _ _ _ (found (nameTaken _) (c4 .read-in .ensures .reads) (c2 .a .given .1)) (ends nameEnd (c4 .read-in .ensures .reads) (c2 .a .given .1)) (named-at nameFrom nameTo ((c4 .read-in .ensures) .named) (c2 .a .given .1)) (c .if2 .taken)
 
--- src/lib.rt:288:9
 returns-4 : tie.Need-returns-4
 returns-4 c =
     let c2 = c .before .before in
@@ -66,18 +37,6 @@ returns-4 c =
     let c7 = c5 .before .before in
     in-part _ _ (found (fbsTaken _) (c7 .read-fbs .ensures) (c5 .enum-told .given .1)) _ _ (found (nameTaken _) (c4 .read-in .ensures .reads) (c2 .a .given .1)) (ends nameEnd (c4 .read-in .ensures .reads) (c2 .a .given .1)) (c .if2 .left)
 
-enum-told-2 : tie.Need-enum-told-2
-enum-told-2 c = search needs
-
--- src/lib.rt:290:39
-read-gate-requires : tie.Need-read-gate-requires
-read-gate-requires c κs = search needs
-
--- src/lib.rt:290:25
-enum-known-d : tie.Need-enum-known-d
-enum-known-d c = search needs
-
--- src/lib.rt:291:9
 returns-5 : tie.Need-returns-5
 returns-5 c =
     let c2 = c .before .before in
@@ -89,7 +48,6 @@ returns-5 c =
     let c12 = c10 .before .before in
     gate-whole _ _ (found (fbsTaken _) (c10 .read-fbs .ensures) (c8 .enum-told .given .1)) (found (nameTaken _) (c7 .read-in .ensures .reads) (c5 .enum-told2 .given .1)) _ _ _ _ (found (gateTaken _) (c4 .read-gate .ensures .0) (c2 .d .given .1)) (ends gateEnd (c4 .read-gate .ensures .0) (c2 .d .given .1)) (subst (BitsIn (length (c12 .args .s .now))) (c2 .d .given .1) ((c4 .read-gate .ensures) .1)) (c .if3 .taken)
 
--- src/lib.rt:291:9
 returns-6 : tie.Need-returns-6
 returns-6 c =
     let c2 = c .before .before in
@@ -100,18 +58,6 @@ returns-6 c =
     let c10 = c8 .before .before in
     gate-part _ _ (found (fbsTaken _) (c10 .read-fbs .ensures) (c8 .enum-told .given .1)) (found (nameTaken _) (c7 .read-in .ensures .reads) (c5 .enum-told2 .given .1)) _ _ (found (gateTaken _) (c4 .read-gate .ensures .0) (c2 .d .given .1)) (ends gateEnd (c4 .read-gate .ensures .0) (c2 .d .given .1)) (c .if3 .left)
 
-enum-told-3 : tie.Need-enum-told-3
-enum-told-3 c = search needs
-
--- src/lib.rt:293:38
-read-out-requires : tie.Need-read-out-requires
-read-out-requires c κs = search needs
-
--- src/lib.rt:293:24
-enum-known-a-2 : tie.Need-enum-known-a-2
-enum-known-a-2 c = search needs
-
--- src/lib.rt:294:9
 returns-7 : tie.Need-returns-7
 returns-7 c =
     let c2 = c .before .before in
@@ -124,7 +70,6 @@ returns-7 c =
     let c13 = c11 .before .before in
     out-whole _ _ (found (fbsTaken _) (c13 .read-fbs .ensures) (c11 .enum-told .given .1)) (found (nameTaken _) (c10 .read-in .ensures .reads) (c8 .enum-told2 .given .1)) (found (gateTaken _) (c7 .read-gate .ensures .0) (c5 .enum-told3 .given .1)) _ _ _ _ (found (outTaken _) (c4 .read-out .ensures .reads) (c2 .a2 .given .1)) (ends outEnd (c4 .read-out .ensures .reads) (c2 .a2 .given .1)) (named-at outFrom outTo ((c4 .read-out .ensures) .named) (c2 .a2 .given .1)) (c .if4 .taken)
 
--- src/lib.rt:294:9
 returns-8 : tie.Need-returns-8
 returns-8 c =
     let c2 = c .before .before in
@@ -137,10 +82,6 @@ returns-8 c =
     let c13 = c11 .before .before in
     out-part _ _ (found (fbsTaken _) (c13 .read-fbs .ensures) (c11 .enum-told .given .1)) (found (nameTaken _) (c10 .read-in .ensures .reads) (c8 .enum-told2 .given .1)) (found (gateTaken _) (c7 .read-gate .ensures .0) (c5 .enum-told3 .given .1)) _ _ (found (outTaken _) (c4 .read-out .ensures .reads) (c2 .a2 .given .1)) (ends outEnd (c4 .read-out .ensures .reads) (c2 .a2 .given .1)) (c .if4 .left)
 
-enum-told-4 : tie.Need-enum-told-4
-enum-told-4 c = search needs
-
--- src/lib.rt:281:1
 returns-9 : tie.Need-returns-9
 returns-9 c =
     let c2 = c .before .before in
@@ -156,24 +97,24 @@ pub read-line-spec : {M : Type 1} → statement M
 read-line-spec =
     tie.close
     (tie.spec
-    read-fbs-requires
-    enum-known-f
+    (λ c κs. search needs)
+    (λ c. search needs)
     returns
     returns-2
-    enum-told
-    read-in-requires
-    enum-known-a
+    (λ c. search needs)
+    (λ c κs. search needs)
+    (λ c. search needs)
     returns-3
     returns-4
-    enum-told-2
-    read-gate-requires
-    enum-known-d
+    (λ c. search needs)
+    (λ c κs. search needs)
+    (λ c. search needs)
     returns-5
     returns-6
-    enum-told-3
-    read-out-requires
-    enum-known-a-2
+    (λ c. search needs)
+    (λ c κs. search needs)
+    (λ c. search needs)
     returns-7
     returns-8
-    enum-told-4
+    (λ c. search needs)
     returns-9)

@@ -1,29 +1,13 @@
-use Rattle.circuit.specs.Entry.{run-unreadable, run-bad-bits, run-short, run-ready, outputs-ready, run-ran}
 use borrow.Author.Needs.{needs}
+use Rattle.circuit.specs.Entry.{run-unreadable, run-bad-bits, run-short, run-ready, outputs-ready, run-ran}
 use Rattle.circuit.proofs.run_circuit.Statement.{statement}
 use Rattle.circuit.proofs.run_circuit.Tie as tie
-use Rattle.circuit.proofs.run_circuit.Reads as reads
-use Rattle.circuit.proofs.run_circuit.Lts as lts
-use Rattle.circuit.proofs.are_bits_for.Reads as are-bits-for-reads
-use Rattle.circuit.proofs.gate_values.Reads as gate-values-reads
-use Rattle.circuit.proofs.put_outputs.Reads as put-outputs-reads
-use Rattle.circuit.proofs.read.Reads as read-reads
 
--- src/lib.rt:780:9
-read-requires : tie.Need-read-requires
-read-requires c κs = search needs
-
--- src/lib.rt:782:9
 returns : tie.Need-returns
 returns c =
     let c2 = c .before .before in
     run-unreadable _ _ _ _ ((c2 .read .ensures) .0) (c .if1 .taken)
 
--- src/lib.rt:786:9
-are-bits-for-requires : tie.Need-are-bits-for-requires
-are-bits-for-requires c κs = search needs
-
--- src/lib.rt:787:9
 returns-2 : tie.Need-returns-2
 returns-2 c =
     let c1 = c .before in
@@ -31,7 +15,6 @@ returns-2 c =
     let c5 = c3 .before .before in
     run-bad-bits _ _ _ _ ((c5 .read .ensures) .0) ((c5 .read .ensures) .1) (c3 .if1 .left) _ (c1 .are-bits-for .ensures) (c .if2 .taken)
 
--- src/lib.rt:790:9
 returns-3 : tie.Need-returns-3
 returns-3 c =
     let c1 = c .before in
@@ -40,7 +23,6 @@ returns-3 c =
     let c6 = c4 .before .before in
     run-short _ _ _ _ ((c6 .read .ensures) .0) ((c6 .read .ensures) .1) (c4 .if1 .left) _ (c2 .are-bits-for .ensures) (c1 .if2 .left) (c .if3 .taken)
 
--- src/lib.rt:792:15
 gate-values-requires : tie.Need-gate-values-requires
 gate-values-requires c κs =
     let c1 = c .before in
@@ -50,7 +32,6 @@ gate-values-requires c κs =
     let c10 = c6 .before .before .before .before in
     run-ready _ _ (c10 .args .values .now) _ ((c6 .read .ensures) .0) ((c6 .read .ensures) .1) (c4 .if1 .left) _ (c2 .are-bits-for .ensures) (c1 .if2 .left)
 
--- src/lib.rt:793:5
 put-outputs-requires : tie.Need-put-outputs-requires
 put-outputs-requires c κs =
     let c3 = c .before .before .before in
@@ -61,11 +42,6 @@ put-outputs-requires c κs =
     let c13 = c9 .before .before .before .before in
     ((c9 .read .ensures) .1, (outputs-ready _ (c13 .args .bits .now) (c13 .args .values .now) _ ((c9 .read .ensures) .0) ((c9 .read .ensures) .1) (c7 .if1 .left) _ (c5 .are-bits-for .ensures) (c4 .if2 .left), c3 .if3 .left))
 
--- src/lib.rt:777:1
-same-length : tie.Need-same-length
-same-length c = search needs
-
--- src/lib.rt:777:1
 returns-4 : tie.Need-returns-4
 returns-4 c =
     let c2 = c .before .before in
@@ -81,12 +57,12 @@ pub run-circuit-spec : {M : Type 1} → statement M
 run-circuit-spec =
     tie.close
     (tie.spec
-    read-requires
+    (λ c κs. search needs)
     returns
-    are-bits-for-requires
+    (λ c κs. search needs)
     returns-2
     returns-3
     gate-values-requires
     put-outputs-requires
-    same-length
+    (λ c. search needs)
     returns-4)

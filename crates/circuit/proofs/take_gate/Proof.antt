@@ -1,44 +1,27 @@
 use native.Mathlib.Omega.{arith}
-use Rattle.circuit.specs.Took.{room, gate-refused, gate-short, gate-taken}
 use borrow.Author.Needs.{needs}
+use Rattle.circuit.specs.Took.{room, gate-refused, gate-short, gate-taken}
 use Rattle.circuit.proofs.take_gate.Statement.{statement}
 use Rattle.circuit.proofs.take_gate.Tie as tie
-use Rattle.circuit.proofs.take_gate.Reads as reads
-use Rattle.circuit.proofs.take_gate.Lts as lts
-use Rattle.circuit.proofs.bits_of.Reads as bits-of-reads
-use Rattle.circuit.proofs.gate_number.Reads as gate-number-reads
-use Rattle.circuit.proofs.with_gate.Reads as with-gate-reads
 
--- src/lib.rt:513:87
-sub-gate-number : tie.Need-sub-gate-number
-sub-gate-number c = search needs
-
--- src/lib.rt:513:9
-gate-number-requires : tie.Need-gate-number-requires
-gate-number-requires c κs = search needs
-
--- src/lib.rt:515:9
 returns : tie.Need-returns
 returns c =
     let c1 = c .before in
     let c3 = c1 .before .before in
     gate-refused _ _ (c3 .pre .0) _ _ _ _ _ (c3 .pre .1 .1) (c1 .gate-number .ensures) (c .if1 .taken)
 
--- src/lib.rt:517:9
 bits-of-requires : tie.Need-bits-of-requires
 bits-of-requires c κs =
     let c1 = c .before in
     let c3 = c1 .before .before in
     let a = c3 .args in let short = gate-short _ _ (c3 .pre .0) (a .s .now) (a .d) (a .e) (a .v) _ (c3 .pre .1 .1) (c1 .gate-number .ensures) (c .if1 .left) in (c3 .pre .1 .0, c3 .pre .1 .1, omega arith)
 
--- src/lib.rt:527:9
 with-gate-requires : tie.Need-with-gate-requires
 with-gate-requires c κs =
     let c1 = c .before in
     let c2 = c1 .before in
     room _ _ _ _ (c2 .gate-number .ensures) (c1 .if1 .left)
 
--- src/lib.rt:508:1
 returns-2 : tie.Need-returns-2
 returns-2 c =
     let c1 = c .before in
@@ -51,8 +34,8 @@ pub take-gate-spec : {M : Type 1} → statement M
 take-gate-spec =
     tie.close
     (tie.spec
-    sub-gate-number
-    gate-number-requires
+    (λ c. search needs)
+    (λ c κs. search needs)
     returns
     bits-of-requires
     with-gate-requires

@@ -2,10 +2,7 @@ use mathlib.Core.Path.{refl}
 use Rattle.circuit.specs.Added.{withSettings}
 use Rattle.circuit.proofs.with_settings.Statement.{statement}
 use Rattle.circuit.proofs.with_settings.Tie as tie
-use Rattle.circuit.proofs.with_settings.Reads as reads
-use Rattle.circuit.proofs.with_settings.Lts as lts
 
--- src/lib.rt:324:1
 returns : tie.Need-returns
 unfolding withSettings
 returns c = refl
