@@ -1,6 +1,6 @@
 -- Integers read as a difference of two natural numbers, so that `omega` decides linear facts of them.
 use mathlib.Core.Path.{_≡_, refl, sym, ap, _∙_, subst}
-use mathlib.Core.Bool.{Bool, true, false, not, cond}
+use mathlib.Core.Bool.{Bool, true, false, not, cond, _&&_}
 use Prim.Native.Nat.{ℕ, zero, suc, _+_, _*_, _-_, _/_, _%_, _<_, _≤_, _^_, _∣_, min}
 use native.Mathlib.Nat as N
 use native.Mathlib.Omega.{arith}
@@ -89,6 +89,10 @@ eq-of {x = negsuc a} {y = negsuc b} h = ap negsuc (omega arith)
 
 pub of-eq : {x y : ℤ} → x ≡ y → plus x + minus y ≡ plus y + minus x
 of-eq {x} {y} e = omega (arith, ap plus e, ap minus e)
+
+-- equality as a test
+unfoldable pub eqZ : ℤ → ℤ → Bool
+eqZ x y = leZ x y && leZ y x
 
 -- the order
 leZ-parts : (x y : ℤ) → T (leZ x y) → plus x + minus y ≤ plus y + minus x

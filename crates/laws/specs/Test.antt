@@ -3,6 +3,7 @@ use mathlib.Core.Path.{_≡_, refl, sym, subst, ap, ap₂}
 use mathlib.Core.Bool.{Bool, true, false, not, _&&_}
 use mathlib.Core.List.{List, [], _∷_, _++_}
 use mathlib.Core.Logic.{_⊎_, inl, inr, ⊎-elim}
+use mathlib.Core.Option.{Option, none, some}
 use Prim.Native.Nat.{ℕ, zero, suc, _+_, _<_, _≤_}
 use native.Mathlib.Nat.{not-suc-le-zero, le-of-suc-le-suc, eq-or-lt-of-le, zero-lt-suc}
 use native.Mathlib.Omega.{arith}
@@ -15,6 +16,11 @@ infixr 1 if_then_else_
 abbrev pub if_then_else_ {ℓ} : {A : Type ℓ} → Bool → A → A → A
 if true then a else b = a
 if false then a else b = b
+
+-- whether there is one
+abbrev pub isSome {ℓ} : {A : Type ℓ} → Option A → Bool
+isSome none = false
+isSome (some a) = true
 
 pub and-left : (a b : Bool) → T (a && b) → T a
 and-left true b t = tt

@@ -1,0 +1,105 @@
+-- The table builder (document 01, "The builder"; composed_bootstrap_table in the Rust).
+use mathlib.Core.Bool.{Bool, not, _&&_, _||_}
+use mathlib.Core.List.{List, [], _∷_, map}
+use mathlib.Core.Option.{Option, none, some}
+use Prim.Native.Nat.{ℕ, _+_, _*_, _-_}
+use lib.Dec.{leb, ltb, eqb}
+use lib.IntN.{ℤ, natAbs, _-ℤ_}
+use lib.ListN.{length, getD, set, replicate}
+use Rattle.laws.specs.Over.{over}
+use Rattle.laws.specs.Tabulate.{tabulate}
+use Rattle.laws.specs.Test.{if_then_else_, isSome}
+use Rattle.rules.specs.Outcome.{Answer, written, refused, Outcome, outcome}
+use Rattle.rules.specs.Rotation.{rotatable}
+use Rattle.rules.specs.Span.{least, span}
+use Rattle.rules.specs.declared.BuilderReply.{BuilderReply}
+use Rattle.rules.specs.declared.BuilderReply.the-variants.{Written, BadSettings, BadLengths, SpanOverM, Conflict, NoCompletion, ShortBuffer}
+
+-- ---- Known entries. A list of them has 0, 1, or 2 for unknown, as `known` in the Rust.
+
+-- The rows entered into known entries, the least value's first: a row's truth becomes the entry at its value.
+-- None where a truth is not a bit, or one value has two truths.
+unfoldable pub enter : ℤ → List ℤ → List ℕ → List ℕ → Option (List ℕ)
+enter low [] truths known = some known
+enter low (v ∷ values) [] known = some known
+enter low (v ∷ values) (t ∷ truths) known =
+    let i = natAbs (v -ℤ low) in
+    let rest = enter low values truths (set known i t) in
+    if leb t 1 && (eqb (getD known i 2) 2 || eqb (getD known i 2) t) then rest else none
+
+unfoldable pub knownEntries : List ℤ → List ℕ → Option (List ℕ)
+knownEntries values truths = enter (least values) values truths (replicate (span values) 2)
+
+-- ---- The three completions.
+
+-- x, or d where it is unknown.
+unfoldable pub knownOr : ℕ → ℕ → ℕ
+knownOr d x = if eqb x 2 then d else x
+
+-- Every unknown d.
+unfoldable pub filled : ℕ → List ℕ → List ℕ
+filled d = map (knownOr d)
+
+-- x, or where it is unknown the opposite of its partner y, or d where both are unknown.
+unfoldable pub against : ℕ → ℕ → ℕ → ℕ
+against d y x = if eqb x 2 then (if eqb y 2 then d else 1 - y) else x
+
+-- Each unknown opposite to its partner, both unknown 0 and 1, unpaired 0.
+unfoldable pub opposedAt : ℕ → List ℕ → ℕ → ℕ
+opposedAt P known i =
+    if ltb (i + P) (length known) then against 0 (getD known (i + P) 2) (getD known i 2)
+    else if leb P i then against 1 (getD known (i - P) 2) (getD known i 2)
+    else knownOr 0 (getD known i 2)
+
+unfoldable pub opposed : ℕ → List ℕ → List ℕ
+opposed P known = tabulate (length known) (opposedAt P known)
+
+-- Unknowns 0, then 1, then opposite: the first that a rotation gives.
+unfoldable pub completion : ℕ → List ℕ → Option (List ℕ)
+completion P known =
+    let third = if rotatable P (opposed P known) then some (opposed P known) else none in
+    let second = if rotatable P (filled 1 known) then some (filled 1 known) else third in
+    if rotatable P (filled 0 known) then some (filled 0 known) else second
+
+-- is_known_lut_valid
+unfoldable pub completable : ℕ → List ℕ → Bool
+completable P known = isSome (completion P known)
+
+-- ---- The reply.
+
+-- P from 2 to 16, M from P to 2P.
+unfoldable pub tableLimits : ℕ → ℕ → Bool
+tableLimits P M = leb 2 P && leb P 16 && leb P M && leb M (2 * P)
+
+-- 33 where there is no completion, 34 where the buffer is too short for it.
+unfoldable pub fromTable : List ℕ → Option (List ℕ) → Outcome
+fromTable buffer none = outcome (refused 33 0) buffer
+fromTable buffer (some table) =
+    if ltb (length buffer) (length table) then outcome (refused 34 0) buffer
+    else outcome (written (length table)) (over table buffer)
+
+-- 32 where the rows give no known entries.
+unfoldable pub fromKnown : ℕ → List ℕ → Option (List ℕ) → Outcome
+fromKnown P buffer none = outcome (refused 32 0) buffer
+fromKnown P buffer (some known) = fromTable buffer (completion P known)
+
+-- The settings P and M, a value and a truth for each row, the answer buffer as it was.
+-- A refusal keeps it; else each bit is written as a byte 0 or 1, and later bytes are kept.
+unfoldable pub builder : ℕ → ℕ → List ℤ → List ℕ → List ℕ → Outcome
+builder P M values truths buffer =
+    let rest = fromKnown P buffer (knownEntries values truths) in
+    if not (tableLimits P M) then outcome (refused 2 0) buffer
+    else if not (eqb (length values) (length truths)) then outcome (refused 30 0) buffer
+    else if eqb (length values) 0 then outcome (refused 30 0) buffer
+    else if ltb M (span values) then outcome (refused 31 0) buffer
+    else rest
+
+-- Document 01's number and values for each reply.
+unfoldable pub builderReply : BuilderReply → Answer
+builderReply (Written n) = written n
+builderReply BadSettings = refused 2 0
+builderReply BadLengths = refused 30 0
+builderReply SpanOverM = refused 31 0
+builderReply Conflict = refused 32 0
+builderReply NoCompletion = refused 33 0
+builderReply ShortBuffer = refused 34 0

@@ -1,0 +1,2 @@
+-- What is proved of the rules alone.
+pub mod Worked
