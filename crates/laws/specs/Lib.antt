@@ -7,3 +7,4 @@ pub mod Tabulate
 pub mod Front
 pub mod Over
 pub mod Tail
+pub mod Select

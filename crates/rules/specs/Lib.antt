@@ -11,3 +11,7 @@ pub mod Network
 pub mod NetworkText
 pub mod Writing
 pub mod Runs
+pub mod Cone
+pub mod Store
+pub mod Composition
+pub mod Mapper

@@ -1,0 +1,129 @@
+-- Cones (document 01, "A cone", "Norm of a sum"; `Cone` and its tests in mapper.rs).
+use mathlib.Core.Bool.{Bool, true, false, _&&_, not}
+use mathlib.Core.List.{List, [], _∷_, _++_, map}
+use mathlib.Core.Option.{Option, none, some}
+use Prim.Native.Nat.{ℕ, _+_, _*_}
+use lib.Dec.{leb}
+use lib.IntN.{ℤ, pos, natAbs, _+ℤ_}
+use lib.ListN.{getD}
+use lib.Signed.{ltZ}
+use Rattle.laws.specs.Test.{if_then_else_, isSome}
+use Rattle.rules.specs.declared.Settings.{Settings}
+use Rattle.rules.specs.Builder.{knownEntries, completion}
+use Rattle.rules.specs.NetworkText.{over}
+use Rattle.rules.specs.Scale.{norm}
+use Rattle.rules.specs.Span.{span}
+
+pub record Cone : Type 0 where
+  -- the sources: different nodes, each an `in` or a `boot`
+  pub support : List ℕ
+  -- a whole coefficient each
+  pub coefficients : List ℤ
+  -- a bit for each assignment, the first source the highest bit
+  pub truth : List ℕ
+
+-- Cone::constant
+unfoldable pub constant : ℕ → Cone
+constant b = record { support = []; coefficients = []; truth = b ∷ [] }
+
+-- Cone::identity
+unfoldable pub identity : ℕ → Cone
+identity node = record { support = node ∷ []; coefficients = pos 1 ∷ []; truth = 0 ∷ 1 ∷ [] }
+
+-- ---- Rows. A cone's row is the number that the bits of its sources make, the first the highest.
+
+unfoldable pub rowFrom : ℕ → List ℕ → ℕ
+rowFrom n [] = n
+rowFrom n (b ∷ bs) = rowFrom (2 * n + b) bs
+
+-- The cone's bit where each node has a bit.
+unfoldable pub coneBit : (ℕ → ℕ) → Cone → ℕ
+coneBit bit c = getD (c .truth) (rowFrom 0 (map bit (c .support))) 0
+
+-- linear_table: at each assignment the sum of the coefficients of the sources that are 1.
+unfoldable pub linearTable : List ℤ → List ℤ
+linearTable [] = pos 0 ∷ []
+linearTable (c ∷ cs) = let t = linearTable cs in t ++ map (λ v. c +ℤ v) t
+
+-- multivalue_table
+unfoldable pub values : Cone → List ℤ
+values c = linearTable (c .coefficients)
+
+-- Cone::span
+unfoldable pub coneSpan : Cone → ℕ
+coneSpan c = span (values c)
+
+-- Cone::norm2
+unfoldable pub norm2 : Cone → ℕ
+norm2 c = norm (c .coefficients)
+
+-- raw_energy: squared values summed over all rows.
+unfoldable pub energy : List ℤ → ℕ
+energy [] = 0
+energy (v ∷ vs) = natAbs v * natAbs v + energy vs
+
+-- ---- What a cone must keep to.
+
+-- bootstrap_table: each row's truth at its value, completed; none where that can't be.
+unfoldable pub completed : ℕ → Option (List ℕ) → Option (List ℕ)
+completed P none = none
+completed P (some known) = completion P known
+
+unfoldable pub bootstrapTable : ℕ → Cone → Option (List ℕ)
+bootstrapTable P c = completed P (knownEntries (values c) (c .truth))
+
+-- is_lut_valid
+unfoldable pub isLutValid : Settings → Cone → Bool
+isLutValid s c = let r = isSome (bootstrapTable (s .p) c) in leb (coneSpan c) (s .m) && r
+
+-- Within max_norm2.
+unfoldable pub withinNorm : Settings → ℕ → Bool
+withinNorm s n = not (over (s .norm) n)
+
+-- A cone that may stand: evaluate_prepared of a candidate, reusable_cone_coefficients of a form.
+unfoldable pub fits : Settings → Cone → Bool
+fits s c = let r = isLutValid s c in withinNorm s (norm2 c) && r
+
+-- Result<A, String>, with the number of the refusal for its text; `>>=` is `?`.
+pub data Result (A : Type 0) : Type 0 where
+  ok : A → Result A
+  err : ℕ → Result A
+
+infixl 6 _>>=_
+abbrev pub _>>=_ : {A B : Type 0} → Result A → (A → Result B) → Result B
+ok a >>= f = f a
+err k >>= f = err k
+
+-- validate_cone
+unfoldable pub validateCone : Settings → Cone → Result Cone
+validateCone s c = if not (isLutValid s c) then err 10 else if not (withinNorm s (norm2 c)) then err 8 else ok c
+
+-- ---- The best of some cones.
+
+-- A cone, and the numbers that it is ranked by.
+pub record Candidate : Type 0 where
+  pub score : List ℤ
+  pub cone : Cone
+
+-- The first number in which they differ decides.
+unfoldable pub less : List ℤ → List ℤ → Bool
+less [] ys = false
+less (x ∷ xs) [] = false
+less (x ∷ xs) (y ∷ ys) = let r = less xs ys in if ltZ x y then true else if ltZ y x then false else r
+
+-- The best so far gives way only to a lower score.
+unfoldable pub better : Option Candidate → Candidate → Candidate
+better none c = c
+better (some d) c = if less (c .score) (d .score) then c else d
+
+unfoldable pub bestFrom : Option Candidate → List Candidate → Option Candidate
+bestFrom d [] = d
+bestFrom d (c ∷ cs) = bestFrom (some (better d c)) cs
+
+-- The first of the least score.
+unfoldable pub best : List Candidate → Option Candidate
+best cs = bestFrom none cs
+
+-- cone_order_key: span, norm.
+unfoldable pub coneOrderKey : Cone → List ℤ
+coneOrderKey c = pos (coneSpan c) ∷ pos (norm2 c) ∷ []
