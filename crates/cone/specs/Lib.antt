@@ -1,0 +1,2 @@
+-- Laws of the definitions that cones and their composition are proved by.
+pub mod Rows

@@ -1,0 +1,1 @@
+// Cones: sources, a coefficient each, a bit for each assignment (first source the highest bit).
