@@ -1,2 +1,3 @@
 -- Laws of the definitions that cones and their composition are proved by.
+pub mod Table
 pub mod Rows

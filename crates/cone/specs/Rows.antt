@@ -44,6 +44,7 @@ assignments-are (suc n) =
   where
     lower : (i : ℕ) → i < 2 ^ n → 0 ∷ digits n i ≡ bit n i ∷ digits n i
     lower i h = rw (bit-top-zero n i h)
+
     upper : (i : ℕ) → i < 2 ^ n → 1 ∷ digits n i ≡ bit n (2 ^ n + i) ∷ digits n (2 ^ n + i)
     upper i h = rw (bit-top-one n i h) (ap {B = List ℕ} (λ r. 1 ∷ r) (sym (rw (one-mul, zero-add) at (digits-block n 0 1 i))))
 
@@ -168,6 +169,7 @@ own-digits (m ∷ ls) new (b ∷ bs) h e =
     absent : (a b : Bool) → (not a && b) ≡ true → a ≡ false
     absent true b h = sym h
     absent false b h = refl
+
     rest : (a b : Bool) → (not a && b) ≡ true → b ≡ true
     rest true b h = absurd (subst T (sym h) tt)
     rest false b h = h
@@ -229,9 +231,9 @@ at-next : (n z : ℕ) → digit (leb n (z + 1)) ≡ max (digit (eqb (z + 1 + 1) 
 at-next n z =
     ⊎-elim
     (λ (l : z < n). ⊎-elim
-      (λ (k : z + 1 < n). rw (lt-leb n (z + 1) k, ne-eqb (z + 1 + 1) (suc n) (λ e. omega arith), lt-leb n z l))
-      (λ (k : n ≤ z + 1). rw (le-leb n (z + 1) k, eq-eqb (z + 1 + 1) (suc n) (omega arith), lt-leb n z l))
-      (lt-or-le (z + 1) n))
+    (λ (k : z + 1 < n). rw (lt-leb n (z + 1) k, ne-eqb (z + 1 + 1) (suc n) (λ e. omega arith), lt-leb n z l))
+    (λ (k : n ≤ z + 1). rw (le-leb n (z + 1) k, eq-eqb (z + 1 + 1) (suc n) (omega arith), lt-leb n z l))
+    (lt-or-le (z + 1) n))
     (λ (l : n ≤ z). rw (le-leb n (z + 1) (omega arith), ne-eqb (z + 1 + 1) (suc n) (λ e. omega arith), le-leb n z l))
     (lt-or-le z n)
 

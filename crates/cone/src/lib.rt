@@ -1,1 +1,2 @@
 // Cones: sources, a coefficient each, a bit for each assignment (first source the highest bit).
+pub mod table;

@@ -4,7 +4,6 @@ use mathlib.Core.Bool.{Bool, true, false}
 use mathlib.Core.List.{List, [], _∷_, _++_, map}
 use Prim.Native.Nat.{ℕ, zero, suc, _+_, _-_, _*_, _/_, _%_, _^_, _<_, _≤_}
 use native.Mathlib.Nat.{div-one, mod-lt, not-suc-le-zero, le-of-suc-le-suc, two-pow-succ, pow-suc, div-div-eq-div-mul, mul-comm, mul-assoc, one-mul, div-eq-of-lt, add-comm, zero-add, suc-add}
-
 use native.Mathlib.Omega.{arith}
 use lib.Bits.{differ, block-half, block-odd}
 use lib.Count.{trailingZeros, under}
@@ -52,6 +51,7 @@ bit-step (suc k) (suc w) i h = rw (bit-suc k (i + 1), bit-suc k i) (by (bit-step
     same : (x : ℕ) → x ≡ differ x 0
     same zero = refl
     same (suc x) = refl
+
     by : bit k (i / 2 + 1) ≡ differ (bit k (i / 2)) (digit (leb k (trailingZeros w (i / 2 + 1))))
         → (d : ℕ) → i % 2 ≡ d → d < 2
         → bit k ((i + 1) / 2) ≡ differ (bit k (i / 2)) (digit (leb (suc k) (under ((i + 1) % 2) (trailingZeros w ((i + 1) / 2)))))
