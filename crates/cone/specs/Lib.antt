@@ -1,3 +1,4 @@
 -- Laws of the definitions that cones and their composition are proved by.
 pub mod Table
 pub mod Rows
+pub mod Support

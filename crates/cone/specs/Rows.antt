@@ -7,16 +7,16 @@ use Prim.Native.Nat.{ℕ, zero, suc, _+_, _-_, _*_, _/_, _%_, _^_, _<_, _≤_, m
 use native.Mathlib.Nat.{zero-div, two-pow-succ, one-mul, pow-succ', add-mul, mul-assoc, mul-comm, add-assoc, zero-mul, zero-add, mod-eq-of-lt, div-eq-of-lt, not-suc-le-zero, le-of-suc-le-suc, mod-one, lt-of-lt-of-le, le-trans, mul-le-mul-right}
 use native.Mathlib.Numerals.{add-one, one-add}
 use native.Mathlib.Omega.{arith}
-use lib.Bits.{bitXor, bitOr, differ, xor-step, or-step}
+use lib.Bits.{bitXor, bitOr, differ, xor-step, or-step, or-shifted-r}
 use lib.Count.{trailingZeros}
 use lib.Dec.{T, eqb, eqb·suc-suc, eqb·zero-suc, leb, leb·suc-zero}
-use lib.Seq.{take-at}
+use lib.Seq.{take-at, getD-set-same, getD-set-other}
 use borrow.Author.Tests.{eq-eqb, ne-eqb, le-leb, lt-leb}
-use lib.ListN.{length, getD, take, length-append, length-map}
+use lib.ListN.{length, getD, take, set, length-append, length-map}
 use lib.Pow.{mod-pow-add, shr-lt}
 use Rattle.laws.specs.Digits.{bit, bit-lt, digit, digit-lt, bit-step, bit-top-zero, bit-top-one, digits, digits-length, digits-upper, digits-block}
 use Rattle.laws.specs.Tabulate.{tabulate, tabulate-same, tabulate-append, map-tabulate}
-use Rattle.laws.specs.Test.{if_then_else_, if-both, lt-or-le}
+use Rattle.laws.specs.Test.{if_then_else_, if-both, lt-or-le, eq-or-ne}
 use Rattle.rules.specs.Cone.{rowFrom}
 use Rattle.rules.specs.Composition.{assignments, assigned, overRows}
 use Rattle.rules.specs.Network.{member}
@@ -260,3 +260,35 @@ rowFrom-shift x (b ∷ bs) = rowFrom-shift (2 * x + b) bs ∙ rw (two-pow-succ, 
 pub hitMask-cons : (U rs : List ℕ) (s z : ℕ) → hitMask U (s ∷ rs) z ≡ hit U z s * 2 ^ length rs + hitMask U rs z
 unfolding hitMask rowFrom
 hitMask-cons U rs s z = rowFrom-shift (2 * 0 + hit U z s) (map (hit U z) rs) ∙ rw length-map (omega arith)
+
+hit-here : (U : List ℕ) (z s : ℕ) → position U s + z + 1 ≡ length U → hit U z s ≡ 1
+unfolding hit
+hit-here U z s e = ap digit (eq-eqb (position U s + z + 1) (length U) e)
+
+hit-elsewhere : (U : List ℕ) (z s : ℕ) → (position U s + z + 1 ≡ length U → ⊥) → hit U z s ≡ 0
+unfolding hit
+hit-elsewhere U z s e = ap digit (ne-eqb (position U s + z + 1) (length U) e)
+
+hitMask-lt : (U rs : List ℕ) (z : ℕ) → hitMask U rs z < 2 ^ length rs
+unfolding hitMask
+hitMask-lt U rs z = omega (arith, row-lt (hit U z) (hit-digit U z) rs 0)
+
+-- a turn of the loop that goes through the sources from the last one on
+module _ (U rest masks : List ℕ) (s at : ℕ) (place : at ≡ position U s) (so-far : (z : ℕ) → z < 12 → getD masks z 0 ≡ hitMask U rest z) where
+  pub mask-set : at < length U → (shift m : ℕ) → shift ≡ length U - at - 1 → shift < 12 → length masks ≡ 12 → m ≡ 2 ^ length rest
+      → (z : ℕ) → z < 12 → getD (set masks shift (bitOr (getD masks shift 0) m)) z 0 ≡ hitMask U (s ∷ rest) z
+  mask-set h shift m e l n p z k =
+      ⊎-elim (λ (q : z ≡ shift). here q) (λ q. elsewhere q) (eq-or-ne z shift)
+      ∙ sym (hitMask-cons U rest s z)
+    where
+      here : z ≡ shift → getD (set masks shift (bitOr (getD masks shift 0) m)) z 0 ≡ hit U z s * 2 ^ length rest + hitMask U rest z
+      here q =
+          rw (q, getD-set-same masks shift (bitOr (getD masks shift 0) m) 0 (omega arith), so-far shift l, p, hit-here U shift s (omega arith), one-mul)
+          (rw one-mul at (or-shifted-r 1 (length rest) (hitMask U rest shift) (hitMask-lt U rest shift)))
+
+      elsewhere : (z ≡ shift → ⊥) → getD (set masks shift (bitOr (getD masks shift 0) m)) z 0 ≡ hit U z s * 2 ^ length rest + hitMask U rest z
+      elsewhere q =
+          rw (getD-set-other masks shift z (bitOr (getD masks shift 0) m) 0 q, so-far z k, hit-elsewhere U z s (λ r. q (omega arith))) (omega arith)
+
+  pub mask-kept : length U ≤ at → (z : ℕ) → z < 12 → getD masks z 0 ≡ hitMask U (s ∷ rest) z
+  mask-kept h z k = so-far z k ∙ sym (hitMask-cons U rest s z ∙ rw (hit-elsewhere U z s (λ e. omega arith)) (omega arith))
