@@ -1,7 +1,7 @@
 -- Sources: where one stands, and those of two cones together.
 use mathlib.Core.Path.{_≡_, refl, sym, ap, _∙_}
 use mathlib.Core.Bool.{Bool, true, false, not}
-use mathlib.Core.List.{List, [], _∷_, _++_}
+use mathlib.Core.List.{List, [], _∷_, _++_, zipWith}
 use mathlib.Core.Logic.{⊎-elim}
 use Prim.Native.Nat.{ℕ, zero, suc, _+_, _-_, _≤_, _<_}
 use native.Mathlib.Nat.{not-suc-le-zero, le-of-suc-le-suc}
@@ -9,11 +9,14 @@ use native.Mathlib.Numerals.{add-one}
 use native.Mathlib.Omega.{arith}
 use borrow.Author.Tests.{eq-eqb, ne-eqb}
 use lib.Dec.{eqb}
+use lib.IntN.{ℤ, pos}
 use lib.ListN.{length, getD, drop, length-append, drop-of-length-le}
 use lib.Seq.{drop-cons}
 use Rattle.laws.specs.Select.{select}
 use Rattle.laws.specs.Test.{if_then_else_, if-both, eq-or-ne}
-use Rattle.rules.specs.Network.{member}
+use Rattle.rules.specs.Network.{member, Term}
+use Rattle.rules.specs.Cone.{Cone}
+use Rattle.rules.specs.Store.{terms, coefficientOf}
 use Rattle.rules.specs.Composition.{unionSupport}
 use Rattle.cone.specs.Rows.{position}
 
@@ -87,3 +90,25 @@ module _ (left right : List ℕ) (i : ℕ) (h : i < length right) where
 pub new-end : (left right : List ℕ) (i : ℕ) → length right ≤ i → select (isNew left) (drop i right) ≡ []
 unfolding select
 new-end left right i h = rw (drop-of-length-le right {i = i} h)
+
+-- ---- coefficients
+
+-- `terms` of a cone with these coefficients and sources
+unfoldable pub termsOver : List ℤ → List ℕ → List Term
+termsOver = zipWith (λ (k : ℤ) (n : ℕ). record { coef = k; node = n })
+
+pub terms-are : (c : Cone) → terms c ≡ termsOver (c .coefficients) (c .support)
+unfolding terms termsOver
+terms-are c = refl
+
+pub coefficient-at : (cs : List ℤ) (ns : List ℕ) (n : ℕ) → length ns ≡ length cs → coefficientOf (termsOver cs ns) n ≡ getD cs (position ns n) (pos 0)
+unfolding coefficientOf termsOver position zipWith
+coefficient-at [] [] n e = refl
+coefficient-at [] (m ∷ ns) n e = absurd (omega arith)
+coefficient-at (c ∷ cs) [] n e = absurd (omega arith)
+coefficient-at (c ∷ cs) (m ∷ ns) n e = by (eqb m n) (coefficient-at cs ns n (omega arith))
+  where
+    by : (t : Bool) → coefficientOf (termsOver cs ns) n ≡ getD cs (position ns n) (pos 0)
+        → (if t then c else coefficientOf (termsOver cs ns) n) ≡ getD (c ∷ cs) (if t then 0 else suc (position ns n)) (pos 0)
+    by true r = refl
+    by false r = r
