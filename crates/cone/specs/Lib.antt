@@ -2,3 +2,5 @@
 pub mod Table
 pub mod Rows
 pub mod Support
+pub mod View
+pub mod Compose
