@@ -1,5 +1,6 @@
 -- Laws of the definitions that cones and their composition are proved by.
 pub mod Table
+pub mod Span
 pub mod Rows
 pub mod Support
 pub mod View

@@ -28,18 +28,18 @@ table-length [] = refl
 table-length (c ∷ cs) =
     rw (length-append, length-map, two-pow-succ) (let ih = table-length cs in omega arith)
 
-within-append : (k : ℕ) (s t : List ℤ) → Within k s → Within k t → Within k (s ++ t)
+pub within-append : (k : ℕ) (s t : List ℤ) → Within k s → Within k t → Within k (s ++ t)
 within-append k [] t h g i = g i
 within-append k (x ∷ s) t h g zero = h 0
 within-append k (x ∷ s) t h g (suc i) = within-append k s t (λ j. h (suc j)) g i
 
-within-shifted : (k m : ℕ) (c : ℤ) (l : List ℤ) → natAbs c ≤ m → Within k l → Within (k + m) (shifted c l)
+pub within-shifted : (k m : ℕ) (c : ℤ) (l : List ℤ) → natAbs c ≤ m → Within k l → Within (k + m) (shifted c l)
 unfolding shifted
 within-shifted k m c [] h g i = zero-le
 within-shifted k m c (x ∷ l) h g zero = omega (arith, abs-add c x, g 0)
 within-shifted k m c (x ∷ l) h g (suc i) = within-shifted k m c l h (λ j. g (suc j)) i
 
-within-more : (k m : ℕ) (l : List ℤ) → k ≤ m → Within k l → Within m l
+pub within-more : (k m : ℕ) (l : List ℤ) → k ≤ m → Within k l → Within m l
 within-more k m l h g i = omega (arith, g i)
 
 pub table-within : (m : ℕ) (cs : List ℤ) → Within m cs → Within (m * length cs) (linearTable cs)

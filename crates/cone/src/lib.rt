@@ -3,10 +3,57 @@ pub mod compose;
 pub mod support;
 pub mod table;
 
+ghost use mathlib.Core.Path.{_≡_};
+ghost use Prim.Native.Nat.{ℕ, _+_, _≤_, _<_, _^_};
+ghost use lib.ListN.{length};
+ghost use Rattle.rules.specs.Cone as rules;
+ghost use Rattle.scale.specs.Limits.{Within};
+ghost use Rattle.cone.specs.View.{coneOf, IsCone};
+ghost use Rattle.cone.specs.Span.{total};
+
 // The first n sources and coefficients, and 2^n truths; what stands past them does not matter.
 pub struct Cone {
     pub n: usize,
     pub support: [usize; 11],
     pub coefs: [i64; 11],
     pub truth: [u8; 2048],
+}
+
+// What a cone with no source is.
+pub enum Constant {
+    Bit(u8),
+    No,
+}
+
+impl Cone {
+    // A cone with no source.
+    pub fn constant(value: u8) -> Cone
+        requires { ⌜ value < 2 ⌝ }
+        ensures { λ r. ⌜ IsCone r × (coneOf r ≡ rules.constant value) ⌝ }
+    {
+        Cone {
+            n: 0,
+            support: [0usize; 11],
+            coefs: [0i64; 11],
+            truth: [value; 2048],
+        }
+    }
+
+    // The cone of one source.
+    pub fn identity(node: usize) -> Cone
+        ensures { λ r. ⌜ IsCone r × (coneOf r ≡ rules.identity node) ⌝ }
+    {
+        let mut support = [0usize; 11];
+        support[0] = node;
+        let mut coefs = [0i64; 11];
+        coefs[0] = 1;
+        let mut truth = [0u8; 2048];
+        truth[1] = 1;
+        Cone {
+            n: 1,
+            support,
+            coefs,
+            truth,
+        }
+    }
 }

@@ -12,7 +12,7 @@ use Rattle.laws.specs.Digits.{trailing-small}
 use Rattle.rules.specs.Composition.{unionSupport, gateTruth}
 use Rattle.cone.specs.declared.Cone.{Cone}
 use Rattle.cone.specs.Rows.{rowOver, rowOver-lt, rowOver-step, toggleMask}
-use Rattle.cone.specs.View.{coneOf, IsCone, view-sources, view-different, truth-at, truth-bit, rows-fit}
+use Rattle.cone.specs.View.{coneOf, IsCone, view-sources, truth-at, truth-bit, rows-fit}
 use Rattle.cone.specs.Compose.{gateTruth-at, union-length}
 
 -- what is known in a turn
@@ -50,7 +50,7 @@ module _ {left right : Cone} {U : List ℕ} {i r : ℕ} (w : AtRow left right U 
       ≡ getD (gateTruth U (coneOf left) (coneOf right) gate) i 0
   answer gate =
       sym
-      (gateTruth-at (coneOf left) (coneOf right) gate i (view-different left (w .is-left)) U (w .union) (w .below)
+      (gateTruth-at (coneOf left) (coneOf right) gate i (w .is-left .different) U (w .union) (w .below)
       ∙ rw (view-sources left (w .is-left) (w .left-long), ← w .row, truth-at left (w .is-left) (i / 2 ^ (length U - left .n)) left-row, truth-at right (w .is-right) r right-row))
 
   pub zeros : trailingZeros 64 (i + 1) < 12
