@@ -5,3 +5,5 @@ pub mod Rows
 pub mod Support
 pub mod View
 pub mod Compose
+pub mod Basis
+pub mod Simplify

@@ -3,10 +3,12 @@ use mathlib.Core.Path.{_≡_, refl, sym, ap, _∙_}
 use mathlib.Core.Bool.{Bool, true, false}
 use mathlib.Core.List.{List, [], _∷_, _++_, map}
 use mathlib.Core.Logic.{⊎-elim}
-use Prim.Native.Nat.{ℕ, zero, suc, _+_, _≤_, _<_, zero-le}
+use Prim.Native.Nat.{ℕ, zero, suc, _+_, _*_, _≤_, _<_, zero-le}
 use native.Mathlib.Omega.{arith}
 use lib.IntN.{ℤ, pos, negsuc, negℤ, natAbs, _+ℤ_, _-ℤ_}
-use lib.ListN.{length, getD}
+use lib.ListN.{length, getD, drop, drop-of-length-le}
+use lib.Seq.{drop-cons}
+use native.Mathlib.Numerals.{add-one}
 use lib.Signed.{ltZ}
 use Rattle.laws.specs.Integer.{ints, plus, minus, abs-parts, one-part-zero, add-parts, sub-parts, plus-neg, minus-neg, ltZ-true, ltZ-false, true-ltZ, false-ltZ}
 use Rattle.laws.specs.Test.{if_then_else_, decide}
@@ -203,3 +205,18 @@ table-within-total (c ∷ cs) =
     (within-more (total cs) (natAbs c + total cs) (linearTable cs) (omega arith) ih)
     (within-more (total cs + natAbs c) (natAbs c + total cs) (shifted c (linearTable cs)) (omega arith)
     (within-shifted (total cs) (natAbs c) c (linearTable cs) (omega arith) ih))
+
+-- a turn of the loop that adds them, and its end
+module _ (cs : List ℤ) (i : ℕ) where
+  pub total-on : i < length cs → total (drop i cs) ≡ natAbs (getD cs i (pos 0)) + total (drop (i + 1) cs)
+  unfolding total
+  total-on h = rw (drop-cons cs i (pos 0) h, add-one)
+
+  pub total-end : length cs ≤ i → total (drop i cs) ≡ 0
+  unfolding total
+  total-end h = rw (drop-of-length-le cs {i = i} h)
+
+pub total-small : (k : ℕ) (cs : List ℤ) → Within k cs → total cs ≤ length cs * k
+unfolding total
+total-small k [] w = omega arith
+total-small k (c ∷ cs) w = omega (arith, total-small k cs (λ i. w (suc i)), w 0)

@@ -1,5 +1,6 @@
 // Cones: sources, a coefficient each, a bit for each assignment (first source the highest bit).
 pub mod compose;
+pub mod simplify;
 pub mod support;
 pub mod table;
 

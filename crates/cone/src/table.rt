@@ -6,6 +6,7 @@ ghost use lib.ListN.{length, take};
 ghost use lib.IntN.{natAbs};
 ghost use Rattle.laws.specs.Over.{over};
 ghost use Rattle.rules.specs.Cone.{linearTable};
+ghost use Rattle.rules.specs.Span.{span};
 ghost use Rattle.scale.specs.Limits.{Within};
 ghost use Rattle.cone.specs.Table.{shifted};
 
@@ -48,4 +49,18 @@ pub fn linear_table(coefs: &[i64], table: &mut [i32])
         shift(&mut table[half..], half, c);
         half = half + half;
     }
+}
+
+// table_span of the linear form's table: the coefficients' absolute values added, plus 1.
+pub fn linear_span(coefs: &[i64]) -> usize
+    requires { ⌜ (length (now coefs) ≤ 11) × Within 1984 (now coefs) ⌝ }
+    ensures { λ r. ⌜ r ≡ span (linearTable (now (coefs .entry))) ⌝ }
+{
+    let mut sum = 1;
+    let mut i = 0;
+    while i < coefs.len() {
+        sum += scale::magnitude(coefs[i]);
+        i += 1;
+    }
+    sum
 }

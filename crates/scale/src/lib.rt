@@ -24,6 +24,14 @@ fn abs_i64(x: i64) -> i64
     if x < 0 { -x } else { x }
 }
 
+// The absolute value, as a number that counts.
+pub fn magnitude(x: i64) -> usize
+    requires { ⌜ natAbs x < 2 ^ 63 ⌝ }
+    ensures { λ r. ⌜ r ≡ natAbs x ⌝ }
+{
+    abs_i64(x) as usize
+}
+
 // The greatest common divisor, not negative.
 pub fn gcd_i64(left: i64, right: i64) -> i64
     requires { ⌜ (natAbs left < 2 ^ 63) × (natAbs right < 2 ^ 63) ⌝ }

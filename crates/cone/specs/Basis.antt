@@ -1,0 +1,54 @@
+-- Two cones laid over their sources together, and the tables of their composition.
+use mathlib.Core.Path.{_≡_}
+use mathlib.Core.List.{List, [], _∷_, map, zipWith}
+use Prim.Native.Nat.{ℕ, zero, suc, _≤_, _^_, zero-le}
+use lib.Dec.{eqb}
+use lib.IntN.{ℤ, natAbs}
+use lib.ListN.{length, take}
+use Rattle.laws.specs.Over.{over}
+use Rattle.laws.specs.Test.{if-both}
+use Rattle.rules.specs.Cone.{Cone, linearTable}
+use Rattle.rules.specs.Store.{terms, coefficientOf}
+use Rattle.rules.specs.Composition.{unionSupport, gateTruth}
+use Rattle.scale.specs.Limits.{Within}
+use Rattle.cone.specs.declared.compose.Basis.{Basis}
+use Rattle.cone.specs.Support.{termsOver, terms-are}
+
+-- A cone's coefficients over a support.
+unfoldable pub coefficientsOver : List ℕ → Cone → List ℤ
+coefficientsOver support c = map (coefficientOf (terms c)) support
+
+pub record IsBasis (left right : Cone) (b : Basis) : Type 0 where
+  pub few : b .n ≤ 11
+  pub count : b .n ≡ length (unionSupport (left .support) (right .support))
+  pub sources : take (b .n) (b .support) ≡ unionSupport (left .support) (right .support)
+  pub lefts : take (b .n) (b .left) ≡ coefficientsOver (unionSupport (left .support) (right .support)) left
+  pub rights : take (b .n) (b .right) ≡ coefficientsOver (unionSupport (left .support) (right .support)) right
+
+-- The three tables have an entry for each row over n sources.
+pub record Room (n : ℕ) (xs ys : List ℤ) (truth : List ℕ) : Type 0 where
+  pub x : 2 ^ n ≤ length xs
+  pub y : 2 ^ n ≤ length ys
+  pub t : 2 ^ n ≤ length truth
+
+-- The tables before and after: at each row over the union the left value, the right value and the gate's answer.
+pub record Composed (left right : Cone) (gate : List ℕ) (xs ys : List ℤ) (truth : List ℕ) (xs′ ys′ : List ℤ) (truth′ : List ℕ) : Type 0 where
+  pub x : xs′ ≡ over (linearTable (coefficientsOver (unionSupport (left .support) (right .support)) left)) xs
+  pub y : ys′ ≡ over (linearTable (coefficientsOver (unionSupport (left .support) (right .support)) right)) ys
+  pub t : truth′ ≡ over (gateTruth (unionSupport (left .support) (right .support)) left right gate) truth
+
+-- ---- laws: a coefficient over a support is one of the cone's, or 0
+coefficient-within : (k : ℕ) (cs : List ℤ) (ns : List ℕ) (n : ℕ) → Within k cs → natAbs (coefficientOf (termsOver cs ns) n) ≤ k
+unfolding coefficientOf termsOver zipWith
+coefficient-within k [] ns n w = zero-le
+coefficient-within k (c ∷ cs) [] n w = zero-le
+coefficient-within k (c ∷ cs) (m ∷ ns) n w = if-both (λ z. natAbs z ≤ k) (eqb m n) (w 0) (coefficient-within k cs ns n (λ i. w (suc i)))
+
+map-within : (k : ℕ) (f : ℕ → ℤ) → ((n : ℕ) → natAbs (f n) ≤ k) → (l : List ℕ) → Within k (map f l)
+map-within k f h [] i = zero-le
+map-within k f h (n ∷ l) zero = h n
+map-within k f h (n ∷ l) (suc i) = map-within k f h l i
+
+pub coefficientsOver-within : (k : ℕ) (U : List ℕ) (c : Cone) → Within k (c .coefficients) → Within k (coefficientsOver U c)
+unfolding coefficientsOver
+coefficientsOver-within k U c w = map-within k (coefficientOf (terms c)) (λ n. rw (terms-are c) (coefficient-within k (c .coefficients) (c .support) n w)) U
