@@ -1,6 +1,6 @@
 -- Rows of a cone over the rows of a larger support: as numbers, and from one to the next.
 use mathlib.Core.Path.{_≡_, refl, sym, ap, ap₂, subst, _∙_}
-use mathlib.Core.Bool.{Bool, true, false, not, _&&_, _||_}
+use mathlib.Core.Bool.{Bool, true, false, not}
 use mathlib.Core.List.{List, [], _∷_, _++_, map}
 use mathlib.Core.Logic.{⊎-elim}
 use Prim.Native.Nat.{ℕ, zero, suc, _+_, _-_, _*_, _/_, _%_, _^_, _<_, _≤_, max}
@@ -11,12 +11,12 @@ use lib.Bits.{bitXor, bitOr, differ, xor-step, or-step, or-shifted-r}
 use lib.Count.{trailingZeros}
 use lib.Dec.{T, eqb, eqb·suc-suc, eqb·zero-suc, leb, leb·suc-zero}
 use lib.Seq.{take-at, getD-set-same, getD-set-other}
-use borrow.Author.Tests.{eq-eqb, ne-eqb, le-leb, lt-leb}
+use borrow.Author.Tests.{eq-eqb, ne-eqb, le-leb, lt-leb, not-true}
 use lib.ListN.{length, getD, take, set, length-append, length-map}
 use lib.Pow.{mod-pow-add, shr-lt}
-use Rattle.laws.specs.Digits.{bit, bit-lt, digit, digit-lt, bit-step, bit-top-zero, bit-top-one, digits, digits-length, digits-upper, digits-block}
+use Rattle.laws.specs.Digits.{bit, bit-lt, digit, digit-lt, bit-step, trailing-small, bit-top-zero, bit-top-one, digits, digits-length, digits-upper, digits-block}
 use Rattle.laws.specs.Tabulate.{tabulate, tabulate-same, tabulate-append, map-tabulate}
-use Rattle.laws.specs.Test.{if_then_else_, if-both, lt-or-le, eq-or-ne}
+use Rattle.laws.specs.Test.{if_then_else_, if-both, lt-or-le, eq-or-ne, neither-left, neither-right, both-left, both-right}
 use Rattle.rules.specs.Cone.{rowFrom}
 use Rattle.rules.specs.Composition.{assignments, assigned, overRows}
 use Rattle.rules.specs.Network.{member}
@@ -145,34 +145,18 @@ rowOver-lt U rs i = omega (arith, row-lt (assigned U (digits (length U) i)) (ass
 
 -- ---- The sources of U itself, and more after them: the row is the quotient.
 
-or-left : (a b : Bool) → (a || b) ≡ false → a ≡ false
-or-left true b h = h
-or-left false b h = refl
-
-or-right : (a b : Bool) → (a || b) ≡ false → b ≡ false
-or-right true b h = absurd (subst T h tt)
-or-right false b h = h
-
 -- a source that is not m has the digit that it has without m
 other-map : (m b : ℕ) (U bs rs : List ℕ) → member m rs ≡ false → map (assigned (m ∷ U) (b ∷ bs)) rs ≡ map (assigned U bs) rs
 unfolding assigned member
 other-map m b U bs [] h = refl
-other-map m b U bs (r ∷ rs) h = rw (or-left (eqb m r) (member m rs) h, other-map m b U bs rs (or-right (eqb m r) (member m rs) h))
+other-map m b U bs (r ∷ rs) h = rw (neither-left (eqb m r) (member m rs) h, other-map m b U bs rs (neither-right (eqb m r) (member m rs) h))
 
 own-digits : (ls new bs : List ℕ) → allDifferent ls ≡ true → length bs ≡ length ls + length new → map (assigned (ls ++ new) bs) ls ≡ take (length ls) bs
 unfolding allDifferent assigned
 own-digits [] new bs h e = refl
 own-digits (m ∷ ls) new [] h e = absurd (omega arith)
 own-digits (m ∷ ls) new (b ∷ bs) h e =
-    rw (eq-eqb m m refl, other-map m b (ls ++ new) bs ls (absent (member m ls) (allDifferent ls) h), own-digits ls new bs (rest (member m ls) (allDifferent ls) h) (omega arith))
-  where
-    absent : (a b : Bool) → (not a && b) ≡ true → a ≡ false
-    absent true b h = sym h
-    absent false b h = refl
-
-    rest : (a b : Bool) → (not a && b) ≡ true → b ≡ true
-    rest true b h = absurd (subst T (sym h) tt)
-    rest false b h = h
+    rw (eq-eqb m m refl, other-map m b (ls ++ new) bs ls (not-true (member m ls) (both-left (not (member m ls)) (allDifferent ls) h)), own-digits ls new bs (both-right (not (member m ls)) (allDifferent ls) h) (omega arith))
 
 pub rowOver-own : (ls new : List ℕ) (i : ℕ) → allDifferent ls ≡ true → i < 2 ^ (length ls + length new) → rowOver (ls ++ new) ls i ≡ i / 2 ^ length new
 unfolding rowOver
@@ -292,3 +276,11 @@ module _ (U rest masks : List ℕ) (s at : ℕ) (place : at ≡ position U s) (s
 
   pub mask-kept : length U ≤ at → (z : ℕ) → z < 12 → getD masks z 0 ≡ hitMask U (s ∷ rest) z
   mask-kept h z k = so-far z k ∙ sym (hitMask-cons U rest s z ∙ rw (hit-elsewhere U z s (λ e. omega arith)) (omega arith))
+
+-- ---- A loop over the rows, in a turn: U has at most 11 sources, i is a row and r the row of the sources rs.
+module _ (U rs : List ℕ) (i r : ℕ) (few : length U ≤ 11) (below : i < 2 ^ length U) (row : r ≡ rowOver U rs i) where
+  pub zeros : trailingZeros 64 (i + 1) < 12
+  zeros = omega (arith, trailing-small (length U) 64 (i + 1) (omega arith) (omega (arith, two-pow-succ (length U))))
+
+  pub next-row : (masks : List ℕ) → ((z : ℕ) → z < 12 → getD masks z 0 ≡ toggleMask U rs z) → bitXor r (getD masks (trailingZeros 64 (i + 1)) 0) ≡ rowOver U rs (i + 1)
+  next-row masks m = rw (m (trailingZeros 64 (i + 1)) zeros, row) (sym (rowOver-step U rs 64 i (omega arith)))

@@ -1,6 +1,9 @@
 // Two cones under a gate.
 use crate::Cone;
-use crate::support::{Support, coefficients_over, toggle_masks, union_support};
+use crate::support::Support;
+use crate::support::coefficients_over;
+use crate::support::toggle_masks;
+use crate::support::union_support;
 use crate::table::linear_table;
 ghost use mathlib.Core.Path.{_≡_};
 ghost use mathlib.Core.List.{map};
@@ -102,9 +105,7 @@ pub fn cone_composition_tables(
     truth: &mut [u8],
 )
     requires { ⌜ IsCone left × (IsCone right × (IsBasis (coneOf left) (coneOf right) basis × Room (basis .n) (now xs) (now ys) (now truth))) ⌝ }
-    ensures {
-        λ _. ⌜ Composed (coneOf left) (coneOf right) gate (now (xs .entry)) (now (ys .entry)) (now (truth .entry)) (now (xs .exit)) (now (ys .exit)) (now (truth .exit)) ⌝
-    }
+    ensures { λ _. ⌜ Composed (coneOf left) (coneOf right) gate (now (xs .entry)) (now (ys .entry)) (now (truth .entry)) (now (xs .exit)) (now (ys .exit)) (now (truth .exit)) ⌝ }
 {
     let n = basis.n;
     let l = basis.left;

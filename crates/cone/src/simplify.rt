@@ -2,18 +2,14 @@
 use crate::Cone;
 use crate::support::toggle_masks;
 ghost use mathlib.Core.Path.{_≡_};
-ghost use mathlib.Core.List.{map};
-ghost use Prim.Native.Nat.{ℕ, _+_, _≤_, _<_, _^_};
+ghost use Prim.Native.Nat.{_≤_, _^_};
 ghost use lib.ListN.{length, take};
 ghost use Rattle.laws.specs.Select.{select};
-ghost use Rattle.rules.specs.Cone.{coneBit};
-ghost use Rattle.rules.specs.NetworkText.{sources};
 ghost use Rattle.rules.specs.Store.{isUsed};
-ghost use Rattle.rules.specs.Composition.{overRows, simplifyCone};
-ghost use Rattle.scale.specs.Limits.{Machine};
+ghost use Rattle.rules.specs.Composition.{simplifyCone};
 ghost use Rattle.cone.specs.Support.{termsOver};
 ghost use Rattle.cone.specs.View.{coneOf, IsCone};
-ghost use Rattle.cone.specs.Simplify.{coefs, IsRetained};
+ghost use Rattle.cone.specs.Simplify.{IsRetained, truthOver};
 
 // The first n sources and coefficients of a sum.
 pub struct Retained {
@@ -49,7 +45,7 @@ fn retain(support: &[usize], coefs: &[i64]) -> Retained
 // The cone's truth at each row over the kept sources, with 0 at the others.
 fn kept_truth(cone: Cone, kept: &[usize]) -> [u8; 2048]
     requires { ⌜ IsCone cone × (length (now kept) ≤ 11) ⌝ }
-    ensures { λ r. ⌜ take (2 ^ length (now (kept .entry))) r ≡ overRows (now (kept .entry)) (λ bit. coneBit bit (coneOf cone)) ⌝ }
+    ensures { λ r. ⌜ take (2 ^ length (now (kept .entry))) r ≡ truthOver (now (kept .entry)) (coneOf cone) ⌝ }
 {
     let sources = cone.support;
     let count = cone.n;
@@ -64,4 +60,28 @@ fn kept_truth(cone: Cone, kept: &[usize]) -> [u8; 2048]
         r = r ^ masks[usize::trailing_zeros(i) as usize];
     }
     truth
+}
+
+// simplify_cone: the sources whose coefficient is 0 left out.
+pub fn simplify_cone(cone: Cone) -> Cone
+    requires { ⌜ IsCone cone ⌝ }
+    ensures { λ r. ⌜ IsCone r × (coneOf r ≡ simplifyCone (coneOf cone)) ⌝ }
+{
+    let support = cone.support;
+    let coefs = cone.coefs;
+    let n = cone.n;
+    let kept = retain(&support[..n], &coefs[..n]);
+    let m = kept.n;
+    if m == n {
+        return cone;
+    }
+    let nodes = kept.support;
+    let values = kept.coefs;
+    let truth = kept_truth(cone, &nodes[..m]);
+    Cone {
+        n: m,
+        support: nodes,
+        coefs: values,
+        truth,
+    }
 }

@@ -84,12 +84,13 @@ returns c =
     let u = c .before .before .before .before .before in
     let s = u .before .before .before .before .before in
     let n = nodes u in
-    record
-    { few = few u
-    ; count = n .0
-    ; sources = n .1
-    ; lefts = over-union _ (u .union-of .result .nodes) _ (coneOf (s .args .left)) (c .before .before .coefficients-of .result) (n .0) (n .1) (lefts (c .before .before))
-    ; rights = over-union _ (u .union-of .result .nodes) _ (coneOf (s .args .right)) (c .coefficients-of2 .result) (n .0) (n .1) (rights c) }
+    record {
+      few = few u;
+      count = n .0;
+      sources = n .1;
+      lefts = over-union _ (u .union-of .result .nodes) _ (coneOf (s .args .left)) (c .before .before .coefficients-of .result) (n .0) (n .1) (lefts (c .before .before));
+      rights = over-union _ (u .union-of .result .nodes) _ (coneOf (s .args .right)) (c .coefficients-of2 .result) (n .0) (n .1) (rights c);
+    }
 
 pub basis-of-spec : {M : Type 1} → statement M
 basis-of-spec =

@@ -1,19 +1,19 @@
 -- `cone::compose::composed_truth` meets its contract: the right row steps with the assignment, and the rows passed have the gate's answers.
 mod Turn
-use Turn.{AtRow, left-within, in-truths, bits, answer, zeros, next}
-use mathlib.Core.Path.{_≡_, refl, sym, ap, subst, _∙_}
-use mathlib.Core.List.{List, [], _∷_, _++_}
-use Prim.Native.Nat.{ℕ, _+_, _-_, _*_, _/_, _^_, _≤_, _<_}
+use Turn.{AtRow, left-within, in-truths, bits, answer}
+use mathlib.Core.Path.{_≡_, refl, sym, _∙_}
+use Prim.Native.Nat.{ℕ, _+_, _-_, _^_, _≤_, _<_}
 use native.Mathlib.Omega.{arith}
 use borrow.Author.Needs.{needs}
-use lib.ListN.{length, getD, take, set, length-set}
+use lib.Count.{trailingZeros}
+use lib.ListN.{length, getD, length-set}
 use lib.Seq.{length-take-le}
 use Rattle.laws.specs.Front.{front, front-zero, front-step}
-use Rattle.laws.specs.Over.{over, front-over}
-use Rattle.rules.specs.Composition.{unionSupport, gateTruth}
-use Rattle.cone.specs.Rows.{rowOver, rowOver-zero, rowOver-lt, rowOver-step, toggleMask}
-use Rattle.cone.specs.View.{coneOf, IsCone}
-use Rattle.cone.specs.Compose.{gateTruth-length, gateTruth-at, union-length}
+use Rattle.laws.specs.Over.{front-over}
+use Rattle.rules.specs.Composition.{gateTruth}
+use Rattle.cone.specs.Rows.{rowOver, rowOver-zero, toggleMask, zeros, next-row}
+use Rattle.cone.specs.View.{coneOf}
+use Rattle.cone.specs.Compose.{gateTruth-length}
 use Rattle.cone.proofs.compose.composed_truth.Statement.{statement}
 use Rattle.cone.proofs.compose.composed_truth.Tie as tie
 use Rattle.cone.proofs.compose.composed_truth.Reads as reads
@@ -85,6 +85,9 @@ at-row c =
       row = c .before .loop .inv .2;
     }
 
+zeros-left : (c : tie.In-loop Inv-loop μ-loop) → trailingZeros 64 (c .before .loop .i + 1) < 12
+zeros-left c = let w = at-row c in zeros _ _ (c .before .loop .i) (c .before .loop .r) (w .few) (w .below) (w .row)
+
 element-copy-out-g : tie.Need-element-copy-out-g Inv-loop μ-loop
 element-copy-out-g c = in-truths (at-row c) .0
 
@@ -113,13 +116,13 @@ add-i : tie.Need-add-i Inv-loop μ-loop
 add-i c = search needs
 
 cast-r : tie.Need-cast-r Inv-loop μ-loop
-cast-r c = record { fits = omega (arith, zeros (at-row (c .before .before))) }
+cast-r c = record { fits = omega (arith, zeros-left (c .before .before)) }
 
 mul-r : tie.Need-mul-r Inv-loop μ-loop
-mul-r c = record { fits = omega (arith, zeros (at-row (c .before .before))) }
+mul-r c = record { fits = omega (arith, zeros-left (c .before .before)) }
 
 array-read-r : tie.Need-array-read-r Inv-loop μ-loop
-array-read-r c = zeros (at-row (c .before .before))
+array-read-r c = zeros-left (c .before .before)
 
 loop-less : tie.Need-loop-less Inv-loop μ-loop
 loop-less c = search needs
@@ -132,7 +135,7 @@ loop-again c =
     let w = at-row b in (
       omega (arith, w .below),
       simp length-set (o .inv .1),
-      next w (b .before .before .toggle-masks .result) (masks-are (b .before .before)),
+      next-row _ _ (o .i) (o .r) (w .few) (w .below) (w .row) (b .before .before .toggle-masks .result) (masks-are (b .before .before)),
       front-step _ _ (o .truth) (o .i) _ 0 (o .inv .3) (answer w (s .args .t4)) (rw gateTruth-length (w .below)) (omega (arith, w .below)),
     )
 

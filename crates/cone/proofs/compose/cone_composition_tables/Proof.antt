@@ -62,8 +62,8 @@ composed-truth-requires c κs =
 values-are : (t d : List ℤ) (cs us : List ℤ) → cs ≡ us → t ≡ over (linearTable cs) d → t ≡ over (linearTable us) d
 values-are t d cs us e f = f ∙ ap (λ l. over (linearTable l) d) e
 
-truths-are : (t d U V gate : List ℕ) (left right : rules.Cone) → U ≡ V → t ≡ over (gateTruth U left right gate) d → t ≡ over (gateTruth V left right gate) d
-truths-are t d U V gate left right e f = f ∙ ap (λ W. over (gateTruth W left right gate) d) e
+truths-are : (t d U W gate : List ℕ) (left right : rules.Cone) → U ≡ W → t ≡ over (gateTruth U left right gate) d → t ≡ over (gateTruth W left right gate) d
+truths-are t d U W gate left right e f = f ∙ ap (λ X. over (gateTruth X left right gate) d) e
 
 returns : tie.Need-returns
 returns c =
@@ -71,10 +71,11 @@ returns c =
     let y = t .before .before .before .before in
     let x = y .before .before .before in
     let s = x .before .before .before .before .before .before in
-    record
-    { x = values-are _ _ _ _ (is-basis s .lefts) (x .values-of .ensures)
-    ; y = values-are _ _ _ _ (is-basis s .rights) (y .values-of2 .ensures)
-    ; t = truths-are _ _ _ _ (s .args .gate) (coneOf (s .args .left)) (coneOf (s .args .right)) (is-basis s .sources) (t .composed-truth .ensures) }
+    record {
+      x = values-are _ _ _ _ (is-basis s .lefts) (x .values-of .ensures);
+      y = values-are _ _ _ _ (is-basis s .rights) (y .values-of2 .ensures);
+      t = truths-are _ _ _ _ (s .args .gate) (coneOf (s .args .left)) (coneOf (s .args .right)) (is-basis s .sources) (t .composed-truth .ensures);
+    }
 
 pub cone-composition-tables-spec : {M : Type 1} → statement M
 cone-composition-tables-spec =

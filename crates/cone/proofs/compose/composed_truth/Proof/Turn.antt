@@ -2,16 +2,12 @@
 use mathlib.Core.Path.{_≡_, refl, sym, ap, _∙_}
 use mathlib.Core.List.{List}
 use Prim.Native.Nat.{ℕ, suc, _+_, _-_, _*_, _/_, _^_, _<_, _≤_}
-use native.Mathlib.Nat.{two-pow-succ}
 use native.Mathlib.Omega.{arith}
-use lib.Bits.{bitXor}
-use lib.Count.{trailingZeros}
 use lib.ListN.{length, getD}
 use lib.Pow.{shr-lt}
-use Rattle.laws.specs.Digits.{trailing-small}
 use Rattle.rules.specs.Composition.{unionSupport, gateTruth}
 use Rattle.cone.specs.declared.Cone.{Cone}
-use Rattle.cone.specs.Rows.{rowOver, rowOver-lt, rowOver-step, toggleMask}
+use Rattle.cone.specs.Rows.{rowOver, rowOver-lt}
 use Rattle.cone.specs.View.{coneOf, IsCone, view-sources, truth-at, truth-bit, rows-fit}
 use Rattle.cone.specs.Compose.{gateTruth-at, union-length}
 
@@ -52,10 +48,3 @@ module _ {left right : Cone} {U : List ℕ} {i r : ℕ} (w : AtRow left right U 
       sym
       (gateTruth-at (coneOf left) (coneOf right) gate i (w .is-left .different) U (w .union) (w .below)
       ∙ rw (view-sources left (w .is-left) (w .left-long), ← w .row, truth-at left (w .is-left) (i / 2 ^ (length U - left .n)) left-row, truth-at right (w .is-right) r right-row))
-
-  pub zeros : trailingZeros 64 (i + 1) < 12
-  zeros = omega (arith, w .few, trailing-small (length U) 64 (i + 1) (omega arith) (omega (arith, two-pow-succ (length U), w .below)))
-
-  pub next : (masks : List ℕ) → ((z : ℕ) → z < 12 → getD masks z 0 ≡ toggleMask U (coneOf right .support) z)
-      → bitXor r (getD masks (trailingZeros 64 (i + 1)) 0) ≡ rowOver U (coneOf right .support) (i + 1)
-  next masks m = rw (m (trailingZeros 64 (i + 1)) zeros, w .row) (sym (rowOver-step U (coneOf right .support) 64 i (omega (arith, w .few))))
