@@ -2,20 +2,27 @@
 use mathlib.Core.Bool.{Bool, not, _&&_, _||_}
 use mathlib.Core.List.{List, [], _∷_, map}
 use mathlib.Core.Option.{Option, none, some}
-use Prim.Native.Nat.{ℕ, _+_, _*_, _-_}
+use Prim.Native.Nat.{ℕ, _+_, _*_, _-_, _≤_}
 use lib.Dec.{leb, ltb, eqb}
 use lib.IntN.{ℤ, natAbs, _-ℤ_}
 use lib.ListN.{length, getD, set, replicate}
 use Rattle.laws.specs.Over.{over}
 use Rattle.laws.specs.Tabulate.{tabulate}
-use Rattle.laws.specs.Test.{if_then_else_, isSome}
+use Rattle.laws.specs.Test.{if_then_else_, isSome, allb}
 use Rattle.rules.specs.Outcome.{Answer, written, refused, Outcome, outcome}
 use Rattle.rules.specs.Rotation.{rotatable}
 use Rattle.rules.specs.Span.{least, span}
 use Rattle.rules.specs.declared.BuilderReply.{BuilderReply}
 use Rattle.rules.specs.declared.BuilderReply.the-variants.{Written, BadSettings, BadLengths, SpanOverM, Conflict, NoCompletion, ShortBuffer}
 
--- ---- Known entries. A list of them has 0, 1, or 2 for unknown, as `known` in the Rust.
+-- ---- Known entries: each 0, 1, or 2 for unknown, as `known` in the Rust.
+
+pub record Entries (known : List ℕ) : Type 0 where
+  pub at : (i : ℕ) → getD known i 0 ≤ 2
+
+-- A truth fits an entry: it is a bit, and the entry is unknown or has it already.
+unfoldable pub agrees : ℕ → ℕ → Bool
+agrees x t = leb t 1 && (eqb x 2 || eqb x t)
 
 -- The rows entered into known entries, the least value's first: a row's truth becomes the entry at its value.
 -- None where a truth is not a bit, or one value has two truths.
@@ -25,7 +32,7 @@ enter low (v ∷ values) [] known = some known
 enter low (v ∷ values) (t ∷ truths) known =
     let i = natAbs (v -ℤ low) in
     let rest = enter low values truths (set known i t) in
-    if leb t 1 && (eqb (getD known i 2) 2 || eqb (getD known i 2) t) then rest else none
+    if agrees (getD known i 0) t then rest else none
 
 unfoldable pub knownEntries : List ℤ → List ℕ → Option (List ℕ)
 knownEntries values truths = enter (least values) values truths (replicate (span values) 2)
@@ -47,9 +54,9 @@ against d y x = if eqb x 2 then (if eqb y 2 then d else 1 - y) else x
 -- Each unknown opposite to its partner, both unknown 0 and 1, unpaired 0.
 unfoldable pub opposedAt : ℕ → List ℕ → ℕ → ℕ
 opposedAt P known i =
-    if ltb (i + P) (length known) then against 0 (getD known (i + P) 2) (getD known i 2)
-    else if leb P i then against 1 (getD known (i - P) 2) (getD known i 2)
-    else knownOr 0 (getD known i 2)
+    if ltb (i + P) (length known) then against 0 (getD known (i + P) 0) (getD known i 0)
+    else if leb P i then against 1 (getD known (i - P) 0) (getD known i 0)
+    else knownOr 0 (getD known i 0)
 
 unfoldable pub opposed : ℕ → List ℕ → List ℕ
 opposed P known = tabulate (length known) (opposedAt P known)
@@ -64,6 +71,19 @@ completion P known =
 -- is_known_lut_valid
 unfoldable pub completable : ℕ → List ℕ → Bool
 completable P known = isSome (completion P known)
+
+-- ---- The pair test on known entries, by which the mapper judges a table before it is built.
+
+-- Some bits for the unknowns of the pair (x, y) give the sum s: it lies between the least and the greatest that they can give.
+unfoldable pub remains : ℕ → ℕ → ℕ → Bool
+remains s x y = leb (knownOr 0 x + knownOr 0 y) s && leb s (knownOr 1 x + knownOr 1 y)
+
+unfoldable pub remainsAt : ℕ → ℕ → List ℕ → ℕ → Bool
+remainsAt s P known i = remains s (getD known i 0) (getD known (i + P) 0)
+
+-- The sum s remains for every pair (i, i + P).
+unfoldable pub remainsForAll : ℕ → ℕ → List ℕ → Bool
+remainsForAll s P known = allb (length known - P) (remainsAt s P known)
 
 -- ---- The reply.
 
@@ -95,7 +115,7 @@ builder P M values truths buffer =
     else rest
 
 -- Document 01's number and values for each reply.
-unfoldable pub builderReply : BuilderReply → Answer
+abbrev pub builderReply : BuilderReply → Answer
 builderReply (Written n) = written n
 builderReply BadSettings = refused 2 0
 builderReply BadLengths = refused 30 0

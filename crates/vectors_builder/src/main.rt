@@ -1,0 +1,280 @@
+// Replays the table builder on the cases of standard input, a line of numbers each:
+// P, M, the answer buffer's length, the count of values and the values, the count of truths and the truths.
+// For each case it writes the reply's number and count and the buffer, whose bytes were letters before.
+use libc::STDIN_FILENO;
+use libc::STDOUT_FILENO;
+ghost use Prim.Native.Nat.{_≤_};
+
+struct Token {
+    value: u64,
+    negative: bool,
+    next: usize,
+}
+
+fn is_digit(b: u8) -> bool {
+    48 <= b && b <= 57
+}
+
+// Where the next digit or minus stands, or the text's end.
+fn skip(text: &[u8], from: usize) -> usize {
+    let mut i = from;
+    while i < text.len() {
+        let b = text[i];
+        if is_digit(b) || b == b'-' {
+            return i;
+        }
+        i += 1;
+    }
+    i
+}
+
+// One digit more; where that would not fit, the value stays.
+fn with_digit(value: u64, b: u8) -> u64 {
+    if value < 1000000000000000000 {
+        10 * value + ((b % 16) as u64)
+    } else {
+        value
+    }
+}
+
+fn digits(text: &[u8], from: usize, negative: bool) -> Token {
+    let mut value = 0;
+    let mut i = from;
+    while i < text.len() {
+        let b = text[i];
+        if !is_digit(b) {
+            return Token {
+                value,
+                negative,
+                next: i,
+            };
+        }
+        value = with_digit(value, b);
+        i += 1;
+    }
+    Token {
+        value,
+        negative,
+        next: i,
+    }
+}
+
+fn next_token(text: &[u8], from: usize) -> Token {
+    let at = skip(text, from);
+    if at < text.len() {
+        if text[at] == b'-' {
+            return digits(text, at + 1, true);
+        }
+    }
+    digits(text, at, false)
+}
+
+fn signed(n: Token) -> i32 {
+    if 2147483647 < n.value {
+        return -2147483648;
+    }
+    if n.negative {
+        return 0 - (n.value as i32);
+    }
+    n.value as i32
+}
+
+fn byte(n: Token) -> u8 {
+    if n.value < 256 { n.value as u8 } else { 255 }
+}
+
+// A number at most `most`.
+fn at_most(n: Token, most: usize) -> usize
+    ensures { λ r. ⌜ r ≤ most ⌝ }
+{
+    if n.value < (most as u64) {
+        n.value as usize
+    } else {
+        most
+    }
+}
+
+fn take_values(text: &[u8], from: usize, values: &mut [i32]) -> usize {
+    let mut at = from;
+    let mut i = 0;
+    while i < values.len() {
+        let n = next_token(text, at);
+        values[i] = signed(n);
+        at = n.next;
+        i += 1;
+    }
+    at
+}
+
+fn take_truths(text: &[u8], from: usize, truths: &mut [u8]) -> usize {
+    let mut at = from;
+    let mut i = 0;
+    while i < truths.len() {
+        let n = next_token(text, at);
+        truths[i] = byte(n);
+        at = n.next;
+        i += 1;
+    }
+    at
+}
+
+fn shown(b: u8) -> u8 {
+    if b < 2 { 48 + b } else { b }
+}
+
+// Bytes 0 and 1 as digits.
+fn as_digits(out: &mut [u8]) {
+    let mut i = 0;
+    while i < out.len() {
+        out[i] = shown(out[i]);
+        i += 1;
+    }
+}
+
+fn show(out: &mut [u8]) {
+    as_digits(out);
+    io::write_all(STDOUT_FILENO, out);
+    io::write_all(STDOUT_FILENO, b"\n");
+}
+
+// The reply's number and count, and the buffer after it.
+fn run(p: usize, m: usize, values: &[i32], truths: &[u8], out: &mut [u8]) {
+    let reply = rotation::composed_bootstrap_table(p, m, values, truths, out);
+    io::print_decimal(STDOUT_FILENO, rotation::reply_number(reply) as u64);
+    io::write_all(STDOUT_FILENO, b" ");
+    io::print_decimal(STDOUT_FILENO, rotation::reply_count(reply) as u64);
+    io::write_all(STDOUT_FILENO, b" ");
+    show(out);
+}
+
+fn with_buffer(p: usize, m: usize, values: &[i32], truths: &[u8], room: usize)
+    requires { ⌜ room ≤ 40 ⌝ }
+{
+    let mut buffer = [
+        b'a',
+        b'b',
+        b'c',
+        b'd',
+        b'e',
+        b'f',
+        b'g',
+        b'h',
+        b'i',
+        b'j',
+        b'k',
+        b'l',
+        b'm',
+        b'n',
+        b'o',
+        b'p',
+        b'q',
+        b'r',
+        b's',
+        b't',
+        b'u',
+        b'v',
+        b'w',
+        b'x',
+        b'y',
+        b'z',
+        b'a',
+        b'b',
+        b'c',
+        b'd',
+        b'e',
+        b'f',
+        b'g',
+        b'h',
+        b'i',
+        b'j',
+        b'k',
+        b'l',
+        b'm',
+        b'n',
+    ];
+    run(p, m, values, truths, &mut buffer[..room]);
+}
+
+// The truths of a case into their place, and the case run.
+fn fill_truths(
+    text: &[u8],
+    from: usize,
+    p: usize,
+    m: usize,
+    room: usize,
+    values: &[i32],
+    truths: &mut [u8],
+) -> usize
+    requires { ⌜ room ≤ 40 ⌝ }
+{
+    let next = take_truths(text, from, truths);
+    with_buffer(p, m, values, truths, room);
+    next
+}
+
+fn with_truths(text: &[u8], from: usize, p: usize, m: usize, room: usize, values: &[i32]) -> usize
+    requires { ⌜ room ≤ 40 ⌝ }
+{
+    let mut truths = [0u8; 64];
+    let n = next_token(text, from);
+    let count = at_most(n, 64);
+    fill_truths(text, n.next, p, m, room, values, &mut truths[..count])
+}
+
+// The values of a case into their place, and the rest of the case.
+fn fill_values(
+    text: &[u8],
+    from: usize,
+    p: usize,
+    m: usize,
+    room: usize,
+    values: &mut [i32],
+) -> usize
+    requires { ⌜ room ≤ 40 ⌝ }
+{
+    let next = take_values(text, from, values);
+    with_truths(text, next, p, m, room, values)
+}
+
+fn with_values(text: &[u8], from: usize, p: usize, m: usize, room: usize) -> usize
+    requires { ⌜ room ≤ 40 ⌝ }
+{
+    let mut values = [0i32; 64];
+    let n = next_token(text, from);
+    let count = at_most(n, 64);
+    fill_values(text, n.next, p, m, room, &mut values[..count])
+}
+
+// One case from a place of the text, and where the next one starts.
+fn replay(text: &[u8], from: usize) -> usize {
+    let p = next_token(text, from);
+    let m = next_token(text, p.next);
+    let b = next_token(text, m.next);
+    let next = with_values(
+        text,
+        b.next,
+        p.value as usize,
+        m.value as usize,
+        at_most(b, 40),
+    );
+    skip(text, next)
+}
+
+// A proved loop has to end, so the cases are counted down from a number that no file uses up.
+fn replay_all(text: &[u8]) {
+    let mut at = skip(text, 0);
+    let mut turns: usize = 100000;
+    while turns > 0 {
+        if text.len() <= at {
+            return;
+        }
+        at = replay(text, at);
+        turns -= 1;
+    }
+}
+
+fn main() {
+    let mut text = io::large_buffer();
+    let n = io::read_full(STDIN_FILENO, &mut text);
+    replay_all(&text[..n]);
+}
