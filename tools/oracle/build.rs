@@ -1,0 +1,272 @@
+//! Copies the Rust mapper into OUT_DIR with small edits, twice: `plain` for the
+//! oracle, `reach` with counters added. Its place is FBS_MAP_SRC, the directory
+//! that holds `src/mapper.rs`, or ../../../shared/docs/src from here.
+//! An edit whose text is not found exactly as often as expected stops the build.
+
+use std::env;
+use std::fs;
+use std::path::{Path, PathBuf};
+
+/// In `file`, the occurrences of `expected` in turn: what to put before and
+/// after each. There must be as many as `around` has pairs.
+struct Edit {
+    file: &'static str,
+    expected: &'static str,
+    around: &'static [(&'static str, &'static str)],
+}
+
+const FILES: [&str; 3] = ["circuit.rs", "lut.rs", "mapper.rs"];
+
+/// Document 01's cap of T + 1 merged sources, and the gate that is being mapped.
+const PLAIN: &[Edit] = &[
+    // An attempt over the cap is left before its tables are made.
+    Edit {
+        file: "mapper.rs",
+        expected: "        let (xy, truth_table) = cone_composition_tables(&left, &right, &gate_table)?;\n",
+        around: &[
+            (
+                "        'first: {
+        if crate::probe::over_cap(union_support_size(&left.support, &right.support), self.config.max_truth_table_inputs) {
+            break 'first;
+        }
+",
+                "",
+            ),
+            (
+                "        'second: {
+        if crate::probe::over_cap(union_support_size(&left.support, &right.support), self.config.max_truth_table_inputs) {
+            break 'second;
+        }
+",
+                "",
+            ),
+            (
+                "        if crate::probe::over_cap(union_support_size(&left.support, &right.support), self.config.max_truth_table_inputs) {
+            return Err(\"no valid composition after bootstrapping both inputs as needed\".to_owned());
+        }
+",
+                "",
+            ),
+        ],
+    },
+    // The end of the first and of the second attempt.
+    Edit {
+        file: "mapper.rs",
+        expected: "            let cone = self.merge_cones(left, right, candidate, truth_table)?;
+            return Ok((cone, updates));
+        }
+",
+        around: &[("", "        }\n"), ("", "        }\n")],
+    },
+    // A gate's name is its line number.
+    Edit {
+        file: "mapper.rs",
+        expected: "            let mut input_cones = Vec::with_capacity(inputs.len());\n",
+        around: &[("            crate::probe::at_gate(name);\n", "")],
+    },
+    Edit {
+        file: "mapper.rs",
+        expected: "        for (name, output) in &circuit.outputs {\n",
+        around: &[("        crate::probe::at_outputs();\n", "")],
+    },
+];
+
+/// Counters for the reach of generated circuits; they change no answer.
+const REACH: &[Edit] = &[
+    Edit {
+        file: "mapper.rs",
+        expected: "        self.trace_candidate(1, candidate.as_ref(), &truth_table);\n",
+        around: &[(
+            "        crate::probe::attempt(1, candidate.is_some());\n",
+            "",
+        )],
+    },
+    Edit {
+        file: "mapper.rs",
+        expected: "        self.trace_candidate(2, candidate.as_ref(), &truth_table);\n",
+        around: &[(
+            "        crate::probe::attempt(2, candidate.is_some());\n",
+            "",
+        )],
+    },
+    Edit {
+        file: "mapper.rs",
+        expected: "        self.trace_candidate(3, candidate.as_ref(), &truth_table);\n",
+        around: &[(
+            "        crate::probe::attempt(3, candidate.is_some());\n",
+            "",
+        )],
+    },
+    Edit {
+        file: "mapper.rs",
+        expected: "            return Ok((Cone::constant(truth_table[0]), updates));\n",
+        around: &[
+            (
+                "            crate::probe::count(\"constant at attempt 1\");\n",
+                "",
+            ),
+            (
+                "            crate::probe::count(\"constant at attempt 2\");\n",
+                "",
+            ),
+            (
+                "            crate::probe::count(\"constant at attempt 3\");\n",
+                "",
+            ),
+        ],
+    },
+    Edit {
+        file: "mapper.rs",
+        expected: "            left = self.bootstrap_cone(environment, left)?;
+            updates[left_position] = Some(left.clone());
+            switch_inputs(
+",
+        around: &[(
+            "            crate::probe::count(\"support limit, first side\");\n",
+            "",
+        )],
+    },
+    Edit {
+        file: "mapper.rs",
+        expected: "                left = self.bootstrap_cone(environment, left)?;\n",
+        around: &[(
+            "                crate::probe::count(\"support limit, second side\");\n",
+            "",
+        )],
+    },
+    Edit {
+        file: "mapper.rs",
+        expected: "        let mut best: Option<(Score, (i64, i64))> = None;\n",
+        around: &[("        crate::probe::search_begins();\n", "")],
+    },
+    Edit {
+        file: "mapper.rs",
+        expected: "                // A larger span can still win by reuse until the best reuse cost is zero.\n",
+        around: &[(
+            "                crate::probe::scored(score.reuse_cost, (score.span, score.energy, score.norm2, score.a, score.b));\n",
+            "",
+        )],
+    },
+    Edit {
+        file: "mapper.rs",
+        expected: "        best.and_then(|(_, scales)| self.make_candidate(",
+        around: &[("        crate::probe::search_ends();\n", "")],
+    },
+    Edit {
+        file: "mapper.rs",
+        expected: "        if let Some(coefficients) = self.reusable_cone_coefficients(environment, &cone) {\n",
+        around: &[(
+            "",
+            "            crate::probe::realigned(coefficients != cone.coefficients);\n",
+        )],
+    },
+    Edit {
+        file: "mapper.rs",
+        expected: "            if self.is_test_vector_valid(&table) {\n",
+        around: &[(
+            "",
+            "                crate::probe::filled(missing, known.contains(&None));\n",
+        )],
+    },
+    Edit {
+        file: "mapper.rs",
+        expected: "        self.is_test_vector_valid(&table).then_some(table)\n",
+        around: &[("        crate::probe::filled(2, true);\n", "")],
+    },
+    Edit {
+        file: "mapper.rs",
+        expected: "        let (_, divisor) = workspace.evaluate(self, candidate_rows(xy, truth_table), scales)?;\n",
+        around: &[("", "        crate::probe::divisor(divisor);\n")],
+    },
+    Edit {
+        file: "mapper.rs",
+        expected: "    if retained.len() != old_support_len {\n",
+        around: &[(
+            "",
+            "        crate::probe::count(\"sources dropped in a merge\");\n",
+        )],
+    },
+    Edit {
+        file: "mapper.rs",
+        expected: "        self.validate_cone(&cone)?;\n        Ok(cone)\n",
+        around: &[(
+            "        crate::probe::cone(cone.support.len(), cone.span());\n",
+            "",
+        )],
+    },
+    Edit {
+        file: "mapper.rs",
+        expected: "        self.validate_cone(&result)?;\n",
+        around: &[("        crate::probe::count(\"unary cone\");\n", "")],
+    },
+    Edit {
+        file: "mapper.rs",
+        expected: "                    wires[id] = Some(replacement);\n",
+        around: &[(
+            "                    crate::probe::count(\"wire replaced\");\n",
+            "",
+        )],
+    },
+    Edit {
+        file: "lut.rs",
+        expected: "        if let Some(id) = self.cache.get(&node) {\n",
+        around: &[("", "            crate::probe::shared(&node);\n")],
+    },
+];
+
+fn edited(file: &str, text: &str, edits: &[Edit]) -> String {
+    let mut text = text.to_owned();
+    for edit in edits.iter().filter(|edit| edit.file == file) {
+        let parts: Vec<&str> = text.split(edit.expected).collect();
+        let found = parts.len() - 1;
+        if found != edit.around.len() {
+            panic!(
+                "the Rust is not the one this oracle was written for: in {file} this text stands {found} times, expected {}:\n{}",
+                edit.around.len(),
+                edit.expected
+            );
+        }
+        let mut result = parts[0].to_owned();
+        for (part, (before, after)) in parts[1..].iter().zip(edit.around) {
+            result.push_str(before);
+            result.push_str(edit.expected);
+            result.push_str(after);
+            result.push_str(part);
+        }
+        text = result;
+    }
+    text
+}
+
+fn place() -> PathBuf {
+    match env::var_os("FBS_MAP_SRC") {
+        Some(place) => PathBuf::from(place),
+        None => {
+            Path::new(&env::var_os("CARGO_MANIFEST_DIR").unwrap()).join("../../../shared/docs/src")
+        }
+    }
+}
+
+fn main() {
+    println!("cargo:rerun-if-env-changed=FBS_MAP_SRC");
+    println!("cargo:rerun-if-changed=build.rs");
+    let place = place();
+    let out = PathBuf::from(env::var_os("OUT_DIR").unwrap());
+    for (directory, sets) in [("plain", &[PLAIN][..]), ("reach", &[PLAIN, REACH][..])] {
+        fs::create_dir_all(out.join(directory)).unwrap();
+        for file in FILES {
+            let path = place.join("src").join(file);
+            println!("cargo:rerun-if-changed={}", path.display());
+            let mut text = fs::read_to_string(&path).unwrap_or_else(|error| {
+                panic!(
+                    "cannot read the Rust mapper at {}: {error}; set FBS_MAP_SRC to the directory that holds src/mapper.rs",
+                    path.display()
+                )
+            });
+            for edits in sets {
+                text = edited(file, &text, edits);
+            }
+            fs::write(out.join(directory).join(file), text).unwrap();
+        }
+    }
+}
