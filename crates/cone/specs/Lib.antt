@@ -7,3 +7,4 @@ pub mod View
 pub mod Compose
 pub mod Basis
 pub mod Simplify
+pub mod Order

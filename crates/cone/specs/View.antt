@@ -9,12 +9,20 @@ use lib.Seq.{length-take-le, getD-take}
 use Rattle.rules.specs.Cone as rules
 use Rattle.rules.specs.NetworkText.{allDifferent}
 use Rattle.scale.specs.Limits.{Within}
+use Rattle.laws.specs.Test.{if_then_else_}
+use Rattle.rules.specs.Mapper.{isConstant, constantValue}
 use Rattle.cone.specs.declared.Cone.{Cone}
+use Rattle.cone.specs.declared.Constant.{Constant}
+use Rattle.cone.specs.declared.Constant.the-variants.{Bit, No}
 use Rattle.cone.specs.Span.{total, span-table, within-total}
 
 -- the first n sources and coefficients, and a bit for each of their assignments
 unfoldable pub coneOf : Cone → rules.Cone
 coneOf c = record { support = take (c .n) (c .support); coefficients = take (c .n) (c .coefs); truth = take (2 ^ c .n) (c .truth) }
+
+-- constant_value
+unfoldable pub constantOf : rules.Cone → Constant
+constantOf c = if isConstant c then Bit (constantValue c) else No
 
 -- What holds of every cone within the limits: at most 11 sources, all different; a span of at most 32; truths that are bits.
 pub record IsCone (c : Cone) : Type 0 where
@@ -59,3 +67,8 @@ module _ (c : Cone) (is : IsCone c) where
 
   pub truth-bit : (i : ℕ) → i < 2 ^ c .n → getD (c .truth) i 0 < 2
   truth-bit i h = rw (truth-at i h) at (is .bits i)
+
+  -- the first n coefficients, as functions of slices take them
+  pub coefs-fit : length (c .coefs) ≡ 11 → (length (take (c .n) (c .coefs)) ≤ 11) × Within 1984 (take (c .n) (c .coefs))
+  unfolding coneOf
+  coefs-fit e = (omega (arith, view-coefs e, is .few), λ i. omega (arith, small i))

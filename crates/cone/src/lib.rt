@@ -1,16 +1,14 @@
 // Cones: sources, a coefficient each, a bit for each assignment (first source the highest bit).
 pub mod compose;
+pub mod order;
 pub mod simplify;
 pub mod support;
 pub mod table;
 
 ghost use mathlib.Core.Path.{_≡_};
-ghost use Prim.Native.Nat.{ℕ, _+_, _≤_, _<_, _^_};
-ghost use lib.ListN.{length};
+ghost use Prim.Native.Nat.{_<_};
 ghost use Rattle.rules.specs.Cone as rules;
-ghost use Rattle.scale.specs.Limits.{Within};
-ghost use Rattle.cone.specs.View.{coneOf, IsCone};
-ghost use Rattle.cone.specs.Span.{total};
+ghost use Rattle.cone.specs.View.{coneOf, IsCone, constantOf};
 
 // The first n sources and coefficients, and 2^n truths; what stands past them does not matter.
 pub struct Cone {
@@ -56,5 +54,37 @@ impl Cone {
             coefs,
             truth,
         }
+    }
+
+    // The bit of a cone with no source.
+    pub fn constant_value(self) -> Constant
+        requires { ⌜ IsCone self ⌝ }
+        ensures { λ r. ⌜ r ≡ constantOf (coneOf self) ⌝ }
+    {
+        if self.n == 0 {
+            Constant::Bit(self.truth[0])
+        } else {
+            Constant::No
+        }
+    }
+
+    // The least and the greatest value, and all between: so many.
+    pub fn span(self) -> usize
+        requires { ⌜ IsCone self ⌝ }
+        ensures { λ r. ⌜ r ≡ rules.coneSpan (coneOf self) ⌝ }
+    {
+        let coefs = self.coefs;
+        let n = self.n;
+        table::linear_span(&coefs[..n])
+    }
+
+    // The squared coefficients added.
+    pub fn norm2(self) -> u64
+        requires { ⌜ IsCone self ⌝ }
+        ensures { λ r. ⌜ r ≡ rules.norm2 (coneOf self) ⌝ }
+    {
+        let coefs = self.coefs;
+        let n = self.n;
+        scale::coefficients_norm2(&coefs[..n])
     }
 }

@@ -252,7 +252,3 @@ quot-exact (negsuc a) (negsuc b) h k = ap (λ i. negℤ (pos i)) (N.div-mul-canc
 pub square-nonNeg : (x : ℤ) → T (nonNeg (x *ℤ x))
 square-nonNeg (pos a) = tt
 square-nonNeg (negsuc a) = tt
-
--- the same at any width
-pub read-back-at : (w : Width) (z : ℤ) → mag z < 2 ^ hbits w → toZ w (ofZ w z) ≡ z
-read-back-at w z h = toZ-ofZ (record { sfits = h })

@@ -33,7 +33,7 @@ module _ (T d t u : List ℤ) (n : ℕ) (long : length T ≡ n) (et : t ≡ over
       → putMid n (length u - n) u p ≡ over (T ++ shifted c T) d
   joined c p ep =
       tail-put u p n
-      ∙ rw (ep, front-is, part-is, twice, over-append, take-at T (over T (drop (length T) d)) n long, over-over T (shifted c T) (drop n d) (rw shifted-length (omega arith)), over-append, long)
+      ∙ rw (ep, front-is, part-is, twice, over-append T T d, take-at T (over T (drop (length T) d)) n long, over-over T (shifted c T) (drop n d) (rw shifted-length (omega arith)), over-append, long)
 
 -- the next coefficient's table
 pub next : (cs : List ℤ) (k : ℕ) → 0 < k → k ≤ length cs
