@@ -1,13 +1,13 @@
 -- The truth of a gate on two cones, row by row.
-use mathlib.Core.Path.{_≡_, refl, sym, ap, ap₂, _∙_}
+use mathlib.Core.Path.{_≡_, refl, ap, _∙_}
 use mathlib.Core.Bool.{true}
 use mathlib.Core.List.{List, _++_}
-use Prim.Native.Nat.{ℕ, _+_, _-_, _*_, _/_, _^_, _<_, _≤_}
+use Prim.Native.Nat.{ℕ, _+_, _-_, _*_, _/_, _^_, _<_}
 use native.Mathlib.Omega.{arith}
 use lib.ListN.{length, getD, length-append}
 use Rattle.laws.specs.Select.{select}
 use Rattle.laws.specs.Digits.{digits}
-use Rattle.laws.specs.Tabulate.{tabulate, tabulate-at, tabulate-length}
+use Rattle.laws.specs.Tabulate.{tabulate-at, tabulate-length}
 use Rattle.rules.specs.Cone.{Cone, coneBit}
 use Rattle.rules.specs.NetworkText.{allDifferent}
 use Rattle.rules.specs.Composition.{unionSupport, gateTruth, assigned}

@@ -8,3 +8,4 @@ pub mod Compose
 pub mod Basis
 pub mod Simplify
 pub mod Order
+pub mod Valid

@@ -1,15 +1,15 @@
 -- Rows of a cone over the rows of a larger support: as numbers, and from one to the next.
-use mathlib.Core.Path.{_≡_, refl, sym, ap, ap₂, subst, _∙_}
+use mathlib.Core.Path.{_≡_, refl, sym, ap, ap₂, _∙_}
 use mathlib.Core.Bool.{Bool, true, false, not}
 use mathlib.Core.List.{List, [], _∷_, _++_, map}
 use mathlib.Core.Logic.{⊎-elim}
 use Prim.Native.Nat.{ℕ, zero, suc, _+_, _-_, _*_, _/_, _%_, _^_, _<_, _≤_, max}
-use native.Mathlib.Nat.{zero-div, two-pow-succ, one-mul, pow-succ', add-mul, mul-assoc, mul-comm, add-assoc, zero-mul, zero-add, mod-eq-of-lt, div-eq-of-lt, not-suc-le-zero, le-of-suc-le-suc, mod-one, lt-of-lt-of-le, le-trans, mul-le-mul-right}
-use native.Mathlib.Numerals.{add-one, one-add}
+use native.Mathlib.Nat.{zero-div, two-pow-succ, one-mul, zero-add, mod-eq-of-lt, mod-one, lt-of-lt-of-le, le-trans, mul-le-mul-right}
+use native.Mathlib.Numerals.{one-add}
 use native.Mathlib.Omega.{arith}
 use lib.Bits.{bitXor, bitOr, differ, xor-step, or-step, or-shifted-r}
 use lib.Count.{trailingZeros}
-use lib.Dec.{T, eqb, eqb·suc-suc, eqb·zero-suc, leb, leb·suc-zero}
+use lib.Dec.{eqb, eqb·suc-suc, eqb·zero-suc, leb, leb·suc-zero}
 use lib.Seq.{take-at, getD-set-same, getD-set-other}
 use borrow.Author.Tests.{eq-eqb, ne-eqb, le-leb, lt-leb, not-true}
 use lib.ListN.{length, getD, take, set, length-append, length-map}

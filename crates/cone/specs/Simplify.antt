@@ -1,9 +1,9 @@
 -- A cone without the sources that have no coefficient.
 use mathlib.Core.Path.{_≡_, refl, sym, ap, _∙_}
 use mathlib.Core.Bool.{Bool, true, false, not}
-use mathlib.Core.List.{List, [], _∷_, _++_, map, zipWith, append-nil}
+use mathlib.Core.List.{List, [], _∷_, map, zipWith, append-nil}
 use mathlib.Core.Logic.{⊎-elim}
-use Prim.Native.Nat.{ℕ, zero, suc, _+_, _≤_, _<_, _^_, _/_, zero-le}
+use Prim.Native.Nat.{ℕ, suc, _+_, _≤_, _<_, _^_, zero-le}
 use native.Mathlib.Nat.{div-one, add-zero}
 use native.Mathlib.Numerals.{add-one}
 use native.Mathlib.Omega.{arith}
@@ -12,7 +12,6 @@ use lib.Dec.{eqb}
 use lib.IntN.{ℤ, pos, natAbs}
 use lib.ListN.{length, getD, take, drop, drop-of-length-le, List·getD-eq-default}
 use lib.Seq.{drop-cons, ext-getD}
-use Rattle.laws.specs.Digits.{digits}
 use Rattle.laws.specs.Select.{select}
 use Rattle.laws.specs.Tabulate.{tabulate-at, tabulate-length}
 use Rattle.laws.specs.Test.{if_then_else_, lt-or-le, neither-left, neither-right, both-left, both-right}
@@ -24,7 +23,7 @@ use Rattle.rules.specs.Composition.{overRows, simplifyCone}
 use Rattle.cone.specs.declared.simplify.Retained.{Retained}
 use Rattle.cone.specs.Rows.{rowOver, overRows-are, rowOver-own}
 use Rattle.cone.specs.Span.{total}
-use Rattle.cone.specs.Support.{termsOver, terms-are}
+use Rattle.cone.specs.Support.{termsOver}
 
 unfoldable pub coefs : List Term → List ℤ
 coefs = map (λ (t : Term). t .coef)

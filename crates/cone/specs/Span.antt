@@ -5,7 +5,7 @@ use mathlib.Core.List.{List, [], _∷_, _++_, map}
 use mathlib.Core.Logic.{⊎-elim}
 use Prim.Native.Nat.{ℕ, zero, suc, _+_, _*_, _≤_, _<_, zero-le}
 use native.Mathlib.Omega.{arith}
-use lib.IntN.{ℤ, pos, negsuc, negℤ, natAbs, _+ℤ_, _-ℤ_}
+use lib.IntN.{ℤ, pos, negℤ, natAbs, _+ℤ_, _-ℤ_}
 use lib.ListN.{length, getD, drop, drop-of-length-le}
 use lib.Seq.{drop-cons}
 use native.Mathlib.Numerals.{add-one}
@@ -14,6 +14,7 @@ use Rattle.laws.specs.Integer.{ints, plus, minus, abs-parts, one-part-zero, add
 use Rattle.laws.specs.Test.{if_then_else_, decide}
 use Rattle.rules.specs.Cone.{linearTable}
 use Rattle.rules.specs.Span.{leastFrom, greatestFrom, least, greatest, span}
+use Rattle.theorems.specs.Spans.{span-is}
 use Rattle.scale.specs.Limits.{Within}
 use Rattle.cone.specs.Table.{shifted, table-length, within-append, within-shifted, within-more}
 use lib.Pow.{pow-pos}
@@ -169,11 +170,6 @@ unfolding total upper lower
 total-parts [] = refl
 total-parts (c ∷ cs) = omega (arith, total-parts cs, abs-parts c)
 
-span-some : (l : List ℤ) → 0 < length l → span l ≡ natAbs (greatest l -ℤ least l) + 1
-unfolding span
-span-some [] h = absurd (omega arith)
-span-some (v ∷ l) h = refl
-
 width : (u l : ℕ) → natAbs (pos u -ℤ negℤ (pos l)) ≡ u + l
 unfolding plus minus
 width u l =
@@ -182,7 +178,7 @@ width u l =
 
 pub span-table : (cs : List ℤ) → span (linearTable cs) ≡ total cs + 1
 span-table cs =
-    span-some (linearTable cs) (table-some cs)
+    span-is (linearTable cs) (table-some cs)
     ∙ rw (greatest-table cs, least-table cs, width (upper cs) (lower cs)) (omega (arith, total-parts cs))
 
 -- no coefficient and no value is larger

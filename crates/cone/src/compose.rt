@@ -4,16 +4,14 @@ use crate::support::Support;
 use crate::support::coefficients_over;
 use crate::support::toggle_masks;
 use crate::support::union_support;
-use crate::table::linear_table;
+use crate::table::values_of;
 ghost use mathlib.Core.Path.{_≡_};
 ghost use mathlib.Core.List.{map};
-ghost use Prim.Native.Nat.{ℕ, _+_, _≤_, _<_, _^_};
+ghost use Prim.Native.Nat.{_+_, _≤_, _<_, _^_};
 ghost use lib.ListN.{length, take};
 ghost use Rattle.laws.specs.Over.{over};
 ghost use Rattle.rules.specs.Composition.{unionSupport, gateTruth};
-ghost use Rattle.rules.specs.Cone.{linearTable};
 ghost use Rattle.rules.specs.Store.{coefficientOf};
-ghost use Rattle.scale.specs.Limits.{Within};
 ghost use Rattle.cone.specs.Support.{termsOver};
 ghost use Rattle.cone.specs.View.{coneOf, IsCone};
 ghost use Rattle.cone.specs.Basis.{IsBasis, Room, Composed};
@@ -84,14 +82,6 @@ pub fn composed_truth(left: Cone, right: Cone, support: &[usize], gate: [u8; 4],
         // The next row changes the digits up to its trailing zeros.
         r = r ^ masks[usize::trailing_zeros(i) as usize];
     }
-}
-
-// linear_table of the first coefficients of an array.
-fn values_of(coefs: [i64; 11], n: usize, table: &mut [i32])
-    requires { ⌜ (n ≤ 11) × ((2 ^ n ≤ length (now table)) × Within 1984 (take n coefs)) ⌝ }
-    ensures { λ _. ⌜ now (table .exit) ≡ over (linearTable (take n coefs)) (now (table .entry)) ⌝ }
-{
-    linear_table(&coefs[..n], table);
 }
 
 // For each row over the union, the values of both cones and the gate's answer.

@@ -4,6 +4,7 @@ pub mod order;
 pub mod simplify;
 pub mod support;
 pub mod table;
+pub mod valid;
 
 ghost use mathlib.Core.Path.{_≡_};
 ghost use Prim.Native.Nat.{_<_};

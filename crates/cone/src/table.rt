@@ -1,7 +1,7 @@
 // The values of a linear form, one for each assignment of its sources.
 ghost use mathlib.Core.Path.{_≡_};
 ghost use mathlib.Core.List.{_++_};
-ghost use Prim.Native.Nat.{ℕ, _+_, _*_, _≤_, _<_, _^_};
+ghost use Prim.Native.Nat.{_+_, _≤_, _<_, _^_};
 ghost use lib.ListN.{length, take};
 ghost use lib.IntN.{natAbs};
 ghost use Rattle.laws.specs.Over.{over};
@@ -63,4 +63,20 @@ pub fn linear_span(coefs: &[i64]) -> usize
         i += 1;
     }
     sum
+}
+
+// linear_table of the first coefficients of an array.
+pub fn values_of(coefs: [i64; 11], n: usize, table: &mut [i32])
+    requires { ⌜ (n ≤ 11) × ((2 ^ n ≤ length (now table)) × Within 1984 (take n coefs)) ⌝ }
+    ensures { λ _. ⌜ now (table .exit) ≡ over (linearTable (take n coefs)) (now (table .entry)) ⌝ }
+{
+    linear_table(&coefs[..n], table);
+}
+
+// How many assignments n sources have.
+pub fn rows_of(n: usize) -> usize
+    requires { ⌜ n ≤ 11 ⌝ }
+    ensures { λ r. ⌜ r ≡ 2 ^ n ⌝ }
+{
+    1usize << n
 }

@@ -1,7 +1,7 @@
 -- The binary digits of a number: one of them, all of them, and what one more does to each.
 use mathlib.Core.Path.{_≡_, refl, sym, ap, ap₂, _∙_}
 use mathlib.Core.Bool.{Bool, true, false}
-use mathlib.Core.List.{List, [], _∷_, _++_, map}
+use mathlib.Core.List.{List, [], _∷_, _++_}
 use Prim.Native.Nat.{ℕ, zero, suc, _+_, _-_, _*_, _/_, _%_, _^_, _<_, _≤_}
 use native.Mathlib.Nat.{div-one, mod-lt, not-suc-le-zero, le-of-suc-le-suc, two-pow-succ, pow-suc, div-div-eq-div-mul, mul-comm, mul-assoc, one-mul, div-eq-of-lt, add-comm, zero-add, suc-add}
 use native.Mathlib.Omega.{arith}

@@ -1,5 +1,5 @@
 -- `scale::coefficient_normalization_divisor` meets its contract.
-use mathlib.Core.Path.{_≡_, refl, sym, ap, _∙_}
+use mathlib.Core.Path.{_≡_, sym, ap, _∙_}
 use mathlib.Core.Bool.{true, false}
 use mathlib.Core.List.{List}
 use mathlib.Core.Logic.{⊎-elim}
@@ -7,10 +7,10 @@ use Prim.Native.Nat.{ℕ, _<_, _^_, max}
 use native.Mathlib.Omega.{arith}
 use borrow.Author.Needs.{needs}
 use borrow.Author.Tests.{ltb-true, ltb-false}
-use lib.IntN.{ℤ, pos, natAbs, negℤ, _-ℤ_}
-use lib.Signed.{ltZ, mag}
+use lib.IntN.{ℤ, pos, negℤ, _-ℤ_}
+use lib.Signed.{ltZ}
 use mir.Syntax.{w64}
-use mir.Val.{toZ, ofZ, SFits}
+use mir.Val.{toZ, SFits}
 use mir.Facts.{toZ-ofZ}
 use Rattle.laws.specs.Integer.{ints, plus, minus, sub-parts, plus-neg, minus-neg, abs-neg, fits-abs, read-back}
 use Rattle.rules.specs.Scale.{gcdFrom, startsNegative, divisor}

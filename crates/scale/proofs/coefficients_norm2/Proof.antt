@@ -5,9 +5,8 @@ use mir.Val.{toZ, ofZ}
 use Rattle.laws.specs.Integer.{read-back}
 use native.Mathlib.Omega.{arith}
 use borrow.Author.Needs.{needs}
-use mathlib.Core.Path.{_≡_, refl, sym, ap, _∙_}
-use Prim.Native.Nat.{ℕ, _+_, _-_, _≤_}
-use native.Mathlib.Nat.{zero-add}
+use mathlib.Core.Path.{_≡_}
+use Prim.Native.Nat.{_+_, _-_, _≤_}
 use lib.ListN.{length, drop}
 use Rattle.rules.specs.Scale.{norm}
 use Rattle.scale.specs.Norm.{norm-on, norm-end, norm-small}

@@ -15,9 +15,6 @@ use Rattle.rules.specs.Scale.{gcdFrom}
 use Rattle.scale.specs.Divisor.{gcd-on, gcd-end}
 use Rattle.scale.proofs.common_divisor.Statement.{statement}
 use Rattle.scale.proofs.common_divisor.Tie as tie
-use Rattle.scale.proofs.common_divisor.Reads as reads
-use Rattle.scale.proofs.common_divisor.Lts as lts
-use Rattle.scale.proofs.gcd_i64.Reads as gcd-i64-reads
 
 -- the absolute value that a signed local's bits stand for
 abbrev ∣_∣ : ℕ → ℕ

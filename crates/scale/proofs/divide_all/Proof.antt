@@ -1,9 +1,9 @@
 -- `scale::divide_all` meets its contract. After i turns the first i values are divided, and the others are as they were.
-use mathlib.Core.Path.{_≡_, refl, sym, ap, _∙_}
+use mathlib.Core.Path.{_≡_, refl, sym, _∙_}
 use mathlib.Core.List.{List}
-use Prim.Native.Nat.{ℕ, _+_, _-_, _≤_, _<_, _^_}
+use Prim.Native.Nat.{ℕ, _+_, _-_, _≤_, _<_}
 use native.Mathlib.Omega.{arith}
-use lib.IntN.{ℤ, pos, natAbs}
+use lib.IntN.{ℤ, pos}
 use lib.Signed.{quotZ}
 use lib.ListN.{length, getD, set, length-set, length-map, List·getD-map}
 use mir.Syntax.{w64}

@@ -1,9 +1,9 @@
 -- `scale::gcd_i64` meets its contract. A turn of the loop is a step of Euclid's algorithm on the absolute values, which the invariant keeps in range.
 use mathlib.Core.Path.{_≡_, refl, sym, ap, _∙_}
 use Prim.Native.Nat.{ℕ, _<_, _^_, _%_}
-use native.Mathlib.Nat.{mod-lt, mod-le, pos-of-ne-zero}
+use native.Mathlib.Nat.{mod-lt, pos-of-ne-zero}
 use native.Mathlib.Omega.{arith}
-use lib.IntN.{ℤ, pos, natAbs}
+use lib.IntN.{pos, natAbs}
 use lib.Signed.{remZ}
 use mir.Syntax.{w64}
 use mir.Val.{toZ, ofZ}

@@ -18,9 +18,6 @@ use Rattle.laws.specs.Integer.{plus, minus, leZ-true, leZ-false, true-ltZ, fals
 use Rattle.rules.specs.Scale.{isScalePair}
 use Rattle.scale.proofs.is_candidate_scale_pair.Statement.{statement}
 use Rattle.scale.proofs.is_candidate_scale_pair.Tie as tie
-use Rattle.scale.proofs.is_candidate_scale_pair.Reads as reads
-use Rattle.scale.proofs.is_candidate_scale_pair.Lts as lts
-use Rattle.scale.proofs.gcd_i64.Reads as gcd-i64-reads
 
 negative : (a b : ℤ) → ltZ a (pos 0) ≡ true → false ≡ isScalePair a b
 unfolding isScalePair plus minus

@@ -2,7 +2,7 @@ use native.Mathlib.Omega.{arith}
 -- `scale::starts_negative` meets its contract: the coefficients passed are 0.
 use mathlib.Core.Path.{_≡_, refl, sym, ap, _∙_}
 use mathlib.Core.Bool.{false}
-use mathlib.Core.List.{List, [], _∷_}
+use mathlib.Core.List.{List, _∷_}
 use Prim.Native.Nat.{ℕ, zero, suc, _+_, _≤_, _<_, _-_}
 use native.Mathlib.Nat.{not-suc-le-zero}
 use native.Mathlib.Numerals.{add-one}
@@ -13,13 +13,11 @@ use lib.ListN.{length, drop, getD, drop-of-length-le}
 use lib.Seq.{drop-cons}
 use lib.Signed.{ltZ}
 use mir.Syntax.{w64}
-use mir.Val.{toZ, ofZ}
+use mir.Val.{toZ}
 use Rattle.laws.specs.Integer.{bits-abs, read-back, plus, minus, false-ltZ}
 use Rattle.rules.specs.Scale.{startsNegative}
 use Rattle.scale.proofs.starts_negative.Statement.{statement}
 use Rattle.scale.proofs.starts_negative.Tie as tie
-use Rattle.scale.proofs.starts_negative.Reads as reads
-use Rattle.scale.proofs.starts_negative.Lts as lts
 
 first : (z : ℤ) (l : List ℤ) → 0 < natAbs z → startsNegative (z ∷ l) ≡ ltZ z (pos 0)
 unfolding startsNegative plus minus

@@ -1,17 +1,11 @@
 -- `cone::Cone::constant_value` meets its contract.
-use mathlib.Core.Path.{_≡_, refl, sym, ap, _∙_}
-use mathlib.Core.Bool.{true, false}
-use Prim.Native.Nat.{ℕ, _<_, _^_}
-use native.Mathlib.Omega.{arith}
+use mathlib.Core.Path.{_≡_, sym, ap, _∙_}
 use borrow.Author.Needs.{needs}
 use borrow.Author.Tests.{eq-eqb, ne-eqb}
-use lib.Dec.{lit<}
 use lib.ListN.{length, getD}
 use lib.Pow.{pow-pos}
-use Rattle.laws.specs.Test.{if_then_else_}
 use Rattle.rules.specs.Mapper.{isConstant, constantValue}
 use Rattle.cone.specs.declared.Cone.{Cone}
-use Rattle.cone.specs.declared.Constant.{Constant}
 use Rattle.cone.specs.declared.Constant.the-variants.{Bit, No}
 use Rattle.cone.specs.View.{coneOf, IsCone, constantOf, view-sources, truth-at}
 use Rattle.cone.proofs.Cone.constant_value.Statement.{statement}

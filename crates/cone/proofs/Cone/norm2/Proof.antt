@@ -1,6 +1,5 @@
 -- `cone::Cone::norm2` meets its contract, from what `coefficients_norm2` ensures.
 use mathlib.Core.Path.{_≡_}
-use Prim.Native.Nat.{_≤_}
 use native.Mathlib.Omega.{arith}
 use borrow.Author.Needs.{needs}
 use lib.ListN.{length}

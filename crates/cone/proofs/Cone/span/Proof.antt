@@ -1,6 +1,5 @@
 -- `cone::Cone::span` meets its contract, from what `linear_span` ensures.
 use mathlib.Core.Path.{_≡_}
-use Prim.Native.Nat.{_≤_}
 use native.Mathlib.Omega.{arith}
 use borrow.Author.Needs.{needs}
 use lib.ListN.{length}

@@ -1,5 +1,5 @@
 -- `cone::compose::basis_of` meets its contract, from what its calls ensure.
-use mathlib.Core.Path.{_≡_, refl, sym, ap, _∙_}
+use mathlib.Core.Path.{_≡_, sym, ap, _∙_}
 use mathlib.Core.List.{List, map}
 use Prim.Native.Nat.{ℕ, _≤_}
 use native.Mathlib.Omega.{arith}
@@ -11,8 +11,8 @@ use Rattle.rules.specs.Cone as rules
 use Rattle.rules.specs.Store.{coefficientOf}
 use Rattle.rules.specs.Composition.{unionSupport}
 use Rattle.cone.specs.Support.{termsOver, terms-are}
-use Rattle.cone.specs.View.{coneOf, IsCone}
-use Rattle.cone.specs.Basis.{coefficientsOver, IsBasis}
+use Rattle.cone.specs.View.{coneOf}
+use Rattle.cone.specs.Basis.{coefficientsOver}
 use Rattle.cone.proofs.compose.basis_of.Statement.{statement}
 use Rattle.cone.proofs.compose.basis_of.Tie as tie
 

@@ -1,5 +1,5 @@
 -- `cone::compose::coefficients_of` meets its contract.
-use mathlib.Core.Path.{_≡_, sym, _∙_}
+use mathlib.Core.Path.{sym, _∙_}
 use borrow.Author.Needs.{needs}
 use Rattle.laws.specs.Tail.{head-length}
 use Rattle.cone.proofs.compose.coefficients_of.Statement.{statement}

@@ -16,9 +16,6 @@ use Rattle.cone.specs.View.{coneOf}
 use Rattle.cone.specs.Compose.{gateTruth-length}
 use Rattle.cone.proofs.compose.composed_truth.Statement.{statement}
 use Rattle.cone.proofs.compose.composed_truth.Tie as tie
-use Rattle.cone.proofs.compose.composed_truth.Reads as reads
-use Rattle.cone.proofs.compose.composed_truth.Lts as lts
-use Rattle.cone.proofs.support.toggle_masks.Reads as toggle-masks-reads
 
 abbrev Inv-loop : tie.InvT-loop
 Inv-loop support truth₀ left right gate count masks new rows r₀ i₀ truth r i =

@@ -1,7 +1,7 @@
 -- `cone::compose::cone_composition_tables` meets its contract, from what its calls ensure.
-use mathlib.Core.Path.{_≡_, refl, sym, ap, _∙_}
+use mathlib.Core.Path.{_≡_, ap, _∙_}
 use mathlib.Core.List.{List}
-use Prim.Native.Nat.{ℕ, _≤_, _^_}
+use Prim.Native.Nat.{ℕ, _≤_}
 use native.Mathlib.Omega.{arith}
 use borrow.Author.Needs.{needs}
 use lib.IntN.{ℤ}
@@ -12,8 +12,8 @@ use Rattle.rules.specs.Cone as rules
 use Rattle.rules.specs.Cone.{linearTable}
 use Rattle.rules.specs.Composition.{unionSupport, gateTruth}
 use Rattle.scale.specs.Limits.{Within}
-use Rattle.cone.specs.View.{coneOf, IsCone, small}
-use Rattle.cone.specs.Basis.{coefficientsOver, IsBasis, Room, Composed, coefficientsOver-within}
+use Rattle.cone.specs.View.{coneOf, small}
+use Rattle.cone.specs.Basis.{IsBasis, Room, coefficientsOver-within}
 use Rattle.cone.proofs.compose.cone_composition_tables.Statement.{statement}
 use Rattle.cone.proofs.compose.cone_composition_tables.Tie as tie
 

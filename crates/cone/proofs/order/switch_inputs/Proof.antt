@@ -1,8 +1,8 @@
 -- `cone::order::switch_inputs` meets its contract.
-use mathlib.Core.Path.{_≡_, refl}
+use mathlib.Core.Path.{refl}
 use borrow.Author.Needs.{needs}
 use Rattle.rules.specs.Mapper.{switchInputs}
-use Rattle.cone.specs.Order.{sideOf, sidesOf}
+use Rattle.cone.specs.Order.{sidesOf}
 use Rattle.cone.proofs.order.switch_inputs.Statement.{statement}
 use Rattle.cone.proofs.order.switch_inputs.Tie as tie
 

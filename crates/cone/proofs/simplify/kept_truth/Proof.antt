@@ -1,5 +1,5 @@
 -- `cone::simplify::kept_truth` meets its contract: the cone's row steps with the row over the kept sources.
-use mathlib.Core.Path.{_≡_, refl, sym, ap, _∙_}
+use mathlib.Core.Path.{_≡_, refl, sym, _∙_}
 use mathlib.Core.List.{List}
 use Prim.Native.Nat.{ℕ, _+_, _-_, _^_, _≤_, _<_}
 use native.Mathlib.Omega.{arith}
@@ -15,9 +15,6 @@ use Rattle.cone.specs.View.{coneOf, IsCone, view-sources, truth-at, rows
 use Rattle.cone.specs.Simplify.{truthOver, truthOver-length, truthOver-at}
 use Rattle.cone.proofs.simplify.kept_truth.Statement.{statement}
 use Rattle.cone.proofs.simplify.kept_truth.Tie as tie
-use Rattle.cone.proofs.simplify.kept_truth.Reads as reads
-use Rattle.cone.proofs.simplify.kept_truth.Lts as lts
-use Rattle.cone.proofs.support.toggle_masks.Reads as toggle-masks-reads
 
 abbrev Inv-loop : tie.InvT-loop
 Inv-loop kept cone count masks rows truth₀ r₀ i₀ truth r i =

@@ -1,6 +1,6 @@
 -- `cone::simplify::retain` meets its contract: the terms kept so far, and the used ones that are left, are the used ones.
 use mathlib.Core.Path.{_≡_, refl, sym, ap, subst, _∙_}
-use mathlib.Core.List.{List, [], _∷_, _++_, append-assoc, append-nil}
+use mathlib.Core.List.{List, _++_, append-assoc, append-nil}
 use mathlib.Core.Logic.{⊎-elim}
 use Prim.Native.Nat.{ℕ, _+_, _-_, _≤_, _<_}
 use native.Mathlib.Numerals.{add-one}
@@ -13,7 +13,6 @@ use mir.Syntax.{w64}
 use mir.Val.{toZ, ofZ}
 use Rattle.laws.specs.Integer.{read-back, bits-abs}
 use Rattle.laws.specs.Select.{select}
-use Rattle.rules.specs.Network.{Term}
 use Rattle.rules.specs.NetworkText.{sources}
 use Rattle.rules.specs.Store.{isUsed}
 use Rattle.cone.specs.declared.simplify.Retained.{Retained}
@@ -21,8 +20,6 @@ use Rattle.cone.specs.Support.{termsOver}
 use Rattle.cone.specs.Simplify.{coefs, IsRetained, usedFrom, used-all, used-on, unused-on, used-end, select-le, terms-length}
 use Rattle.cone.proofs.simplify.retain.Statement.{statement}
 use Rattle.cone.proofs.simplify.retain.Tie as tie
-use Rattle.cone.proofs.simplify.retain.Reads as reads
-use Rattle.cone.proofs.simplify.retain.Lts as lts
 
 -- the arrays hold the used terms before i
 record Kept (cs : List ℤ) (ns : List ℕ) (i : ℕ) (r : Retained) : Type 0 where

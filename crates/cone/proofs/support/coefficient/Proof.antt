@@ -1,17 +1,14 @@
 -- `cone::support::coefficient` meets its contract: past the coefficients, the definition has 0 too.
-use mathlib.Core.Path.{_≡_, refl, sym, ap, _∙_}
+use mathlib.Core.Path.{sym, ap, _∙_}
 use native.Mathlib.Omega.{arith}
-use lib.IntN.{ℤ, pos}
-use lib.ListN.{length, getD, List·getD-eq-default}
+use lib.IntN.{pos}
+use lib.ListN.{getD, List·getD-eq-default}
 use Rattle.laws.specs.Integer.{read-back}
 use Rattle.cone.specs.Rows.{position}
-use Rattle.cone.specs.Support.{termsOver, coefficient-at}
+use Rattle.cone.specs.Support.{coefficient-at}
 use borrow.Author.Needs.{needs}
 use Rattle.cone.proofs.support.coefficient.Statement.{statement}
 use Rattle.cone.proofs.support.coefficient.Tie as tie
-use Rattle.cone.proofs.support.coefficient.Reads as reads
-use Rattle.cone.proofs.support.coefficient.Lts as lts
-use Rattle.cone.proofs.support.position.Reads as position-reads
 
 position-requires : tie.Need-position-requires
 position-requires c κs = search needs

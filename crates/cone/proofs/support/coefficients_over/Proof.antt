@@ -1,10 +1,10 @@
 -- `cone::support::coefficients_over` meets its contract: the first i coefficients are the first i nodes'.
-use mathlib.Core.Path.{_≡_, refl, sym, ap, _∙_}
+use mathlib.Core.Path.{_≡_, refl, sym, _∙_}
 use mathlib.Core.List.{List, map}
 use Prim.Native.Nat.{ℕ, _+_, _-_, _≤_, _<_}
 use native.Mathlib.Omega.{arith}
 use borrow.Author.Needs.{needs}
-use lib.IntN.{ℤ, pos}
+use lib.IntN.{ℤ}
 use lib.ListN.{length, getD, take, set, length-set, length-map, List·getD-map}
 use Rattle.laws.specs.Front.{taken-step, taken-all}
 use Rattle.laws.specs.Integer.{read-back}
@@ -12,9 +12,6 @@ use Rattle.rules.specs.Store.{coefficientOf}
 use Rattle.cone.specs.Support.{termsOver}
 use Rattle.cone.proofs.support.coefficients_over.Statement.{statement}
 use Rattle.cone.proofs.support.coefficients_over.Tie as tie
-use Rattle.cone.proofs.support.coefficients_over.Reads as reads
-use Rattle.cone.proofs.support.coefficients_over.Lts as lts
-use Rattle.cone.proofs.support.coefficient.Reads as coefficient-reads
 
 abbrev Inv-loop : tie.InvT-loop
 Inv-loop support sources coefs r₀ i₀ r i = (i ≤ length support) × (length r ≡ 11) × (take i r ≡ take i (map (coefficientOf (termsOver coefs sources)) support))

@@ -7,8 +7,6 @@ use lib.ListN.{length, take, length-set}
 use Rattle.laws.specs.Front.{taken-step, taken-all}
 use Rattle.cone.proofs.support.left_support.Statement.{statement}
 use Rattle.cone.proofs.support.left_support.Tie as tie
-use Rattle.cone.proofs.support.left_support.Reads as reads
-use Rattle.cone.proofs.support.left_support.Lts as lts
 
 abbrev Inv-loop : tie.InvT-loop
 Inv-loop left nodes₀ i₀ nodes i = (i ≤ length left) × (length nodes ≡ 11) × (take i nodes ≡ take i left)

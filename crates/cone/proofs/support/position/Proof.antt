@@ -8,8 +8,6 @@ use Rattle.cone.specs.Rows.{position}
 use Rattle.cone.specs.Support.{position-here, position-on, position-end}
 use Rattle.cone.proofs.support.position.Statement.{statement}
 use Rattle.cone.proofs.support.position.Tie as tie
-use Rattle.cone.proofs.support.position.Reads as reads
-use Rattle.cone.proofs.support.position.Lts as lts
 
 abbrev Inv-loop : tie.InvT-loop
 Inv-loop nodes node i₀ i = (i ≤ length nodes) × (i + position (drop i nodes) node ≡ position nodes node)

@@ -1,5 +1,5 @@
 -- `cone::support::source_masks` meets its contract: after each turn the masks are those of the sources from i on.
-use mathlib.Core.Path.{_≡_, refl, sym, ap, _∙_}
+use mathlib.Core.Path.{_≡_, refl, ap}
 use mathlib.Core.List.{List, _∷_}
 use mathlib.Core.Logic.{⊎-elim}
 use Prim.Native.Nat.{ℕ, suc, _+_, _-_, _≤_, _<_, _^_}
@@ -14,9 +14,6 @@ use Rattle.rules.specs.Cone.{rowFrom}
 use Rattle.cone.specs.Rows.{position, hitMask, mask-set, mask-kept}
 use Rattle.cone.proofs.support.source_masks.Statement.{statement}
 use Rattle.cone.proofs.support.source_masks.Tie as tie
-use Rattle.cone.proofs.support.source_masks.Reads as reads
-use Rattle.cone.proofs.support.source_masks.Lts as lts
-use Rattle.cone.proofs.support.position.Reads as position-reads
 
 abbrev Inv-loop : tie.InvT-loop
 Inv-loop support sources masks₀ bit₀ i₀ masks bit i =

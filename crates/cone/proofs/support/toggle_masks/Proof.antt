@@ -1,5 +1,5 @@
 -- `cone::support::toggle_masks` meets its contract: the masks before the shift have all lower ones, the others are as they were.
-use mathlib.Core.Path.{_≡_, refl, sym, ap, _∙_}
+use mathlib.Core.Path.{_≡_, sym, _∙_}
 use mathlib.Core.List.{List}
 use mathlib.Core.Logic.{⊎-elim}
 use Prim.Native.Nat.{ℕ, _+_, _-_, _≤_, _<_}
@@ -12,9 +12,6 @@ use Rattle.laws.specs.Test.{eq-or-ne}
 use Rattle.cone.specs.Rows.{hitMask, toggleMask, toggleMask-first, toggleMask-next}
 use Rattle.cone.proofs.support.toggle_masks.Statement.{statement}
 use Rattle.cone.proofs.support.toggle_masks.Tie as tie
-use Rattle.cone.proofs.support.toggle_masks.Reads as reads
-use Rattle.cone.proofs.support.toggle_masks.Lts as lts
-use Rattle.cone.proofs.support.source_masks.Reads as source-masks-reads
 
 abbrev Inv-loop : tie.InvT-loop
 Inv-loop support sources masks₀ shift₀ masks shift =

@@ -1,6 +1,6 @@
 -- `cone::support::union_support` meets its contract: the sources so far, and the new ones among those that are left, are the union.
-use mathlib.Core.Path.{_≡_, refl, sym, ap, subst, _∙_}
-use mathlib.Core.List.{List, [], _∷_, _++_, append-assoc, append-nil}
+use mathlib.Core.Path.{_≡_, sym, ap, subst, _∙_}
+use mathlib.Core.List.{List, _++_, append-assoc, append-nil}
 use mathlib.Core.Logic.{⊎-elim}
 use Prim.Native.Nat.{ℕ, _+_, _-_, _≤_, _<_}
 use native.Mathlib.Numerals.{add-one}
@@ -14,10 +14,6 @@ use Rattle.cone.specs.Rows.{position}
 use Rattle.cone.specs.Support.{isNew, union-is, new-on, old-on, new-end}
 use Rattle.cone.proofs.support.union_support.Statement.{statement}
 use Rattle.cone.proofs.support.union_support.Tie as tie
-use Rattle.cone.proofs.support.union_support.Reads as reads
-use Rattle.cone.proofs.support.union_support.Lts as lts
-use Rattle.cone.proofs.support.left_support.Reads as left-support-reads
-use Rattle.cone.proofs.support.position.Reads as position-reads
 
 -- what is there of the union, as n of the nodes, where the right sources from i on are left
 record Joined (left right : List ℕ) (i n : ℕ) (nodes : List ℕ) : Type 0 where

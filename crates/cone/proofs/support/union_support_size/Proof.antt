@@ -1,19 +1,16 @@
 -- `cone::support::union_support_size` meets its contract: the size so far, and the new ones among the sources that are left.
-use mathlib.Core.Path.{_≡_, refl, sym, ap, _∙_}
-use mathlib.Core.List.{List, _∷_}
+use mathlib.Core.Path.{_≡_, sym, ap, _∙_}
+use mathlib.Core.List.{List}
 use mathlib.Core.Logic.{⊎-elim}
 use Prim.Native.Nat.{ℕ, _+_, _-_, _≤_, _<_}
 use native.Mathlib.Omega.{arith}
 use borrow.Author.Needs.{needs}
-use lib.ListN.{length, getD, drop, length-append}
+use lib.ListN.{length, drop, length-append}
 use Rattle.laws.specs.Select.{select}
 use Rattle.rules.specs.Composition.{unionSupport}
 use Rattle.cone.specs.Support.{isNew, union-is, new-on, old-on, new-end}
 use Rattle.cone.proofs.support.union_support_size.Statement.{statement}
 use Rattle.cone.proofs.support.union_support_size.Tie as tie
-use Rattle.cone.proofs.support.union_support_size.Reads as reads
-use Rattle.cone.proofs.support.union_support_size.Lts as lts
-use Rattle.cone.proofs.support.position.Reads as position-reads
 
 abbrev Inv-loop : tie.InvT-loop
 Inv-loop left right size₀ i₀ size i = (i ≤ length right) × (size ≤ length left + i) × (size + length (select (isNew left) (drop i right)) ≡ length (unionSupport left right))

@@ -3,20 +3,18 @@ use Turn.{front-is, joined, next, table-room, doubled, start-length, start-table
 use native.Mathlib.Omega.{arith}
 use borrow.Author.Needs.{needs}
 use mathlib.Core.Path.{_≡_, refl, sym, ap, _∙_}
-use mathlib.Core.List.{List, [], _∷_, _++_}
-use Prim.Native.Nat.{ℕ, _+_, _-_, _≤_, _<_, _^_}
+use Prim.Native.Nat.{_+_, _-_, _≤_, _<_}
 use lib.Dec.{lit<}
 use mir.Facts.{toZ-ofZ}
 use Rattle.laws.specs.Integer.{fits-abs}
 use borrow.Rule.Slice.PartMut.{putMid}
 use lib.IntN.{ℤ, pos, natAbs}
 use native.Mathlib.Nat.{one-le-pow}
-use lib.ListN.{length, getD, set, take, drop, length-set, length-take, length-drop}
+use lib.ListN.{length, getD, set, drop, length-set, length-take, length-drop}
 use mir.Syntax.{w32, w64}
 use mir.Val.{toZ, ofZ, SFits}
-use Rattle.laws.specs.Over.{over, over-append, over-over, over-length, take-over, drop-over}
+use Rattle.laws.specs.Over.{over}
 use Rattle.rules.specs.Cone.{linearTable}
-use Rattle.cone.specs.Table.{shifted}
 use Rattle.cone.proofs.table.linear_table.Statement.{statement}
 use Rattle.cone.proofs.table.linear_table.Tie as tie
 

@@ -1,10 +1,10 @@
 use native.Mathlib.Omega.{arith}
 use borrow.Author.Needs.{needs}
-use mathlib.Core.Path.{_≡_, refl, sym, ap, _∙_}
+use mathlib.Core.Path.{_≡_, refl, ap, _∙_}
 use mathlib.Core.List.{List, _++_, append-assoc}
 use Prim.Native.Nat.{ℕ, _+_, _-_, _≤_, _<_}
 use lib.ListN.{length, getD, set, take, length-set, length-append, List·getD-append}
-use lib.Seq.{paste, paste-zero, paste-suc, length-paste, getD-take, length-take-le}
+use lib.Seq.{paste, paste-zero, paste-suc, getD-take, length-take-le}
 use lib.IntN.{ℤ, pos}
 use native.Mathlib.Numerals.{add-one}
 use Rattle.laws.specs.Over.{over}

@@ -1,8 +1,7 @@
 -- What `simplify_cone` answers, on the values: k is the cone, r the sources and coefficients that are kept.
-use mathlib.Core.Path.{_≡_, refl, sym, ap, _∙_}
-use mathlib.Core.Bool.{true}
+use mathlib.Core.Path.{_≡_, sym, ap, _∙_}
 use mathlib.Core.List.{List}
-use Prim.Native.Nat.{ℕ, _≤_, _<_, _^_}
+use Prim.Native.Nat.{ℕ, _≤_, _^_}
 use native.Mathlib.Omega.{arith}
 use lib.IntN.{ℤ}
 use lib.ListN.{length, take}
@@ -10,7 +9,7 @@ use lib.Seq.{length-take-le}
 use Rattle.laws.specs.Select.{select}
 use Rattle.laws.specs.Tail.{head-length}
 use Rattle.rules.specs.Cone as rules
-use Rattle.rules.specs.NetworkText.{sources, allDifferent}
+use Rattle.rules.specs.NetworkText.{sources}
 use Rattle.rules.specs.Network.{Term}
 use Rattle.rules.specs.Store.{isUsed}
 use Rattle.rules.specs.Composition.{simplifyCone}

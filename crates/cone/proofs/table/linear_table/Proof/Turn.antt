@@ -1,15 +1,15 @@
 -- One turn of `linear_table`'s loop, on the values.
-use mathlib.Core.Path.{_≡_, refl, sym, ap, _∙_}
+use mathlib.Core.Path.{_≡_, ap, _∙_}
 use mathlib.Core.List.{List, [], _∷_, _++_}
-use Prim.Native.Nat.{ℕ, zero, suc, _+_, _-_, _*_, _≤_, _<_, _^_}
-use native.Mathlib.Nat.{pow-le-pow-right, le-trans, not-suc-le-zero, one-le-pow}
+use Prim.Native.Nat.{ℕ, zero, suc, _+_, _-_, _≤_, _<_, _^_}
+use native.Mathlib.Nat.{pow-le-pow-right, not-suc-le-zero, one-le-pow}
 use native.Mathlib.Numerals.{sub-one}
 use native.Mathlib.Omega.{arith}
 use lib.Dec.{lit<}
-use lib.IntN.{ℤ, pos, natAbs}
+use lib.IntN.{ℤ, pos}
 use lib.ListN.{length, getD, set, take, drop, length-drop, length-append}
 use lib.Seq.{drop-cons, take-at, drop-at, drop-length, drop-set-lt, getD-drop}
-use Rattle.laws.specs.Over.{over, over-append, over-over, over-length, take-over, drop-over}
+use Rattle.laws.specs.Over.{over, over-append, over-over, take-over}
 use Rattle.laws.specs.Tail.{tail-part, tail-put}
 use Rattle.rules.specs.Cone.{linearTable}
 use Rattle.scale.specs.Limits.{Within}

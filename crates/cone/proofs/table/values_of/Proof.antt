@@ -1,9 +1,8 @@
--- `cone::compose::values_of` meets its contract.
-use mathlib.Core.Path.{_≡_, sym}
+-- `cone::table::values_of` meets its contract.
 use borrow.Author.Needs.{needs}
 use Rattle.laws.specs.Tail.{head-length}
-use Rattle.cone.proofs.compose.values_of.Statement.{statement}
-use Rattle.cone.proofs.compose.values_of.Tie as tie
+use Rattle.cone.proofs.table.values_of.Statement.{statement}
+use Rattle.cone.proofs.table.values_of.Tie as tie
 
 slice-aggregate-linear-table : tie.Need-slice-aggregate-linear-table
 slice-aggregate-linear-table c = head-length (c .before .args .t1) (c .before .args .n) (search needs)
