@@ -8,7 +8,7 @@ use native.Mathlib.Omega.{arith}
 use lib.Bits.{differ, block-half, block-odd}
 use lib.Count.{trailingZeros, under}
 use lib.Dec.{leb, leb·zero, leb·suc-suc, leb·suc-zero, lit<}
-use lib.ListN.{length, getD}
+use lib.ListN.{length}
 use lib.Pow.{shr-shr, pow-add, high}
 
 -- the digit that stands for 2 ^ k
@@ -87,12 +87,6 @@ pub digits-length : (n i : ℕ) → length (digits n i) ≡ n
 unfolding digits
 digits-length zero i = refl
 digits-length (suc n) i = ap suc (digits-length n i)
-
-pub digits-at : (n i j : ℕ) → j < n → getD (digits n i) j 0 ≡ bit (n - 1 - j) i
-unfolding digits
-digits-at zero i j h = absurd (not-suc-le-zero h)
-digits-at (suc n) i zero h = ap (λ k. bit k i) (omega arith)
-digits-at (suc n) i (suc j) h = digits-at n i j (le-of-suc-le-suc h) ∙ ap (λ k. bit k i) (omega arith)
 
 -- the upper digits are those of the quotient
 pub digits-upper : (n k i : ℕ) → digits (n + k) i ≡ digits n (i / 2 ^ k) ++ digits k i
