@@ -8,3 +8,4 @@ pub mod Front
 pub mod Over
 pub mod Tail
 pub mod Select
+pub mod Digits

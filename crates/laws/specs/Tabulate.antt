@@ -1,8 +1,8 @@
 -- Lists given entry by entry.
-use mathlib.Core.Path.{_≡_, refl, ap, ap₂}
-use mathlib.Core.List.{List, [], _∷_, _++_}
-use Prim.Native.Nat.{ℕ, zero, suc, _<_}
-use native.Mathlib.Nat.{not-suc-le-zero, le-of-suc-le-suc}
+use mathlib.Core.Path.{_≡_, refl, ap, ap₂, _∙_}
+use mathlib.Core.List.{List, [], _∷_, _++_, map}
+use Prim.Native.Nat.{ℕ, zero, suc, _+_, _<_}
+use native.Mathlib.Nat.{not-suc-le-zero, le-of-suc-le-suc, zero-add, suc-add}
 use native.Mathlib.Omega.{arith}
 use lib.ListN.{length, getD}
 
@@ -32,3 +32,17 @@ pub tabulate-snoc {ℓ} : {A : Type ℓ} (n : ℕ) (f : ℕ → A) → tabulate 
 unfolding tabulate
 tabulate-snoc zero f = refl
 tabulate-snoc {A} (suc n) f = ap {B = List A} (λ r. f 0 ∷ r) (tabulate-snoc n (λ k. f (suc k)))
+
+pub tabulate-append {ℓ} : {A : Type ℓ} (m n : ℕ) (f : ℕ → A) → tabulate (m + n) f ≡ tabulate m f ++ tabulate n (λ k. f (m + k))
+unfolding tabulate
+tabulate-append zero n f = rw zero-add (tabulate-same n f (λ k. f (0 + k)) (λ i h. ap f (omega arith)))
+tabulate-append {A} (suc m) n f =
+    rw (suc-add m n)
+    (ap {B = List A} (λ r. f 0 ∷ r)
+    (tabulate-append m n (λ k. f (suc k))
+    ∙ ap {B = List A} (λ r. tabulate m (λ k. f (suc k)) ++ r) (tabulate-same n (λ k. f (suc (m + k))) (λ k. f (suc m + k)) (λ i h. ap f (omega arith)))))
+
+pub map-tabulate {ℓ ℓ′} : {A : Type ℓ} {B : Type ℓ′} (g : A → B) (n : ℕ) (f : ℕ → A) → map g (tabulate n f) ≡ tabulate n (λ k. g (f k))
+unfolding tabulate
+map-tabulate g zero f = refl
+map-tabulate {B} g (suc n) f = ap {B = List B} (λ r. g (f 0) ∷ r) (map-tabulate g n (λ k. f (suc k)))

@@ -1,11 +1,11 @@
 -- Tests that compute, and what they say.
-use mathlib.Core.Path.{_≡_, refl, sym, subst, ap, ap₂}
+use mathlib.Core.Path.{_≡_, refl, sym, subst}
 use mathlib.Core.Bool.{Bool, true, false, not, _&&_, _||_, true≢false, false≢true}
-use mathlib.Core.List.{List, [], _∷_, _++_}
+use mathlib.Core.List.{List, [], _∷_}
 use mathlib.Core.Logic.{_⊎_, inl, inr, ⊎-elim}
 use mathlib.Core.Option.{Option, none, some}
 use Prim.Native.Nat.{ℕ, zero, suc, _+_, _<_, _≤_}
-use native.Mathlib.Nat.{not-suc-le-zero, le-of-suc-le-suc, eq-or-lt-of-le, zero-lt-suc}
+use native.Mathlib.Nat.{not-suc-le-zero, le-of-suc-le-suc, eq-or-lt-of-le}
 use native.Mathlib.Omega.{arith}
 use native.Mathlib.Numerals.{add-one}
 use lib.Dec.{T, eqb, eqb-refl, ltb, ltb→lt, nltb→le}
@@ -125,3 +125,20 @@ allb-fails n i f h e = T-not-is (allb n f) (λ t. subst T e (allb-at n f t i h))
 pub allb-none : (f : ℕ → Bool) → allb 0 f ≡ true
 unfolding allb
 allb-none f = refl
+
+-- a disjunction that is false, a conjunction that is true
+pub neither-left : (a b : Bool) → (a || b) ≡ false → a ≡ false
+neither-left true b h = h
+neither-left false b h = refl
+
+pub neither-right : (a b : Bool) → (a || b) ≡ false → b ≡ false
+neither-right true b h = absurd (subst T h tt)
+neither-right false b h = h
+
+pub both-left : (a b : Bool) → (a && b) ≡ true → a ≡ true
+both-left true b h = refl
+both-left false b h = h
+
+pub both-right : (a b : Bool) → (a && b) ≡ true → b ≡ true
+both-right true b h = h
+both-right false b h = absurd (subst T (sym h) tt)

@@ -1,0 +1,91 @@
+// Cones: sources, a coefficient each, a bit for each assignment (first source the highest bit).
+pub mod compose;
+pub mod order;
+pub mod simplify;
+pub mod support;
+pub mod table;
+pub mod valid;
+
+ghost use mathlib.Core.Path.{_≡_};
+ghost use Prim.Native.Nat.{_<_};
+ghost use Rattle.rules.specs.Cone as rules;
+ghost use Rattle.cone.specs.View.{coneOf, IsCone, constantOf};
+
+// The first n sources and coefficients, and 2^n truths; what stands past them does not matter.
+pub struct Cone {
+    pub n: usize,
+    pub support: [usize; 11],
+    pub coefs: [i64; 11],
+    pub truth: [u8; 2048],
+}
+
+// What a cone with no source is.
+pub enum Constant {
+    Bit(u8),
+    No,
+}
+
+impl Cone {
+    // A cone with no source.
+    pub fn constant(value: u8) -> Cone
+        requires { ⌜ value < 2 ⌝ }
+        ensures { λ r. ⌜ IsCone r × (coneOf r ≡ rules.constant value) ⌝ }
+    {
+        Cone {
+            n: 0,
+            support: [0usize; 11],
+            coefs: [0i64; 11],
+            truth: [value; 2048],
+        }
+    }
+
+    // The cone of one source.
+    pub fn identity(node: usize) -> Cone
+        ensures { λ r. ⌜ IsCone r × (coneOf r ≡ rules.identity node) ⌝ }
+    {
+        let mut support = [0usize; 11];
+        support[0] = node;
+        let mut coefs = [0i64; 11];
+        coefs[0] = 1;
+        let mut truth = [0u8; 2048];
+        truth[1] = 1;
+        Cone {
+            n: 1,
+            support,
+            coefs,
+            truth,
+        }
+    }
+
+    // The bit of a cone with no source.
+    pub fn constant_value(self) -> Constant
+        requires { ⌜ IsCone self ⌝ }
+        ensures { λ r. ⌜ r ≡ constantOf (coneOf self) ⌝ }
+    {
+        if self.n == 0 {
+            Constant::Bit(self.truth[0])
+        } else {
+            Constant::No
+        }
+    }
+
+    // The least and the greatest value, and all between: so many.
+    pub fn span(self) -> usize
+        requires { ⌜ IsCone self ⌝ }
+        ensures { λ r. ⌜ r ≡ rules.coneSpan (coneOf self) ⌝ }
+    {
+        let coefs = self.coefs;
+        let n = self.n;
+        table::linear_span(&coefs[..n])
+    }
+
+    // The squared coefficients added.
+    pub fn norm2(self) -> u64
+        requires { ⌜ IsCone self ⌝ }
+        ensures { λ r. ⌜ r ≡ rules.norm2 (coneOf self) ⌝ }
+    {
+        let coefs = self.coefs;
+        let n = self.n;
+        scale::coefficients_norm2(&coefs[..n])
+    }
+}
