@@ -6,7 +6,6 @@ ghost use Prim.Native.Nat.{ℕ, _+_, _*_, _-_, _<_, _≤_};
 ghost use lib.Dec.{leb, ltb};
 ghost use lib.ListN.{length, take, drop};
 ghost use Rattle.laws.specs.Over.{over};
-ghost use Rattle.rules.specs.Builder.{tableLimits};
 ghost use Rattle.rules.specs.CircuitText.{noNode, policy, tables, fbsLine, gateLine, circuitLine, readCircuit};
 ghost use Rattle.rules.specs.Form.{_when_};
 ghost use Rattle.rules.specs.Runs.{allBits, bitsFor, ran, runCircuit};
@@ -398,22 +397,6 @@ fn with_out(c: Circuit, out: Out) -> Circuit
     d
 }
 
-// P from 2 to 16, M from P to 2P.
-pub fn is_within(p: usize, m: usize) -> bool
-    ensures { λ r. ⌜ r ≡ tableLimits p m ⌝ }
-{
-    if p < 2 {
-        return false;
-    }
-    if 16 < p {
-        return false;
-    }
-    if m < p {
-        return false;
-    }
-    m <= 2 * p
-}
-
 // The lowest condition that a line meets, 0 for none.
 fn fbs_number(started: bool, within: bool, t: usize) -> usize
     ensures { λ r. ⌜ r ≡ lowest ((2 when not (within && (leb 1 t && leb t 10))) ∷ (4 when started) ∷ []) ⌝ }
@@ -515,7 +498,7 @@ fn take_fbs(c: Circuit, line: usize, f: Settings) -> Step
     requires { ⌜ Ready line c ⌝ }
     ensures { λ r. ⌜ Took line c (FbsBrief f) r ⌝ }
 {
-    let within = is_within(f.p, f.m);
+    let within = rotation::table_limits(f.p, f.m);
     let number = fbs_number(line != 1, within, f.t);
     let circuit = with_settings(c, f);
     Step { number, circuit }

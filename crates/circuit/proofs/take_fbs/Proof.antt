@@ -8,7 +8,7 @@ returns c =
     let c1 = c .before in
     let c2 = c1 .before in
     let c3 = c2 .before in
-    fbs-taken _ _ (c3 .pre) _ _ _ _ (c2 .is-within .ensures) (c1 .fbs-number .ensures) (c .with-settings .ensures)
+    fbs-taken _ _ (c3 .pre) _ _ _ _ (c2 .table-limits .ensures) (c1 .fbs-number .ensures) (c .with-settings .ensures)
 
 pub take-fbs-spec : {M : Type 1} → statement M
 take-fbs-spec =
