@@ -203,12 +203,12 @@ module _ (i : ℕ) (c : Circuit) (y : Ready i c) where
     pub in-taken : (d : Circuit) → k ≡ 0 → d ≡ withInput c n → Took i c (InBrief w) (record { number = 0; circuit = d })
     in-taken d h q = rw q (took-in i c (y .sized) (y .first) n w e (room 32 (c .inputs) _ k g h) (sym h ∙ number-in))
 
-  module _ (s : List ℕ) (d e : ℕ) (v : Wires) (k : ℕ) (l : e ≤ length s)
+  module _ (s : List ℕ) (d e : ℕ) (v : Wires) (matched : Bool) (k : ℕ) (l : e ≤ length s) (f : matched ≡ shape (v .count) (e - d))
       (g : k ≡ lowest
       ((3 when leb 96 (c .«gate_count»))
-      ∷ (4 when (not (not (eqb i 1)) || ltb 0 (c .«out_count»))) ∷ (6 when v .astray) ∷ (7 when not (shape (v .count) (e - d))) ∷ [])) where
+      ∷ (4 when (not (not (eqb i 1)) || ltb 0 (c .«out_count»))) ∷ (6 when v .astray) ∷ (7 when not matched) ∷ [])) where
     number-gate : k ≡ lowest (briefConditions (prefixOf i c) (GateBrief (bitsAt s d (e - d)) v))
-    number-gate = g ∙ rw (bits-at-length s d e l) at (gate-number i c (y .sized) (bitsAt s d (e - d)) v)
+    number-gate = g ∙ rw f (rw (bits-at-length s d e l) at (gate-number i c (y .sized) (bitsAt s d (e - d)) v))
 
     pub gate-refused : (k ≡ 0 → ⊥) → Took i c (GateBrief (bitsAt s d (e - d)) v) (record { number = k; circuit = c })
     gate-refused h = took-refused i c (GateBrief (bitsAt s d (e - d)) v) k (y .sized) number-gate h
@@ -216,7 +216,7 @@ module _ (i : ℕ) (c : Circuit) (y : Ready i c) where
     gate-shape : k ≡ 0 → e - d ≡ (if eqb (v .count) 1 then 2 else 4)
     gate-shape h =
         let nodes = unmet _ _ (omega arith) (unmet _ _ (omega arith) (unmet _ _ (omega arith) (sym g ∙ h) .1) .1) in
-        shape-bits (v .count) (e - d) (not-false _ (unmet _ _ (omega arith) (nodes .1) .0))
+        shape-bits (v .count) (e - d) (sym f ∙ not-false matched (unmet _ _ (omega arith) (nodes .1) .0))
 
     pub gate-short : k ≡ 0 → e - d ≤ 4
     gate-short h = rw (gate-shape h) (if-both (λ m. m ≤ 4) (eqb (v .count) 1) (omega arith) (omega arith))

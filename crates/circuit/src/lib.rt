@@ -431,15 +431,21 @@ fn in_number(started: bool, inputs: usize, gates: usize, outs: usize, repeated: 
     if repeated { 5 } else { 0 }
 }
 
-fn gate_number(
-    started: bool,
-    gates: usize,
-    outs: usize,
-    astray: bool,
-    count: usize,
-    bits: usize,
-) -> usize
-    ensures { λ r. ⌜ r ≡ lowest ((3 when leb 96 gates) ∷ (4 when (not started || ltb 0 outs)) ∷ (6 when astray) ∷ (7 when not (shape count bits)) ∷ []) ⌝ }
+// One wire and two bits, or two wires and four.
+fn is_matched(count: usize, bits: usize) -> bool
+    ensures { λ r. ⌜ r ≡ shape count bits ⌝ }
+{
+    if count == 1 {
+        return bits == 2;
+    }
+    if count == 2 {
+        return bits == 4;
+    }
+    false
+}
+
+fn gate_number(started: bool, gates: usize, outs: usize, strays: bool, matched: bool) -> usize
+    ensures { λ r. ⌜ r ≡ lowest ((3 when leb 96 gates) ∷ (4 when (not started || ltb 0 outs)) ∷ (6 when strays) ∷ (7 when not matched) ∷ []) ⌝ }
 {
     if 96 <= gates {
         return 3;
@@ -450,16 +456,10 @@ fn gate_number(
     if 0 < outs {
         return 4;
     }
-    if astray {
+    if strays {
         return 6;
     }
-    if count == 1 {
-        return if bits == 2 { 0 } else { 7 };
-    }
-    if count == 2 {
-        return if bits == 4 { 0 } else { 7 };
-    }
-    7
+    if matched { 0 } else { 7 }
 }
 
 fn out_number(started: bool, outs: usize, astray: bool) -> usize
@@ -525,14 +525,8 @@ fn take_gate(c: Circuit, line: usize, s: &[u8], d: usize, e: usize, v: Wires) ->
     requires { ⌜ (d ≤ e) × (e ≤ length (now s)) ⌝ }
     ensures { λ r. ⌜ Took line c (GateBrief (bitsAt (now (s .entry)) d (e - d)) v) r ⌝ }
 {
-    let number = gate_number(
-        line != 1,
-        c.gate_count,
-        c.out_count,
-        v.astray,
-        v.count,
-        e - d,
-    );
+    let matched = is_matched(v.count, e - d);
+    let number = gate_number(line != 1, c.gate_count, c.out_count, v.astray, matched);
     if number != 0 {
         return Step { number, circuit: c };
     }
