@@ -4,7 +4,7 @@ use mathlib.Core.List.{List}
 use mathlib.Core.Option.{Option, none, some}
 use Prim.Native.Nat.{ℕ, _-_, _≤_}
 use lib.ListN.{length, take, drop}
-use Rattle.rules.specs.Form.{Piece}
+use Rattle.rules.specs.Form.{Piece, bitsFrom}
 use Rattle.text.specs.declared.Found.{Found}
 use Rattle.text.specs.declared.Found.the-variants.{At, Nothing}
 
@@ -26,13 +26,15 @@ abbrev pub taken : List ℕ → ℕ → Found → Option (Piece (List ℕ))
 taken s a (At e) = some (record { value = take (e - a) (drop a s); rest = drop e s })
 taken s a Nothing = none
 
--- What is known of a chain's next piece once the function's answer is taken apart.
-module _ {n : ℕ} (s : List ℕ) (r : Found) {w : Option (Piece (Unit {0}))} (h : Reads n (passed s r) (endOf r) w) where
-  pub word-at : (e : ℕ) → r ≡ At e → w ≡ some (record { value = tt; rest = drop e s })
-  word-at e k = sym (h .same) ∙ ap (passed s) k
+abbrev pub bitsTaken : List ℕ → ℕ → Found → Option (Piece (List ℕ))
+bitsTaken s a (At e) = some (record { value = bitsFrom (take (e - a) (drop a s)); rest = drop e s })
+bitsTaken s a Nothing = none
 
-  pub word-missing : r ≡ Nothing → w ≡ none
-  word-missing k = sym (h .same) ∙ ap (passed s) k
+-- What is known of a chain's next piece once the function's answer r is taken apart: it is q.
+module _ {R A : Type 0} (view : R → Option (Piece A)) {n e : ℕ} {r q : R} {w : Option (Piece A)} where
+  pub found : Reads n (view r) e w → r ≡ q → w ≡ view q
+  found h k = sym (h .same) ∙ ap view k
 
-pub end-inside : {A : Type 0} {n : ℕ} (r : Found) {o w : Option (Piece A)} (e : ℕ) → Reads n o (endOf r) w → r ≡ At e → e ≤ n
-end-inside {n = n} r e h k = subst (λ q. endOf q ≤ n) k (h .inside)
+module _ {R A : Type 0} (end : R → ℕ) {n : ℕ} {r q : R} {o w : Option (Piece A)} where
+  pub ends : Reads n o (end r) w → r ≡ q → end q ≤ n
+  ends h k = subst (λ x. end x ≤ n) k (h .inside)
