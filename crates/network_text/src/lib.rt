@@ -1,9 +1,7 @@
 // The lines of a network's text.
 mod line;
 mod sum;
-pub mod pieces;
 
 pub use line::Line;
 pub use line::Read;
-pub use line::read_line;
 pub use sum::Lin;

@@ -47,7 +47,11 @@ fn answer_case(s: &[u8], at: usize) -> usize {
     let n = take_bits(s, length.end + 1, &mut bits);
     let past = if n == 0 { 1 } else { n };
     let count = number_at(s, length.end + past + 2);
-    let start = if kind == b'A' || kind == b'C' { length.end + 1 } else { count.end + 1 };
+    let start = if kind == b'A' || kind == b'C' {
+        length.end + 1
+    } else {
+        count.end + 1
+    };
     let end = start + length.value;
     if s.len() < end {
         return s.len();

@@ -1,6 +1,7 @@
 // Texts and their replies: the cases on standard input are answered one line each, as their README says.
 mod cases;
 mod print;
+
 use libc::STDIN_FILENO;
 
 const ROOM: usize = 1048576;

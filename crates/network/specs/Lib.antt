@@ -1,0 +1,2 @@
+-- What the code keeps of a network's lines, and how that stands for the definitions of crates/rules.
+pub mod Bounds
