@@ -1,2 +1,4 @@
 -- What the code keeps of a network's lines, and how that stands for the definitions of crates/rules.
 pub mod Bounds
+pub mod Tally
+pub mod Count

@@ -1,2 +1,3 @@
 -- What the code reads of a network's lines, and how that stands for the definitions of crates/rules.
 pub mod Terms
+pub mod Lines
