@@ -226,8 +226,11 @@ bits-abs b h =
     (λ t. omega (arith)) (λ t. omega arith)
 
 -- what the machine reads back from the bits of a call's result, whose range is `c .CALL .ok`
+pub read-back-at : (w : Width) (z : ℤ) → mag z < 2 ^ hbits w → toZ w (ofZ w z) ≡ z
+read-back-at w z h = toZ-ofZ (record { sfits = h })
+
 pub read-back : (z : ℤ) → mag z < 2 ^ 63 → toZ w64 (ofZ w64 z) ≡ z
-read-back z h = toZ-ofZ (record { sfits = h })
+read-back z h = read-back-at w64 z h
 
 -- and a number that is not 0 has bits that are not 0
 pub abs-bits : (z : ℤ) → 0 < natAbs z → SFits w64 z → 0 < ofZ w64 z

@@ -75,6 +75,10 @@ pub T-is : (b : Bool) → T b → b ≡ true
 T-is true t = refl
 T-is false t = absurd t
 
+pub T-not-is : (b : Bool) → (T b → ⊥) → b ≡ false
+T-not-is true f = absurd (f tt)
+T-not-is false f = refl
+
 pub is-T : (b : Bool) → b ≡ true → T b
 is-T b e = subst T (sym e) tt
 
@@ -96,10 +100,6 @@ allb-more n f a b = rw (add-one, b, a)
 
 pub allb-fails : (n i : ℕ) (f : ℕ → Bool) → i < n → f i ≡ false → allb n f ≡ false
 allb-fails n i f h e = T-not-is (allb n f) (λ t. subst T e (allb-at n f t i h))
-  where
-    T-not-is : (b : Bool) → (T b → ⊥) → b ≡ false
-    T-not-is true g = absurd (g tt)
-    T-not-is false g = refl
 
 pub allb-none : (f : ℕ → Bool) → allb 0 f ≡ true
 unfolding allb

@@ -17,6 +17,10 @@ use Rattle.rules.specs.declared.BuilderReply.the-variants.{Written, BadS
 
 -- ---- Known entries. A list of them has 0, 1, or 2 for unknown, as `known` in the Rust.
 
+-- A truth fits an entry: it is a bit, and the entry is unknown or has it already.
+unfoldable pub agrees : ℕ → ℕ → Bool
+agrees x t = leb t 1 && (eqb x 2 || eqb x t)
+
 -- The rows entered into known entries, the least value's first: a row's truth becomes the entry at its value.
 -- None where a truth is not a bit, or one value has two truths.
 unfoldable pub enter : ℤ → List ℤ → List ℕ → List ℕ → Option (List ℕ)
@@ -25,7 +29,7 @@ enter low (v ∷ values) [] known = some known
 enter low (v ∷ values) (t ∷ truths) known =
     let i = natAbs (v -ℤ low) in
     let rest = enter low values truths (set known i t) in
-    if leb t 1 && (eqb (getD known i 2) 2 || eqb (getD known i 2) t) then rest else none
+    if agrees (getD known i 0) t then rest else none
 
 unfoldable pub knownEntries : List ℤ → List ℕ → Option (List ℕ)
 knownEntries values truths = enter (least values) values truths (replicate (span values) 2)
@@ -47,9 +51,9 @@ against d y x = if eqb x 2 then (if eqb y 2 then d else 1 - y) else x
 -- Each unknown opposite to its partner, both unknown 0 and 1, unpaired 0.
 unfoldable pub opposedAt : ℕ → List ℕ → ℕ → ℕ
 opposedAt P known i =
-    if ltb (i + P) (length known) then against 0 (getD known (i + P) 2) (getD known i 2)
-    else if leb P i then against 1 (getD known (i - P) 2) (getD known i 2)
-    else knownOr 0 (getD known i 2)
+    if ltb (i + P) (length known) then against 0 (getD known (i + P) 0) (getD known i 0)
+    else if leb P i then against 1 (getD known (i - P) 0) (getD known i 0)
+    else knownOr 0 (getD known i 0)
 
 unfoldable pub opposed : ℕ → List ℕ → List ℕ
 opposed P known = tabulate (length known) (opposedAt P known)

@@ -11,7 +11,7 @@ use Rattle.laws.specs.Test.{if_then_else_, allb}
 use Rattle.rules.specs.Outcome.{Outcome}
 use Rattle.rules.specs.Rotation.{pairSum, sameSum, centre, rotatable}
 use Rattle.rules.specs.Span.{leastFrom, greatestFrom, least, greatest, span}
-use Rattle.rules.specs.Builder.{enter, knownEntries, knownOr, filled, against, opposedAt, opposed, completion, tableLimits, fromTable, fromKnown, builder}
+use Rattle.rules.specs.Builder.{agrees, enter, knownEntries, knownOr, filled, against, opposedAt, opposed, completion, tableLimits, fromTable, fromKnown, builder}
 
 pub data Question : Type 0 where
   -- the builder's P and M, and the values and truths of the rows
@@ -48,5 +48,5 @@ cases =
     ∷ []
 
 pub worked : map (λ c. reply (c .asks)) cases ≡ map (λ c. c .gives) cases
-unfolding cases reply shown builder fromKnown fromTable tableLimits completion opposed opposedAt against filled knownOr knownEntries enter span greatest least greatestFrom leastFrom rotatable centre sameSum pairSum over tabulate allb
+unfolding cases reply shown builder fromKnown fromTable tableLimits completion opposed opposedAt against filled knownOr knownEntries enter agrees span greatest least greatestFrom leastFrom rotatable centre sameSum pairSum over tabulate allb
 worked = refl

@@ -1,0 +1,14 @@
+-- `rotation::completions::try_filled` meets its contract.
+use mathlib.Core.Path.{ap, _∙_}
+use borrow.Author.Needs.{needs}
+use Rattle.rules.specs.Rotation.{rotatable}
+use Rattle.rotation.proofs.completions.try_filled.Statement.{statement}
+use Rattle.rotation.proofs.completions.try_filled.Tie as tie
+
+returns : tie.Need-returns
+returns c =
+    let is = c .before .before .before .before .fill .ensures in
+    (is, c .is-fbs-table-valid .ensures ∙ ap (rotatable _) is)
+
+pub try-filled-spec : {M : Type 1} → statement M
+try-filled-spec = tie.close (tie.spec (λ c κs. search needs) (λ c κs. search needs) (λ c. search needs) returns)

@@ -1,0 +1,151 @@
+-- The table builder is exact: a table is answered exactly when some completion of the rows can be rotated, and it is such a completion.
+use mathlib.Core.Path.{_≡_, refl, sym, ap, _∙_, subst}
+use mathlib.Core.Bool.{Bool, true, false, not, _&&_}
+use mathlib.Core.List.{List, [], _∷_}
+use mathlib.Core.Logic.{_⊎_, ⊎-elim, _↔_}
+use mathlib.Core.Option.{Option, none, some}
+use Prim.Native.Nat.{ℕ, zero, suc, _+_, _*_, _<_, _≤_}
+use native.Mathlib.Omega.{arith}
+use borrow.Author.Tests.{le-leb, eq-eqb, ne-eqb, lt-ltb, le-ltb}
+use lib.Dec.{T, leb, ltb, eqb}
+use lib.IntN.{ℤ, pos, natAbs, _-ℤ_}
+use lib.ListN.{length, getD, replicate, length-replicate}
+use Rattle.laws.specs.Over.{over}
+use Rattle.laws.specs.Test.{if_then_else_, lt-or-le, eq-or-ne}
+use Rattle.rules.specs.Outcome.{Answer, written, refused, Outcome, outcome}
+use Rattle.rules.specs.Rotation.{Rotatable, rotatable}
+use Rattle.rules.specs.Span.{least, span}
+use Rattle.rules.specs.Builder.{enter, knownEntries, completion, completable, tableLimits, fromTable, fromKnown, builder}
+use Rattle.theorems.specs.RotationRule.{RotationRule, rotation-rule}
+use Rattle.theorems.specs.Completions.{Entries, Completes, some-table, completion-is, completion-found}
+use Rattle.theorems.specs.Spans.{offset-lt}
+use Rattle.theorems.specs.Rows.{Within, Agrees, entered, entered-left, entered-entries, unknown-entries, unknown-completes}
+
+-- The settings, the lists' lengths and the buffer are in order.
+pub record InOrder (P M : ℕ) (values : List ℤ) (truths buffer : List ℕ) : Type 0 where
+  pub period : (2 ≤ P) × (P ≤ 16)
+  pub longest : (P ≤ M) × (M ≤ 2 * P)
+  pub lengths : length values ≡ length truths
+  pub room : span values ≤ length buffer
+
+-- t completes the rows: it has at most M bits, as many as the span, a rotation gives it, and each row's truth is its bit at the row's value, the least value's first.
+pub record Completion (P M : ℕ) (values : List ℤ) (truths t : List ℕ) : Type 0 where
+  pub long : length t ≡ span values
+  pub most : length t ≤ M
+  pub bits : (i : ℕ) → i < length t → getD t i 0 ≤ 1
+  pub turns : Rotatable P t
+  pub agrees : (i : ℕ) → i < length values → getD t (natAbs (getD values i (pos 0) -ℤ least values)) 0 ≡ getD truths i 0
+
+-- The reply is a table.
+abbrev pub Accepted : (P M : ℕ) (values : List ℤ) (truths buffer : List ℕ) → Type 0
+Accepted P M values truths buffer = builder P M values truths buffer .answer .number ≡ 0
+
+-- The reply is this table, written from the buffer's start.
+abbrev pub Answers : (P M : ℕ) (values : List ℤ) (truths buffer t : List ℕ) → Type 0
+Answers P M values truths buffer t = builder P M values truths buffer ≡ outcome (written (length t)) (over t buffer)
+
+-- each row has its entry
+within : (values : List ℤ) → Within (least values) values (length (replicate {A = ℕ} (span values) 2))
+within values = record { at = λ i h. rw length-replicate (offset-lt values i h) }
+
+-- ---- the definition's tests in turn
+from-table : (buffer t : List ℕ) → length t ≤ length buffer → fromTable buffer (some t) ≡ outcome (written (length t)) (over t buffer)
+unfolding fromTable
+from-table buffer t h = rw (le-ltb (length buffer) (length t) h)
+
+module _ (P M : ℕ) (values : List ℤ) (truths buffer : List ℕ) (o : InOrder P M values truths buffer) where
+  limits : tableLimits P M ≡ true
+  unfolding tableLimits
+  limits = rw (le-leb 2 P (o .period .0), le-leb P 16 (o .period .1), le-leb P M (o .longest .0), le-leb M (2 * P) (o .longest .1))
+
+  no-row : length values ≡ 0 → builder P M values truths buffer ≡ outcome (refused 30 0) buffer
+  unfolding builder
+  no-row h = rw (limits, eq-eqb (length values) (length truths) (o .lengths), eq-eqb (length values) 0 h)
+
+  too-long : 0 < length values → M < span values → builder P M values truths buffer ≡ outcome (refused 31 0) buffer
+  unfolding builder
+  too-long h l =
+      rw (limits, eq-eqb (length values) (length truths) (o .lengths), ne-eqb (length values) 0 (omega arith), lt-ltb M (span values) l)
+
+  rows : 0 < length values → span values ≤ M → builder P M values truths buffer ≡ fromKnown P buffer (knownEntries values truths)
+  unfolding builder
+  rows h l =
+      rw (limits, eq-eqb (length values) (length truths) (o .lengths), ne-eqb (length values) 0 (omega arith), le-ltb M (span values) l)
+
+  -- ---- what is found from the rows' known entries
+  module _ (k : List ℕ) (e : knownEntries values truths ≡ some k) where
+    whole : Entries k × (length k ≡ span values)
+    unfolding knownEntries
+    whole =
+        let r = entered-entries (least values) values truths (replicate (span values) 2) k e (unknown-entries (span values)) in
+        (r .0, r .1 ∙ length-replicate {A = ℕ} (span values) 2)
+
+    found : (t : List ℕ) → completion P k ≡ some t → span values ≤ M → Completion P M values truths t
+    unfolding knownEntries
+    found t f l =
+        let is = completion-is k (whole .0) P t f in
+        let n = is .0 .long ∙ whole .1 in
+        let back = entered-left (least values) t values truths (replicate (span values) 2) k (o .lengths) (within values) e (is .0) in
+        record {
+          long = n;
+          most = omega arith;
+          bits = λ i h. is .0 .bits i (rw (is .0 .long) at h);
+          turns = rotation-rule P t .decides .0 (is .1);
+          agrees = back .1 .at;
+        }
+
+    replied : (t : List ℕ) → completion P k ≡ some t → 0 < length values → span values ≤ M → Answers P M values truths buffer t
+    unfolding fromKnown
+    replied t f h l =
+        let n : length t ≤ length buffer = omega (arith, completion-is k (whole .0) P t f .0 .long, whole .1, o .room) in
+        rows h l ∙ rw (e, f) (from-table buffer t n)
+
+  -- ---- both directions
+  abbrev Found : Type 0
+  Found = (t : List ℕ) × Completion P M values truths t × Answers P M values truths buffer t
+
+  by-table : (k : List ℕ) → knownEntries values truths ≡ some k → 0 < length values → span values ≤ M
+      → (c : Option (List ℕ)) → completion P k ≡ c → fromTable buffer c .answer .number ≡ 0 → Found
+  unfolding fromTable
+  by-table k e h l none f a = absurd (omega arith)
+  by-table k e h l (some t) f a = (t, found k e t f l, replied k e t f h l)
+
+  by-known : 0 < length values → span values ≤ M
+      → (c : Option (List ℕ)) → knownEntries values truths ≡ c → fromKnown P buffer c .answer .number ≡ 0 → Found
+  unfolding fromKnown
+  by-known h l none e a = absurd (omega arith)
+  by-known h l (some k) e a = by-table k e h l (completion P k) refl a
+
+  answered : Accepted P M values truths buffer → (0 < length values) × Found
+  answered a =
+      ⊎-elim
+      (λ (n : length values ≡ 0). absurd (let q : _≡_ {A = ℕ} 30 0 = rw (no-row n) at a in omega arith))
+      (λ (n : length values ≡ 0 → ⊥).
+      let h : 0 < length values = omega arith in
+      ⊎-elim
+      (λ (l : M < span values). absurd (let q : _≡_ {A = ℕ} 31 0 = rw (too-long h l) at a in omega arith))
+      (λ (l : span values ≤ M). (h, by-known h l (knownEntries values truths) refl (rw (rows h l) at a)))
+      (lt-or-le M (span values)))
+      (eq-or-ne (length values) 0)
+
+  accepts : 0 < length values → (t : List ℕ) → Completion P M values truths t → Accepted P M values truths buffer
+  unfolding knownEntries
+  accepts h t c =
+      let l : span values ≤ M = omega (arith, c .long, c .most) in
+      let k = entered (least values) t values truths (replicate (span values) 2) (o .lengths) (within values)
+      (unknown-completes (span values) t (c .long) (c .bits)) (record { at = c .agrees }) in
+      let some-found = some-table P (k .0) (completion-found P (k .0) t (k .2) (rotation-rule P t .decides .1 (c .turns)) (whole (k .0) (k .1) .0)) in
+      ap (λ (r : Outcome). r .answer .number) (replied (k .0) (k .1) (some-found .0) (some-found .1) h l)
+
+-- With settings, lengths and buffer in order, a table is answered exactly when there is a row and some completion of at most M bits can be rotated and agrees with every row;
+-- and the table answered is such a completion.
+pub record BuilderExact (P M : ℕ) (values : List ℤ) (truths buffer : List ℕ) : Type 0 where
+  pub exactly : Accepted P M values truths buffer ↔ ((0 < length values) × (t : List ℕ) × Completion P M values truths t)
+  pub such : Accepted P M values truths buffer → (t : List ℕ) × Completion P M values truths t × Answers P M values truths buffer t
+
+pub builder-exact : (P M : ℕ) (values : List ℤ) (truths buffer : List ℕ) → InOrder P M values truths buffer → BuilderExact P M values truths buffer
+builder-exact P M values truths buffer o =
+    record {
+      exactly = (λ a. let r = answered P M values truths buffer o a in (r .0, r .1 .0, r .1 .1), λ w. accepts P M values truths buffer o (w .0) (w .1) (w .2));
+      such = λ a. answered P M values truths buffer o a .1;
+    }

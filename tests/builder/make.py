@@ -1,0 +1,179 @@
+#!/usr/bin/env python3
+"""Cases for the table builder, with the replies that document 01 asks for.
+
+Written from document 01 alone; it shares no code with the crates.
+  make.py           writes crates/vectors_builder/stdin and stdout
+  make.py --check   says whether the two files are what it would write
+A case is a line: P, M, the buffer's length, the count of values and the values, the count of truths and the truths.
+Its reply is a line: the number, the count of bits written, and the buffer, which held the letters a, b, .. before.
+"""
+import itertools
+import pathlib
+import random
+import sys
+
+FILES = pathlib.Path(__file__).resolve().parents[2] / "crates" / "vectors_builder"
+MIN, MAX = -(2**31), 2**31 - 1
+
+
+def possible(bits, P):
+    """Whole numbers c and s(0)..s(P-1) with 2 x bit(v) = c + s(v) for v < P and c - s(v - P) from P on."""
+    if len(bits) > 2 * P:
+        return False
+    for c in range(-4, 5):
+        s = [2 * b - c for b in bits[:P]]
+        if all(2 * bits[v] == c - s[v - P] for v in range(P, len(bits))):
+            return True
+    return False
+
+
+def completions(entries, P):
+    """Unknowns 0, then 1, then each unknown opposite to its partner, both unknown 0 and 1, unpaired 0."""
+    yield [0 if e is None else e for e in entries]
+    yield [1 if e is None else e for e in entries]
+    third = list(entries)
+    for low in range(P):
+        high = low + P
+        if high < len(third):
+            if third[low] is None and third[high] is None:
+                third[low], third[high] = 0, 1
+            elif third[low] is None:
+                third[low] = 1 - third[high]
+            elif third[high] is None:
+                third[high] = 1 - third[low]
+    yield [0 if e is None else e for e in third]
+
+
+def any_completion(entries, P):
+    """By trial of all bits, to see that three completions are enough."""
+    return any(
+        possible(bits, P) for bits in itertools.product(*[(0, 1) if e is None else (e,) for e in entries])
+    )
+
+
+def reply(P, M, room, values, truths):
+    if not (2 <= P <= 16 and P <= M <= 2 * P):
+        return 2, []
+    if len(values) != len(truths) or not values:
+        return 30, []
+    span = max(values) - min(values) + 1
+    if span > M:
+        return 31, []
+    entries = [None] * span
+    for value, truth in zip(values, truths):
+        at = value - min(values)
+        if truth not in (0, 1) or entries[at] not in (None, truth):
+            return 32, []
+        entries[at] = truth
+    table = next((bits for bits in completions(entries, P) if possible(bits, P)), None)
+    if span <= 8:
+        assert (table is not None) == any_completion(entries, P)
+    if table is None:
+        return 33, []
+    if room < span:
+        return 34, []
+    return 0, table
+
+
+def exhaustive():
+    """P = 2: every list of up to three rows with values 0..4, and all truths of four rows."""
+    for M, longest in ((2, 2), (3, 2), (4, 3)):
+        for n in range(1, longest + 1):
+            for values in itertools.product(range(5), repeat=n):
+                for truths in itertools.product((0, 1, 2) if n < 3 else (0, 1), repeat=n):
+                    yield 2, M, 5, list(values), list(truths)
+    for truths in itertools.product((0, 1), repeat=4):
+        yield 2, 4, 4, [0, 1, 2, 3], list(truths)
+
+
+def settings():
+    for P in list(range(19)) + [9999999999999999999]:
+        for M in sorted({0, 1, max(P - 1, 0), P, P + 1, 2 * P, 2 * P + 1, 32, 33}):
+            if M < 10**19:
+                yield P, M, 2, [7], [1]
+
+
+def shapes():
+    """Lengths that differ, no rows, the ends of the values' range, buffers of every length around the span."""
+    for values, truths in (([], []), ([], [0]), ([0], []), ([0, 1], [0]), ([0], [0, 1])):
+        yield 4, 8, 3, values, truths
+        yield 4, 9, 3, values, truths
+    for values in ([MIN], [MAX], [MIN, MAX], [MAX, MIN], [MIN, -1], [0, MAX], [MIN, MIN + 7], [MAX, MAX - 7], [MIN, MIN + 8], [-4, 3], [-5, 3], [MIN, 0, MAX]):
+        yield 4, 8, 9, values, [1, 0, 1][: len(values)]
+    for room in range(7):
+        yield 3, 6, room, [0, 3, 5], [0, 1, 0]
+        yield 2, 4, room, [0, 1, 2, 3], [0, 0, 0, 1]
+        yield 2, 4, room, [-1, -1], [0, 1]
+    yield 2, 2, 2, [0, 1], [0, 255]
+    yield 2, 2, 2, [5] * 300, [1] * 300
+    yield 2, 2, 2, [5] * 300, [1] * 299 + [0]
+
+
+def table(rng, P, length):
+    """Bits that a rotation gives."""
+    total = rng.randrange(3)
+    bits = [rng.randrange(2) for _ in range(length)]
+    for i in range(max(length - P, 0)):
+        first = rng.randrange(2) if total == 1 else total // 2
+        bits[i], bits[i + P] = first, total - first
+    return bits
+
+
+def random_cases(rng, count):
+    for _ in range(count):
+        P = rng.randint(2, 16)
+        M = rng.randint(P, 2 * P)
+        length = rng.randint(max(1, M - 6), M) if rng.random() < 0.7 else rng.randint(1, M)
+        bits = table(rng, P, length)
+        low = rng.choice([0, -length // 2, rng.randint(-40, 40), rng.randint(MIN, MAX - 40)])
+        places = {0, length - 1} | {v for v in range(length) if rng.random() < rng.choice((0.3, 0.6, 1))}
+        places = sorted(places) + [rng.choice(sorted(places)) for _ in range(rng.randrange(3))]
+        rng.shuffle(places)
+        values = [low + v for v in places]
+        truths = [bits[v] for v in places]
+        room = rng.choice([length, length + 3, min(40, 2 * length), max(length - 1, 0), 0, 40])
+        damage = rng.randrange(8)
+        at = rng.randrange(len(truths))
+        if damage == 0:
+            truths[at] = 1 - truths[at]
+        if damage == 1:
+            truths[at] = rng.choice((2, 3, 255))
+        if damage == 2:
+            values[at] = min(MAX, max(MIN, values[at] + rng.choice((-1, 1)) * rng.randint(1, 2 * P)))
+        if damage == 3 and rng.random() < 0.3:
+            truths.pop()
+        yield P, M, room, values, truths
+
+
+def cases():
+    yield from exhaustive()
+    yield from settings()
+    yield from shapes()
+    yield from random_cases(random.Random(1), 900)
+
+
+def files():
+    asked, answered, seen = [], [], {}
+    for P, M, room, values, truths in cases():
+        number, bits = reply(P, M, room, values, truths)
+        seen[number] = seen.get(number, 0) + 1
+        letters = "".join(chr(ord("a") + i % 26) for i in range(room))
+        asked.append(" ".join(map(str, [P, M, room, len(values), *values, len(truths), *truths])))
+        answered.append(f"{number} {len(bits)} " + "".join(map(str, bits)) + letters[len(bits) :])
+    stdin, stdout = "\n".join(asked) + "\n", "\n".join(answered) + "\n"
+    assert len(stdin) < 131072, len(stdin)
+    return {"stdin": stdin, "stdout": stdout}, len(asked), seen
+
+
+def main():
+    made, count, seen = files()
+    if sys.argv[1:] == ["--check"]:
+        same = all((FILES / name).read_text() == text for name, text in made.items())
+        print("same" if same else "differs")
+        sys.exit(0 if same else 1)
+    for name, text in made.items():
+        (FILES / name).write_text(text)
+    print(count, "cases:", dict(sorted(seen.items())))
+
+
+main()
