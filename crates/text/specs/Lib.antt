@@ -4,4 +4,10 @@ pub mod Line
 pub mod Exactly
 pub mod Run
 pub mod Chain
+pub mod Number
+pub mod Capped
+pub mod Wire
+pub mod Limit
+pub mod Signed
+pub mod Forms
 pub mod Name

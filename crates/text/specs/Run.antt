@@ -3,11 +3,12 @@ use mathlib.Core.Path.{_≡_, refl, sym, ap, _∙_}
 use mathlib.Core.Bool.{Bool, true, false}
 use mathlib.Core.List.{List, [], _∷_}
 use mathlib.Core.Option.{Option, none, some}
-use Prim.Native.Nat.{ℕ, suc, _+_, _-_, _<_, _≤_}
+use Prim.Native.Nat.{ℕ, zero, suc, _+_, _-_, _<_, _≤_}
+use native.Mathlib.Nat.{not-suc-le-zero, le-of-suc-le-suc}
 use native.Mathlib.Numerals.{add-one}
 use native.Mathlib.Omega.{arith}
 use lib.ListN.{length, getD, take, drop, drop-of-length-le, length-drop, length-take}
-use lib.Seq.{drop-cons, drop-drop}
+use lib.Seq.{drop-cons, drop-drop, getD-drop}
 use Rattle.laws.specs.Test.{if_then_else_, if-both}
 use Rattle.rules.specs.Form.{run, runOf, give, isNameByte, isDigit, isBitByte}
 use Rattle.text.specs.declared.Kind.{Kind}
@@ -60,10 +61,28 @@ module _ (f : ℕ → Bool) where
       let n : length (run f l) ≡ e - a = omega arith in
       record { later = omega arith; inside = omega (arith, within l, length-drop a s); bytes = rw (← n) (front l) }
 
+-- ---- What a run's bytes are.
+each : (f : ℕ → Bool) (l : List ℕ) (k : ℕ) → k < length (run f l) → f (getD l k 0) ≡ true
+unfolding run
+each f [] k h = absurd (not-suc-le-zero h)
+each f (b ∷ s) k h = by (f b) refl (each f s) k h
+  where
+    by : (t : Bool) → f b ≡ t → ((k : ℕ) → k < length (run f s) → f (getD s k 0) ≡ true) → (k : ℕ) → k < length (if t then b ∷ run f s else []) → f (getD (b ∷ s) k 0) ≡ true
+    by true e later zero h = e
+    by true e later (suc k) h = later k (le-of-suc-le-suc h)
+    by false e later zero h = absurd (not-suc-le-zero h)
+    by false e later (suc k) h = absurd (not-suc-le-zero h)
+
 -- ---- What a reader takes that takes a run.
 module _ {f : ℕ → Bool} {s : List ℕ} {a e : ℕ} (r : RunEnd f s a e) where
   pub run-length : length (take (e - a) (drop a s)) ≡ e - a
   run-length = let h = r .inside in simp (length-take, length-drop) (omega arith)
+
+  pub run-byte : (i : ℕ) → a ≤ i → i < e → f (getD s i 0) ≡ true
+  run-byte i h k =
+      let q : a + (i - a) ≡ i = omega arith in
+      let short : i - a < length (run f (drop a s)) = rw (r .bytes, run-length) (omega arith) in
+      simp (getD-drop, q) at (each f (drop a s) (i - a) short)
 
   pub run-good : (good : List ℕ → Bool) → good (take (e - a) (drop a s)) ≡ true → runOf f good (drop a s) ≡ give (take (e - a) (drop a s)) (drop e s)
   unfolding runOf
