@@ -2,3 +2,4 @@
 pub mod Bounds
 pub mod Tally
 pub mod Count
+pub mod Table

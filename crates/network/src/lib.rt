@@ -1,3 +1,4 @@
 // A network's text judged (21 to 26) and counted, and a run of the network.
 mod bounds;
+mod table;
 mod tally;

@@ -23,10 +23,11 @@ loop-again : tie.Need-loop-again Inv-loop μ-loop
 loop-again c =
     let o = c .before .before .before .loop in
     let a = c .before .before .before .before .before .before .args in
-    let n = filled-length (a .missing) (a .known .now) in
-    ( omega arith
-    , filling-step (filled (a .missing) (a .known .now)) (a .table .now) (o .table) (o .i) _ 0 (o .inv .1)
-      (c .known-or .ensures ∙ sym (filled-at (a .missing) (a .known .now) (o .i))) (omega arith) (omega arith) )
+    let n = filled-length (a .missing) (a .known .now) in (
+      omega arith,
+      filling-step (filled (a .missing) (a .known .now)) (a .table .now) (o .table) (o .i) _ 0 (o .inv .1)
+          (c .known-or .ensures ∙ sym (filled-at (a .missing) (a .known .now) (o .i))) (omega arith) (omega arith),
+    )
 
 pub fill-spec : {M : Type 1} → statement M
 fill-spec =

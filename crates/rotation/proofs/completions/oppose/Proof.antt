@@ -20,10 +20,11 @@ loop-again : tie.Need-loop-again Inv-loop μ-loop
 loop-again c =
     let o = c .before .before .loop in
     let a = c .before .before .before .before .before .args in
-    let n = opposed-length (a .size) (a .known .now) in
-    ( omega arith
-    , filling-step (opposed (a .size) (a .known .now)) (a .table .now) (o .table) (o .i) _ 0 (o .inv .1)
-      (c .opposed-at .ensures ∙ sym (opposed-at (a .size) (a .known .now) (o .i) (omega arith))) (omega arith) (omega arith) )
+    let n = opposed-length (a .size) (a .known .now) in (
+      omega arith,
+      filling-step (opposed (a .size) (a .known .now)) (a .table .now) (o .table) (o .i) _ 0 (o .inv .1)
+          (c .opposed-at .ensures ∙ sym (opposed-at (a .size) (a .known .now) (o .i) (omega arith))) (omega arith) (omega arith),
+    )
 
 pub oppose-spec : {M : Type 1} → statement M
 oppose-spec =

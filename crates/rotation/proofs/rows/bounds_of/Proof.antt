@@ -25,29 +25,32 @@ abbrev μ-loop : tie.MeasureT-loop
 
 loop-holds : tie.Need-loop-holds Inv-loop μ-loop
 loop-holds c =
-    let values = c .before .before .args .values .now in
-    ( omega arith
-    , ap (λ m. leastFrom m (drop 1 values)) (read-back-at w32 _ (c .before .low .given)) ∙ least-start values (c .before .before .pre)
-    , ap (λ m. greatestFrom m (drop 1 values)) (read-back-at w32 _ (c .high .given)) ∙ greatest-start values (c .before .before .pre) )
+    let values = c .before .before .args .values .now in (
+      omega arith,
+      ap (λ m. leastFrom m (drop 1 values)) (read-back-at w32 _ (c .before .low .given)) ∙ least-start values (c .before .before .pre),
+      ap (λ m. greatestFrom m (drop 1 values)) (read-back-at w32 _ (c .high .given)) ∙ greatest-start values (c .before .before .pre),
+    )
 
 loop-again : tie.Need-loop-again Inv-loop μ-loop
 loop-again c =
     let o = c .before .before .before .before .before .loop in
-    let values = c .before .before .before .before .before .before .before .before .args .values .now in
-    ( omega arith
-    , ap (λ m. leastFrom m (drop (o .i + 1) values)) (read-back-at w32 _ (c .before .before .smaller .ok))
-      ∙ least-turn values (toZ w32 (o .low)) (o .i) _ _ (omega arith) (read-back-at w32 _ (c .before .before .before .smaller-arg .given)) (c .before .before .smaller .ensures)
-      ∙ o .inv .1
-    , ap (λ m. greatestFrom m (drop (o .i + 1) values)) (read-back-at w32 _ (c .larger .ok))
-      ∙ greatest-turn values (toZ w32 (o .high)) (o .i) _ _ (omega arith) (read-back-at w32 _ (c .before .larger-arg .given)) (c .larger .ensures)
-      ∙ o .inv .2 )
+    let values = c .before .before .before .before .before .before .before .before .args .values .now in (
+      omega arith,
+      ap (λ m. leastFrom m (drop (o .i + 1) values)) (read-back-at w32 _ (c .before .before .smaller .ok))
+          ∙ least-turn values (toZ w32 (o .low)) (o .i) _ _ (omega arith) (read-back-at w32 _ (c .before .before .before .smaller-arg .given)) (c .before .before .smaller .ensures)
+          ∙ o .inv .1,
+      ap (λ m. greatestFrom m (drop (o .i + 1) values)) (read-back-at w32 _ (c .larger .ok))
+          ∙ greatest-turn values (toZ w32 (o .high)) (o .i) _ _ (omega arith) (read-back-at w32 _ (c .before .larger-arg .given)) (c .larger .ensures)
+          ∙ o .inv .2,
+    )
 
 returns : tie.Need-returns Inv-loop μ-loop
 returns c =
     let o = c .before .loop in
-    let values = c .before .before .before .before .args .values .now in
-    ( sym (least-end values (toZ w32 (o .low)) (o .i) (omega arith)) ∙ o .inv .1
-    , sym (greatest-end values (toZ w32 (o .high)) (o .i) (omega arith)) ∙ o .inv .2 )
+    let values = c .before .before .before .before .args .values .now in (
+      sym (least-end values (toZ w32 (o .low)) (o .i) (omega arith)) ∙ o .inv .1,
+      sym (greatest-end values (toZ w32 (o .high)) (o .i) (omega arith)) ∙ o .inv .2,
+    )
 
 pub bounds-of-spec : {M : Type 1} → statement M
 bounds-of-spec =

@@ -65,11 +65,12 @@ returns c =
 
 loop-again : tie.Need-loop-again Inv-loop μ-loop
 loop-again c =
-    let o = c .before .before .before .before .before .before .before .loop in
-    ( omega arith
-    , simp length-set (o .inv .1)
-    , enter-turn _ _ _ (o .known) (o .i) _ _ (omega arith) (omega arith) (at (c .before .before .before .before)) refl (sym (c .before .agrees .ensures) ∙ not-false _ (c .if1 .left))
-      ∙ o .inv .2 )
+    let o = c .before .before .before .before .before .before .before .loop in (
+      omega arith,
+      simp length-set (o .inv .1),
+      enter-turn _ _ _ (o .known) (o .i) _ _ (omega arith) (omega arith) (at (c .before .before .before .before)) refl (sym (c .before .agrees .ensures) ∙ not-false _ (c .if1 .left))
+          ∙ o .inv .2,
+    )
 
 returns-2 : tie.Need-returns-2 Inv-loop μ-loop
 returns-2 c =
