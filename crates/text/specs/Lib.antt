@@ -10,4 +10,7 @@ pub mod Wire
 pub mod Limit
 pub mod Signed
 pub mod Forms
+pub mod Same
+pub mod Decimal
+pub mod Names
 pub mod Name

@@ -44,10 +44,10 @@ module _ (f : ℕ → Bool) (s : List ℕ) (i : ℕ) where
   run-over h = rw (drop-of-length-le s {i = i} h) (omega arith)
 
 module _ (f : ℕ → Bool) where
-  within : (l : List ℕ) → length (run f l) ≤ length l
+  pub run-within : (l : List ℕ) → length (run f l) ≤ length l
   unfolding run
-  within [] = omega arith
-  within (b ∷ s) = let h = within s in if-both (λ (w : List ℕ). length w ≤ suc (length s)) (f b) (omega arith) (omega arith)
+  run-within [] = omega arith
+  run-within (b ∷ s) = let h = run-within s in if-both (λ (w : List ℕ). length w ≤ suc (length s)) (f b) (omega arith) (omega arith)
 
   front : (l : List ℕ) → run f l ≡ take (length (run f l)) l
   unfolding run
@@ -59,7 +59,7 @@ module _ (f : ℕ → Bool) where
   run-end s a e h k =
       let l = drop a s in
       let n : length (run f l) ≡ e - a = omega arith in
-      record { later = omega arith; inside = omega (arith, within l, length-drop a s); bytes = rw (← n) (front l) }
+      record { later = omega arith; inside = omega (arith, run-within l, length-drop a s); bytes = rw (← n) (front l) }
 
 -- ---- What a run's bytes are.
 each : (f : ℕ → Bool) (l : List ℕ) (k : ℕ) → k < length (run f l) → f (getD l k 0) ≡ true
