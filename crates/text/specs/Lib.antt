@@ -1,6 +1,9 @@
 -- How the code's answers stand for the readers of crates/rules.
 pub mod Reads
 pub mod Line
+pub mod Judged
+pub mod Cap
+pub mod Many
 pub mod Exactly
 pub mod Run
 pub mod Chain
