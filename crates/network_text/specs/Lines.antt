@@ -1,20 +1,17 @@
 -- What the code says of a line, and what of a line is good on its own.
-use mathlib.Core.Bool.{Bool, true, false, _&&_}
 use mathlib.Core.Path.{_≡_}
-use mathlib.Core.List.{List, [], _∷_, map}
+use mathlib.Core.List.{List, [], _∷_}
 use mathlib.Core.Option.{Option, none, some}
 use Prim.Native.Nat.{ℕ, _-_, _≤_, min}
 use lib.Dec.{T, leb}
 use lib.ListN.{length, take, drop}
 use Rattle.laws.specs.Test.{if_then_else_}
-use Rattle.rules.specs.declared.Wire.{Wire}
-use Rattle.rules.specs.declared.Wire.the-variants.{Const, Node}
 use Rattle.rules.specs.Builder.{tableLimits}
-use Rattle.rules.specs.Circuit.{Output}
 use Rattle.rules.specs.Form.{bitsFrom}
 use Rattle.rules.specs.Network.{Term, LutNode, Input, Linear, Bootstrap}
 use Rattle.rules.specs.NetworkText.{Net, NetworkLine, NetLine, NodeLine, OutLine, networkLine, goodSum}
 use Rattle.rules.specs.Runs.{allBits}
+use Rattle.text.specs.Forms.{Named, capOutput}
 use Rattle.network_text.specs.Terms.{termsOf, Small}
 use Rattle.network_text.specs.declared.line.Line.{Line}
 use Rattle.network_text.specs.declared.line.Line.the-variants.{Bad, Net as NetRead, In, Lin as Sum, Boot, Out}
@@ -42,16 +39,12 @@ unfoldable pub capTerms : List Term → List Term
 capTerms [] = []
 capTerms (t ∷ ts) = capTerm t ∷ capTerms ts
 
-unfoldable pub capWire : Wire → Wire
-capWire (Const b) = Const b
-capWire (Node i) = Node (min 65536 i)
-
 unfoldable pub goodForm : NetworkLine → Option NetworkLine
 goodForm (NetLine n) = if tableLimits (n .p) (n .m) then some (NetLine n) else none
 goodForm (NodeLine (Input n)) = some (NodeLine (Input n))
 goodForm (NodeLine (Linear c ts)) = if goodSum c ts then some (NodeLine (Linear c (capTerms ts))) else none
 goodForm (NodeLine (Bootstrap i table)) = if leb (length table) 32 then some (NodeLine (Bootstrap (min 65536 i) table)) else none
-goodForm (OutLine o) = some (OutLine (record { name = o .name; wire = capWire (o .wire) }))
+goodForm (OutLine o) = some (OutLine (capOutput o))
 
 unfoldable pub goodLine : Option NetworkLine → Option NetworkLine
 goodLine none = none
@@ -59,12 +52,7 @@ goodLine (some l) = goodForm l
 
 -- ---- What the code knows of a line that it read.
 
--- A name of 1 to 16 bytes, a table of 1 to 32 bits, each within the line.
-pub record NamePlace (l : List ℕ) (a e : ℕ) : Type 0 where
-  pub later : a ≤ e
-  pub inside : e ≤ length l
-  pub short : e - a ≤ 16
-
+-- A table of 1 to 32 bits, within the line.
 pub record TablePlace (l : List ℕ) (a e : ℕ) : Type 0 where
   pub later : a ≤ e
   pub inside : e ≤ length l
@@ -75,7 +63,7 @@ pub record TablePlace (l : List ℕ) (a e : ℕ) : Type 0 where
 abbrev pub Within : List ℕ → Line → Type 0
 Within l Bad = Unit {0}
 Within l (NetRead p m n) = Unit {0}
-Within l (In a e) = NamePlace l a e
+Within l (In a e) = Named (length l) a e
 Within l Sum = Unit {0}
 Within l (Boot i a e) = TablePlace l a e
 Within l (Out a e w) = Unit {0}

@@ -1,0 +1,21 @@
+use borrow.Author.Needs.{needs}
+use Rattle.network_text.proofs.sum.is_good_coef.Statement.{statement}
+use Rattle.network_text.proofs.sum.is_good_coef.Tie as tie
+use Rattle.network_text.proofs.sum.is_good_coef.Reads as reads
+use Rattle.network_text.proofs.sum.is_good_coef.Lts as lts
+use Rattle.network_text.proofs.sum.is_small.Reads as is-small-reads
+
+-- src/sum.rt:71:9
+returns : tie.Need-returns
+returns c = ?
+
+-- src/sum.rt:73:5
+is-small-requires : tie.Need-is-small-requires
+is-small-requires c κs = search needs
+
+-- src/sum.rt:67:1
+returns-2 : tie.Need-returns-2
+returns-2 c = ?
+
+pub is-good-coef-spec : {M : Type 1} → statement M
+is-good-coef-spec = tie.close (tie.spec returns is-small-requires returns-2)

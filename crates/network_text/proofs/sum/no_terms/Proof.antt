@@ -1,0 +1,11 @@
+use Rattle.network_text.proofs.sum.no_terms.Statement.{statement}
+use Rattle.network_text.proofs.sum.no_terms.Tie as tie
+use Rattle.network_text.proofs.sum.no_terms.Reads as reads
+use Rattle.network_text.proofs.sum.no_terms.Lts as lts
+
+-- src/sum.rt:83:1
+returns : tie.Need-returns
+returns c = ?
+
+pub no-terms-spec : {M : Type 1} → statement M
+no-terms-spec = tie.close (tie.spec returns)
