@@ -3,3 +3,4 @@ pub mod Terms
 pub mod Term
 pub mod Places
 pub mod Lines
+pub mod Gather

@@ -1,3 +1,5 @@
+use Rattle.network_text.specs.Places.{place-is}
+use mir.Facts.{toZ-ofZ}
 use borrow.Author.Needs.{needs}
 use Rattle.network_text.proofs.sum.with_place.Statement.{statement}
 use Rattle.network_text.proofs.sum.with_place.Tie as tie
@@ -27,7 +29,7 @@ with-term-requires c κs = search needs
 
 -- src/sum.rt:117:1
 returns : tie.Need-returns
-returns c = ?
+returns c = place-is (c .before .before .args .t) _ _ _ _ _ (simp (toZ-ofZ (c .before .before .fits .coef)) at (c .with-term .ensures))
 
 pub with-place-spec : {M : Type 1} → statement M
 with-place-spec =

@@ -1,3 +1,5 @@
+use Rattle.network_text.specs.Terms.{withTerm}
+use mir.Facts.{toZ-ofZ}
 use borrow.Author.Needs.{needs}
 use Rattle.network_text.proofs.sum.with_term.Statement.{statement}
 use Rattle.network_text.proofs.sum.with_term.Tie as tie
@@ -26,7 +28,8 @@ add-r c = search needs
 
 -- src/sum.rt:105:1
 returns : tie.Need-returns
-returns c = ?
+unfolding withTerm
+returns c = simp (toZ-ofZ (c .fits .coef))
 
 pub with-term-spec : {M : Type 1} → statement M
 with-term-spec =
