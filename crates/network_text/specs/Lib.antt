@@ -4,3 +4,4 @@ pub mod Term
 pub mod Places
 pub mod Lines
 pub mod Gather
+pub mod Sum

@@ -8,6 +8,7 @@ ghost use Rattle.laws.specs.Test.{allb};
 ghost use Rattle.rules.specs.NetworkText.{small};
 ghost use Rattle.network_text.specs.Term.{ReadsTerm};
 ghost use Rattle.network_text.specs.Terms.{noTerms, withTerm};
+ghost use Rattle.network_text.specs.Sum.{TermsRead, closed, badSum, SumRead};
 ghost use Rattle.network_text.specs.Places.{goodCoef, noPlaces, withPlace, Parts, apart, goodNext};
 use text::Found;
 use text::Number;
@@ -157,4 +158,92 @@ fn is_good_term(l: &[u8], t: Terms, coef: i64, a: usize, e: usize) -> bool
     let starts = t.starts;
     let ends = t.ends;
     is_new(l, &starts, &ends, lin.n, a, e)
+}
+
+// The sum so far, whether it is a good one, and where its terms end.
+struct Gathered {
+    good: bool,
+    lin: Lin,
+    end: usize,
+}
+
+// The terms from `at` on, as far as they are those of a good sum.
+fn read_terms(l: &[u8], at: usize, constant: i64) -> Gathered
+    requires { ⌜ (at ≤ length (now l)) × (natAbs constant ≤ 31) ⌝ }
+    ensures { λ r. ⌜ TermsRead (now (l .entry)) at constant r ⌝ }
+{
+    let mut t = no_places(constant);
+    let mut i = at;
+    loop {
+        let read = read_term(l, i);
+        let TermRead::At(coef, source, a, e, next) = read else {
+            let lin = t.lin;
+            return Gathered {
+                good: true,
+                lin,
+                end: i,
+            };
+        };
+        if !is_good_term(l, t, coef, a, e) {
+            let lin = t.lin;
+            return Gathered {
+                good: false,
+                lin,
+                end: i,
+            };
+        }
+        t = with_place(t, coef, source, a, e);
+        i = next;
+    }
+}
+
+// The bracket and the newline that end the line.
+fn is_closed(l: &[u8], at: usize) -> bool
+    requires { ⌜ at ≤ length (now l) ⌝ }
+    ensures { λ r. ⌜ r ≡ closed (drop at (now (l .entry))) ⌝ }
+{
+    let Found::At(z) = text::read_word(l, at, b")\n") else {
+        return false;
+    };
+    z == l.len()
+}
+
+// A sum, if it is a good one.
+pub struct LinRead {
+    pub good: bool,
+    pub lin: Lin,
+}
+
+fn bad_sum() -> LinRead
+    ensures { λ r. ⌜ r ≡ badSum ⌝ }
+{
+    LinRead {
+        good: false,
+        lin: no_terms(0),
+    }
+}
+
+// What stands behind `(lin `, to the line's end.
+pub fn read_sum(l: &[u8], at: usize) -> LinRead
+    requires { ⌜ at ≤ length (now l) ⌝ }
+    ensures { λ r. ⌜ SumRead (now (l .entry)) at r ⌝ }
+{
+    let Signed::At(constant, a) = text::read_signed(l, at) else {
+        return bad_sum();
+    };
+    if !is_small(constant) {
+        return bad_sum();
+    }
+    let g = read_terms(l, a, constant);
+    if !g.good {
+        return bad_sum();
+    }
+    let lin = g.lin;
+    if lin.n == 0 {
+        return bad_sum();
+    }
+    if !is_closed(l, g.end) {
+        return bad_sum();
+    }
+    LinRead { good: true, lin }
 }
