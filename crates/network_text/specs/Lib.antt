@@ -5,3 +5,4 @@ pub mod Places
 pub mod Lines
 pub mod Gather
 pub mod Sum
+pub mod LineRead

@@ -4,4 +4,5 @@ mod sum;
 
 pub use line::Line;
 pub use line::Read;
+
 pub use sum::Lin;

@@ -1,6 +1,19 @@
-use crate::sum::Lin;
+// One line of a network's text. What is wrong on its own (21) counts as no form: P or M outside its limits, a sum that is no good one,
+// a table of over 32 bits. A node's number is kept up to 65536.
+ghost use mathlib.Core.Path.{_≡_};
+ghost use Prim.Native.Nat.{_≤_};
+ghost use lib.ListN.{length};
+ghost use Rattle.rules.specs.Builder.{tableLimits};
+ghost use Rattle.network_text.specs.Lines.{LineRead};
+ghost use Rattle.network_text.specs.LineRead.{ReadsNet, ReadsBoot, plainRead};
 use rules::Limit;
 use rules::Wire;
+use text::Found;
+use text::LimitRead;
+use text::NameRead;
+use text::Number;
+use text::OutRead;
+use crate::sum::Lin;
 
 // What a line says: P, M and NORM; where the name stands; a sum; the node and where the bits stand; where the name stands, and the wire.
 pub enum Line {
@@ -16,4 +29,89 @@ pub enum Line {
 pub struct Read {
     pub line: Line,
     pub lin: Lin,
+}
+
+enum NetRead {
+    At(usize, usize, Limit, usize),
+    Nothing,
+}
+
+enum BootRead {
+    At(usize, usize, usize, usize),
+    Nothing,
+}
+
+// `(net P M NORM)`
+fn read_net(l: &[u8]) -> NetRead
+    ensures { λ r. ⌜ ReadsNet (now (l .entry)) r ⌝ }
+{
+    let Found::At(a) = text::read_word(l, 0, b"(net ") else {
+        return NetRead::Nothing;
+    };
+    let Number::At(p, b) = text::read_number(l, a) else {
+        return NetRead::Nothing;
+    };
+    let Found::At(c) = text::read_word(l, b, b" ") else {
+        return NetRead::Nothing;
+    };
+    let Number::At(m, d) = text::read_number(l, c) else {
+        return NetRead::Nothing;
+    };
+    let Found::At(e) = text::read_word(l, d, b" ") else {
+        return NetRead::Nothing;
+    };
+    let LimitRead::At(norm, f) = text::read_norm(l, e) else {
+        return NetRead::Nothing;
+    };
+    let Found::At(z) = text::read_word(l, f, b")\n") else {
+        return NetRead::Nothing;
+    };
+    NetRead::At(p, m, norm, z)
+}
+
+// `(boot ID BITS)`
+fn read_boot(l: &[u8]) -> BootRead
+    ensures { λ r. ⌜ ReadsBoot (now (l .entry)) r ⌝ }
+{
+    let Found::At(a) = text::read_word(l, 0, b"(boot ") else {
+        return BootRead::Nothing;
+    };
+    let Number::At(source, b) = text::read_number(l, a) else {
+        return BootRead::Nothing;
+    };
+    let Found::At(c) = text::read_word(l, b, b" ") else {
+        return BootRead::Nothing;
+    };
+    let Found::At(d) = text::read_bits(l, c) else {
+        return BootRead::Nothing;
+    };
+    let Found::At(z) = text::read_word(l, d, b")\n") else {
+        return BootRead::Nothing;
+    };
+    BootRead::At(source, c, d, z)
+}
+
+// P from 2 to 16, M from P to 2P.
+fn is_within(p: usize, m: usize) -> bool
+    ensures { λ r. ⌜ r ≡ tableLimits p m ⌝ }
+{
+    if p < 2 {
+        return false;
+    }
+    if 16 < p {
+        return false;
+    }
+    if m < p {
+        return false;
+    }
+    m <= 2 * p
+}
+
+fn plain(line: Line) -> Read
+    ensures { λ r. ⌜ r ≡ plainRead line ⌝ }
+{
+    Read {
+        line,
+        lin: crate::sum::no_terms(0),
+    }
 }
