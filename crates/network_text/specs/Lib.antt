@@ -6,3 +6,4 @@ pub mod Lines
 pub mod Gather
 pub mod Sum
 pub mod LineRead
+pub mod LineIs

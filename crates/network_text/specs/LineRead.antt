@@ -25,6 +25,7 @@ use Rattle.text.specs.Chain.{step, stop, first, second}
 use Rattle.text.specs.Forms.{Named, capOutput}
 use Rattle.text.specs.Reads.{Reads}
 use Rattle.network_text.specs.Lines.{goodForm, goodLine, lineIn, lineOf, Within, LineRead, TablePlace}
+use Rattle.network_text.specs.Term.{spacedTerm}
 use Rattle.network_text.specs.Sum.{linRest, sumLine, SumRead, sumOf}
 use Rattle.network_text.specs.Terms.{Small, noTerms, small-none}
 use Rattle.network_text.specs.declared.line.BootRead.{BootRead}
@@ -128,3 +129,71 @@ cap-boot {b = b} j e = ap (λ x. Bootstrap x b) e
 
 unfoldable pub plainRead : Line → Read
 plainRead line = record { line = line; lin = noTerms (pos 0) }
+
+-- ---- Which of the five forms a line is.
+
+-- All of the bytes are one line.
+unfoldable pub ended : NetworkLine → List ℕ → Option NetworkLine
+ended v x = if eqb (length x) 0 then some v else none
+
+-- Two words that differ where both have a byte.
+unfoldable pub clash : List ℕ → List ℕ → Bool
+clash [] v = false
+clash (b ∷ w) [] = false
+clash (b ∷ w) (c ∷ v) = if eqb b c then clash w v else true
+
+clashes : (w v s : List ℕ) {p : Piece (Unit {0})} → clash w v ≡ true → exactly w s ≡ some p → exactly v s ≡ none
+unfolding clash exactly
+clashes [] v s k e = absurd (true≢false (sym k))
+clashes (b ∷ w) [] s k e = absurd (true≢false (sym k))
+clashes (b ∷ w) (c ∷ v) [] k e = refl
+clashes (b ∷ w) (c ∷ v) (d ∷ s) k e =
+    ⊎-elim
+    (λ (f : d ≡ b).
+    ⊎-elim (λ (g : d ≡ c). rw (eq-eqb d c g) (clashes w v s (rw (eq-eqb b c (sym f ∙ g)) at k) (rw (eq-eqb d b f) at e))) (λ (n : d ≡ c → ⊥). rw (ne-eqb d c n)) (eq-or-ne d c))
+    (λ (n : d ≡ b → ⊥). let q : none ≡ some _ = rw (ne-eqb d b n) at e in absurd (Option·none-ne-some _ q))
+    (eq-or-ne d b)
+
+either-none : {A : Type 0} (o : Option (Piece A)) → either o none ≡ o
+unfolding either
+either-none none = refl
+either-none (some p) = refl
+
+module _ (l : List ℕ) where
+  pub line-net : {n : Net} {x : List ℕ} → netLine l ≡ some (record { value = n; rest = x }) → networkLine l ≡ ended (NetLine n) x
+  unfolding networkLine ended only
+  line-net e = ap only (first _ (step _ e refl))
+
+  module _ (no-net : netLine l ≡ none) where
+    pub line-in : {n : Name} {x : List ℕ} → inLine l ≡ some (record { value = n; rest = x }) → networkLine l ≡ ended (NodeLine (Input n)) x
+    unfolding networkLine ended only
+    line-in e = ap only (second _ (stop _ no-net) (first _ (step _ e refl)))
+
+    module _ (no-in : inLine l ≡ none) where
+      pub line-lin : {x : List ℕ} → exactly (bytes "(lin ") l ≡ some (record { value = tt; rest = x }) → networkLine l ≡ sumLine x
+      unfolding networkLine linLine bootLine outLine sumLine linRest clash spacedTerm
+      line-lin {x} e =
+          ap only
+          (second _ (stop _ no-net)
+          (second _ (stop _ no-in) (ap₂ either (ap (λ o. onward o (λ n. give (NodeLine n))) (step _ e refl)) others ∙ either-none (onward (linRest x) (λ n. give (NodeLine n))))))
+        where
+          others : either (onward (bootLine l) (λ n. give (NodeLine n))) (onward (outLine l) (λ o. give (OutLine o))) ≡ none
+          others = second _ (stop _ (stop _ (clashes (bytes "(lin ") (bytes "(boot ") l refl e))) (stop _ (stop _ (clashes (bytes "(lin ") (bytes "(out ") l refl e)))
+
+      module _ (no-lin : exactly (bytes "(lin ") l ≡ none) where
+        lin-none : onward (linLine l) (λ n. give (NodeLine n)) ≡ none
+        unfolding linLine
+        lin-none = stop _ (stop _ no-lin)
+
+        pub line-boot : {n : LutNode} {x : List ℕ} → bootLine l ≡ some (record { value = n; rest = x }) → networkLine l ≡ ended (NodeLine n) x
+        unfolding networkLine ended only
+        line-boot e = ap only (second _ (stop _ no-net) (second _ (stop _ no-in) (second _ lin-none (first _ (step _ e refl)))))
+
+        module _ (no-boot : bootLine l ≡ none) where
+          pub line-out : {o : Output} {x : List ℕ} → outLine l ≡ some (record { value = o; rest = x }) → networkLine l ≡ ended (OutLine o) x
+          unfolding networkLine ended only
+          line-out e = ap only (second _ (stop _ no-net) (second _ (stop _ no-in) (second _ lin-none (second _ (stop _ no-boot) (step _ e refl)))))
+
+          pub line-none : outLine l ≡ none → networkLine l ≡ none
+          unfolding networkLine only
+          line-none e = ap only (second _ (stop _ no-net) (second _ (stop _ no-in) (second _ lin-none (second _ (stop _ no-boot) (stop _ e)))))
