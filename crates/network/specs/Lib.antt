@@ -3,3 +3,4 @@ pub mod Bounds
 pub mod Tally
 pub mod Count
 pub mod Table
+pub mod Seen

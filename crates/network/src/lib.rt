@@ -1,4 +1,5 @@
 // A network's text judged (21 to 26) and counted, and a run of the network.
 mod bounds;
+mod seen;
 mod table;
 mod tally;

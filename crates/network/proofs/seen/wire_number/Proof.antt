@@ -1,0 +1,50 @@
+use borrow.Author.Needs.{needs}
+use Rattle.network.proofs.seen.wire_number.Statement.{statement}
+use Rattle.network.proofs.seen.wire_number.Tie as tie
+use Rattle.network.proofs.seen.wire_number.Reads as reads
+use Rattle.network.proofs.seen.wire_number.Lts as lts
+
+-- src/seen.rt:182:20
+enum-known-w : tie.Need-enum-known-w
+enum-known-w c = search needs
+
+-- src/seen.rt:183:9
+enum-told : tie.Need-enum-told
+enum-told c = search needs
+
+-- src/seen.rt:183:9
+returns : tie.Need-returns
+returns c = ?
+
+-- src/seen.rt:186:9
+returns-2 : tie.Need-returns-2
+returns-2 c = ?
+
+-- src/seen.rt:189:9
+returns-3 : tie.Need-returns-3
+returns-3 c = ?
+
+-- src/seen.rt:191:8
+element-copy-out-if3 : tie.Need-element-copy-out-if3
+element-copy-out-if3 c = search needs
+
+-- src/seen.rt:178:1
+returns-4 : tie.Need-returns-4
+returns-4 c = ?
+
+-- src/seen.rt:178:1
+returns-5 : tie.Need-returns-5
+returns-5 c = ?
+
+pub wire-number-spec : {M : Type 1} → statement M
+wire-number-spec =
+    tie.close
+    (tie.spec
+    enum-known-w
+    enum-told
+    returns
+    returns-2
+    returns-3
+    element-copy-out-if3
+    returns-4
+    returns-5)
