@@ -3,4 +3,5 @@ pub mod Bounds
 pub mod Tally
 pub mod Count
 pub mod Table
+pub mod Work
 pub mod Seen
