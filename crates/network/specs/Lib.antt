@@ -4,3 +4,4 @@ pub mod Tally
 pub mod Count
 pub mod Table
 pub mod Seen
+pub mod Verdict

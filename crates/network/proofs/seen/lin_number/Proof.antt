@@ -1,3 +1,4 @@
+use Rattle.network.specs.Seen.{lin-met, lin-source, lin-read, lin-over, lin-good}
 use borrow.Author.Needs.{needs}
 use Rattle.network.proofs.seen.lin_number.Statement.{statement}
 use Rattle.network.proofs.seen.lin_number.Tie as tie
@@ -14,7 +15,7 @@ node-number-requires c κs = search needs
 
 -- src/seen.rt:141:9
 returns : tie.Need-returns
-returns c = ?
+returns c = lin-met _ _ (c .before .node-number .ensures) _ (c .if1 .taken)
 
 -- src/seen.rt:144:8
 has-bad-source-requires : tie.Need-has-bad-source-requires
@@ -22,11 +23,11 @@ has-bad-source-requires c κs = search needs
 
 -- src/seen.rt:145:9
 returns-2 : tie.Need-returns-2
-returns-2 c = ?
+returns-2 c = lin-source _ _ (c .before .before .before .before .before .node-number .ensures) _ (c .before .before .before .before .if1 .left) (c .before .has-bad-source .ensures) (c .if2 .taken)
 
 -- src/seen.rt:148:9
 returns-3 : tie.Need-returns-3
-returns-3 c = ?
+returns-3 c = lin-read (c .before .before .before .before .before .before .before .args .judge) _ (c .before .before .before .before .before .before .node-number .ensures) _ (c .before .before .before .before .before .if1 .left) (c .before .before .has-bad-source .ensures) (c .before .if2 .left) (c .if3 .taken)
 
 -- src/seen.rt:151:23
 norm-of-requires : tie.Need-norm-of-requires
@@ -38,11 +39,11 @@ is-over-requires c κs = search needs
 
 -- src/seen.rt:134:1
 returns-4 : tie.Need-returns-4
-returns-4 c = ?
+returns-4 c = lin-over (c .before .before .before .before .before .before .before .before .before .before .args .judge) _ (c .before .before .before .before .before .before .before .before .before .node-number .ensures) _ (c .before .before .before .before .before .before .before .before .if1 .left) (c .before .before .before .before .before .has-bad-source .ensures) (c .before .before .before .before .if2 .left) (c .before .before .before .if3 .left) (c .before .before .norm-of .ensures) (c .before .is-over .ensures) (c .if4 .taken)
 
 -- src/seen.rt:134:1
 returns-5 : tie.Need-returns-5
-returns-5 c = ?
+returns-5 c = lin-good (c .before .before .before .before .before .before .before .before .before .before .args .judge) _ (c .before .before .before .before .before .before .before .before .before .node-number .ensures) _ (c .before .before .before .before .before .before .before .before .if1 .left) (c .before .before .before .before .before .has-bad-source .ensures) (c .before .before .before .before .if2 .left) (c .before .before .before .if3 .left) (c .before .before .norm-of .ensures) (c .before .is-over .ensures) (c .if4 .left)
 
 pub lin-number-spec : {M : Type 1} → statement M
 lin-number-spec =

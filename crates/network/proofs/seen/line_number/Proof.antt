@@ -1,3 +1,4 @@
+use Rattle.network.specs.Seen.{named-within, table-within, line-bad, line-net, line-first, line-in, line-lin, line-boot, line-out}
 use borrow.Author.Needs.{needs}
 use Rattle.network.proofs.seen.line_number.Statement.{statement}
 use Rattle.network.proofs.seen.line_number.Tie as tie
@@ -22,7 +23,7 @@ enum-known-line c = search needs
 
 -- src/seen.rt:220:27
 name-number-requires : tie.Need-name-number-requires
-name-number-requires c κs = ?
+name-number-requires c κs = (c .before .before .before .before .before .pre .0, named-within (c .before .before .before .before .before .args .l .now) (c .before .before .before .before .before .pre .1 .1) (c .before .line .given .1))
 
 -- src/seen.rt:221:22
 enum-told-3 : tie.Need-enum-told-3
@@ -38,7 +39,7 @@ enum-known-line-2 c = search needs
 
 -- src/seen.rt:222:37
 boot-number-requires : tie.Need-boot-number-requires
-boot-number-requires c κs = ?
+boot-number-requires c κs = (c .before .before .before .before .before .pre .0, table-within (c .before .before .before .before .before .args .l .now) (c .before .before .before .before .before .pre .1 .1) (c .before .line2 .given .1))
 
 -- src/seen.rt:223:25
 enum-known-line-3 : tie.Need-enum-known-line-3
@@ -50,31 +51,31 @@ out-number-requires c κs = search needs
 
 -- src/seen.rt:209:1
 returns : tie.Need-returns
-returns c = ?
+returns c = line-bad _ _ _ _ _ (c .enum-told .given .1)
 
 -- src/seen.rt:209:1
 returns-2 : tie.Need-returns-2
-returns-2 c = ?
+returns-2 c = line-net _ _ _ _ _ (c .before .enum-told2 .given .1) (c .if1 .taken)
 
 -- src/seen.rt:209:1
 returns-3 : tie.Need-returns-3
-returns-3 c = ?
+returns-3 c = line-first _ _ _ _ _ (c .before .enum-told2 .given .1) (c .if1 .left)
 
 -- src/seen.rt:209:1
 returns-4 : tie.Need-returns-4
-returns-4 c = ?
+returns-4 c = line-in _ _ _ _ _ (c .before .before .line .given .1) (c .name-number .ensures)
 
 -- src/seen.rt:209:1
 returns-5 : tie.Need-returns-5
-returns-5 c = ?
+returns-5 c = line-lin _ _ _ _ _ (c .before .enum-told3 .given .1) (c .lin-number .ensures)
 
 -- src/seen.rt:209:1
 returns-6 : tie.Need-returns-6
-returns-6 c = ?
+returns-6 c = line-boot _ _ _ _ _ (c .before .before .line2 .given .1) (c .boot-number .ensures)
 
 -- src/seen.rt:209:1
 returns-7 : tie.Need-returns-7
-returns-7 c = ?
+returns-7 c = line-out _ _ _ _ _ (c .before .before .line3 .given .1) (c .out-number .ensures)
 
 pub line-number-spec : {M : Type 1} → statement M
 line-number-spec =
