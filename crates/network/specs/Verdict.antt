@@ -18,7 +18,7 @@ use Rattle.rules.specs.Circuit.{Name, Output}
 use Rattle.rules.specs.CircuitText.{listed, noNode}
 use Rattle.rules.specs.Form.{Condition, _when_, Reading, Refused}
 use Rattle.rules.specs.Network.{Term, LutNode, Input, Linear, Bootstrap, Network, isLinear, nodeNorm}
-use Rattle.rules.specs.NetworkText.{Net, NetworkLine, NetLine, NodeLine, OutLine, NetPrefix, networkLine, goodSum, names, allInputs, unknown, nodeAt, sources, anyBadSource, started, ending, textConditions, safetyConditions, admissionConditions, noBit, withNetworkLine, networkEnded}
+use Rattle.rules.specs.NetworkText.{Net, NetworkLine, NetLine, NodeLine, OutLine, NetPrefix, networkLine, goodSum, names, allInputs, unknown, nodeAt, sources, anyBadSource, started, ending, textConditions, safetyConditions, admissionConditions, settingsOf, over, withNetworkLine, networkEnded}
 use Rattle.rules.specs.Scale.{norm}
 use Rattle.text.specs.Cap.{cap-small}
 use Rattle.text.specs.Forms.{capOutput}
@@ -107,6 +107,10 @@ cap-known : (n i : ℕ) → n ≤ 65536 → leb n (min 65536 i) ≡ leb n i
 cap-known n i h =
     ⊎-elim (λ (l : i < n). rw (cap-small i (omega arith))) (λ (l : n ≤ i). rw (le-leb n i l, le-leb n (min 65536 i) (omega arith))) (lt-or-le i n)
 
+not-false : (b : Bool) → not b ≡ false → b ≡ true
+not-false true e = refl
+not-false false e = absurd (true≢false e)
+
 or-left : (a b : Bool) → (a || b) ≡ false → a ≡ false
 or-left true b e = e
 or-left false b e = refl
@@ -143,6 +147,10 @@ module _ (ns : List LutNode) (h : length ns ≤ 65536) where
       let k : t .node < length ns = leb-false (length ns) (t .node) (or-left _ (isLinear (nodeAt ns (t .node))) a) in
       rw (cap-small (t .node) (omega arith), same-sources ts b)
 
+  same-node : (i : ℕ) → unknown ns i ≡ false → min 65536 i ≡ i
+  unfolding unknown
+  same-node i e = cap-small i (omega (arith, leb-false (length ns) i e))
+
   same-wire : (u : Wire) → noNode (length ns) u ≡ false → capWire u ≡ u
   unfolding noNode capWire
   same-wire (Const b) e = refl
@@ -155,3 +163,112 @@ cap-norm (t ∷ ts) = rw (cap-norm ts)
 
 long-table : (n : ℕ) → ltb 32 n ≡ not (leb n 32)
 long-table n = ⊎-elim (λ (l : 32 < n). rw (lt-ltb 32 n l, lt-leb n 32 l)) (λ (l : n ≤ 32). rw (le-ltb 32 n l, le-leb n 32 l)) (lt-or-le 32 n)
+
+-- ---- So a good line is refused as the line is that was read.
+
+all-21 : (a b d : Bool) → _≡_ {A = ℕ} (if a then 21 else if b then 21 else if d then 21 else 21) 21
+all-21 true b d = refl
+all-21 false true d = refl
+all-21 false false true = refl
+all-21 false false false = refl
+
+module _ (judge : Bool) (w : NetPrefix) (h : length (w .nodes) ≤ 65536) where
+  good-net : (n : Net) (t : Bool) → goodRefusal judge w (if t then some (NetLine n) else none) ≡ lowest ((21 when not t) ∷ (21 when started w) ∷ safety judge w (NetLine n))
+  unfolding goodRefusal laterConditions lowest
+  good-net n true = refl
+  good-net n false = refl
+
+  safe-lin : (c : ℤ) (ts : List Term) → safety judge w (NodeLine (Linear c (capTerms ts))) ≡ safety judge w (NodeLine (Linear c ts))
+  unfolding safety safetyConditions nodeNorm coefNorm
+  safe-lin c ts = ap (λ k. if judge then (25 when over (settingsOf (w .net) .norm) k) ∷ [] else []) (cap-norm ts)
+
+  good-in : (n : Name) → goodRefusal judge w (some (NodeLine (Input n))) ≡ lowest (textConditions w (NodeLine (Input n)) ++ safety judge w (NodeLine (Input n)))
+  unfolding goodRefusal laterConditions textConditions
+  good-in n = refl
+
+  good-lin : (c : ℤ) (ts : List Term) (t : Bool)
+      → goodRefusal judge w (if t then some (NodeLine (Linear c (capTerms ts))) else none)
+      ≡ lowest
+      ((21 when not (started w))
+      ∷ (21 when ending w)
+      ∷ (21 when leb 672 (length (w .nodes)))
+      ∷ (21 when not t) ∷ (22 when anyBadSource (w .nodes) (sources ts)) ∷ safety judge w (NodeLine (Linear c ts)))
+  unfolding goodRefusal laterConditions lowest
+  good-lin c ts true = rw (cap-sources (w .nodes) h ts, safe-lin c ts)
+  good-lin c ts false = sym (all-21 (not (started w)) (ending w) (leb 672 (length (w .nodes))))
+
+  good-boot : (i : ℕ) (table : List ℕ) (t : Bool)
+      → goodRefusal judge w (if t then some (NodeLine (Bootstrap (min 65536 i) table)) else none)
+      ≡ lowest
+      ((21 when not (started w))
+      ∷ (21 when ending w)
+      ∷ (21 when leb 672 (length (w .nodes)))
+      ∷ (21 when not t) ∷ (22 when unknown (w .nodes) i) ∷ safety judge w (NodeLine (Bootstrap i table)))
+  unfolding goodRefusal laterConditions lowest
+  good-boot i table true =
+      exact-or-unknown (w .nodes) h
+      (λ x y.
+      lowest
+      ((21 when not (started w))
+      ∷ (21 when ending w)
+      ∷ (21 when leb 672 (length (w .nodes)))
+      ∷ (22 when unknown (w .nodes) x) ∷ safety judge w (NodeLine (Bootstrap x table)))
+      ≡ lowest
+      ((21 when not (started w))
+      ∷ (21 when ending w)
+      ∷ (21 when leb 672 (length (w .nodes)))
+      ∷ (22 when unknown (w .nodes) y) ∷ safety judge w (NodeLine (Bootstrap y table))))
+      i (λ e. refl) (λ e f. rw (e, f))
+  good-boot i table false = sym (all-21 (not (started w)) (ending w) (leb 672 (length (w .nodes))))
+
+  good-out : (n : Name) (u : Wire)
+      → goodRefusal judge w (some (OutLine (record { name = n; wire = capWire u })))
+      ≡ lowest (textConditions w (OutLine (record { name = n; wire = u })) ++ safety judge w (OutLine (record { name = n; wire = u })))
+  unfolding goodRefusal laterConditions textConditions capWire noNode unknown lowest
+  good-out n (Const b) = refl
+  good-out n (Node i) =
+      exact-or-unknown (w .nodes) h
+      (λ x y.
+      lowest
+      ((21 when not (started w))
+      ∷ (21 when leb 32 (length (w .outputs)))
+      ∷ (22 when unknown (w .nodes) x) ∷ safety judge w (OutLine (record { name = n; wire = Node x })))
+      ≡ lowest
+      ((21 when not (started w))
+      ∷ (21 when leb 32 (length (w .outputs)))
+      ∷ (22 when unknown (w .nodes) y) ∷ safety judge w (OutLine (record { name = n; wire = Node y }))))
+      i (λ e. refl) (λ e f. rw (e, f))
+
+  good-form : (l : NetworkLine) → goodRefusal judge w (goodForm l) ≡ lowest (textConditions w l ++ safety judge w l)
+  unfolding goodForm textConditions capOutput
+  good-form (NetLine n) = good-net n (tableLimits (n .p) (n .m))
+  good-form (NodeLine (Input n)) = good-in n
+  good-form (NodeLine (Linear c ts)) = good-lin c ts (goodSum c ts)
+  good-form (NodeLine (Bootstrap i table)) = rw (long-table (length table)) (good-boot i table (leb (length table) 32))
+  good-form (OutLine o) = good-out (o .name) (o .wire)
+
+  pub good-refusal : (o : Option NetworkLine) → goodRefusal judge w (goodLine o) ≡ refusal judge w o
+  unfolding goodLine refusal goodRefusal
+  good-refusal none = refl
+  good-refusal (some l) = good-form l ∙ ap lowest (sym (conditions-are judge w l))
+
+  same-form : (l : NetworkLine) → lowest (textConditions w l ++ safety judge w l) ≡ 0 → goodForm l ≡ some l
+  unfolding goodForm textConditions capOutput
+  same-form (NetLine n) e = rw (not-false (tableLimits (n .p) (n .m)) (unmet _ _ (omega arith) e .0))
+  same-form (NodeLine (Input n)) e = refl
+  same-form (NodeLine (Linear c ts)) e =
+      let order = unmet _ _ (omega arith) (unmet _ _ (omega arith) (unmet _ _ (omega arith) e .1) .1) in
+      let sum = unmet _ _ (omega arith) (order .1) in
+      rw (not-false (goodSum c ts) (sum .0), same-sources (w .nodes) h ts (unmet _ _ (omega arith) (sum .1) .0))
+  same-form (NodeLine (Bootstrap i table)) e =
+      let order = unmet _ _ (omega arith) (unmet _ _ (omega arith) (unmet _ _ (omega arith) e .1) .1) in
+      let long = unmet _ _ (omega arith) (order .1) in
+      rw (not-false (leb (length table) 32) (sym (long-table (length table)) ∙ long .0), same-node (w .nodes) h i (unmet _ _ (omega arith) (long .1) .0))
+  same-form (OutLine o) e =
+      let order = unmet _ _ (omega arith) (unmet _ _ (omega arith) e .1) in
+      ap (λ u. some (OutLine (record { name = o .name; wire = u }))) (same-wire (w .nodes) h (o .wire) (unmet _ _ (omega arith) (order .1) .0))
+
+  -- Where it is not refused it is that line.
+  pub good-same : (l : NetworkLine) → refusal judge w (some l) ≡ 0 → goodLine (some l) ≡ some l
+  unfolding goodLine refusal
+  good-same l e = same-form l (ap lowest (sym (conditions-are judge w l)) ∙ e)
