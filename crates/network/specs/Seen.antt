@@ -1,6 +1,6 @@
 -- What the code keeps of the lines so far, and what it says of a further line.
-use mathlib.Core.Path.{_≡_, refl, sym, ap, subst, _∙_}
-use mathlib.Core.Bool.{Bool, true, false, _&&_, _||_, not}
+use mathlib.Core.Path.{_≡_, refl, sym, ap, ap₂, subst, _∙_}
+use mathlib.Core.Bool.{Bool, true, false, _&&_, _||_, not, true≢false}
 use mathlib.Core.List.{List, [], _∷_, _++_, map}
 use Prim.Native.Nat.{ℕ, zero, suc, _+_, _-_, _<_, _≤_}
 use native.Mathlib.Omega.{arith}
@@ -19,8 +19,10 @@ use Rattle.rules.specs.Network.{Term}
 use Rattle.rules.specs.NetworkText.{over}
 use Rattle.rules.specs.Rotation.{rotatable}
 use Rattle.text.specs.declared.Name.{Name}
+use Rattle.text.specs.Forms.{Named}
 use Rattle.text.specs.Judged.{lowest, Numbered}
 use Rattle.text.specs.Names.{nameBytes}
+use Rattle.network_text.specs.Lines.{TablePlace, Within}
 use Rattle.network_text.specs.Terms.{termsOf, termsAt, terms-start, terms-next, terms-end}
 use Rattle.network_text.specs.declared.line.Line.{Line}
 use Rattle.network_text.specs.declared.line.Line.the-variants.{Bad, Net as NetRead, In, Lin as Sum, Boot, Out}
@@ -177,7 +179,7 @@ withOutput k =
     }
 
 -- There is room for the line.
-abbrev pub RoomFor : Seen → Line → Type 0
+unfoldable pub RoomFor : Seen → Line → Type 0
 RoomFor k Bad = Unit {0}
 RoomFor k (NetRead p m n) = Unit {0}
 RoomFor k (In a e) = (k .count < 672) × (k .inputs < 32)
@@ -186,7 +188,7 @@ RoomFor k (Boot i a e) = k .count < 672
 RoomFor k (Out a e w) = k .outputs < 32
 
 -- s is k with the line.
-abbrev pub Follows : Seen → List ℕ → Line → Lin → Seen → Type 0
+unfoldable pub Follows : Seen → List ℕ → Line → Lin → Seen → Type 0
 Follows k l Bad v s = s ≡ k
 Follows k l (NetRead p m n) v s = s ≡ withNet k p m n
 Follows k l (In a e) v s = (n : Name) × (nameBytes n ≡ take (e - a) (drop a l)) × (s ≡ withNode (withName k n) false 2 true)
@@ -220,6 +222,14 @@ module _ (linear : List Bool) (count : ℕ) (v : Lin) (i : ℕ) where
 
 -- ---- The numbers, test by test.
 
+not-true : (b : Bool) → not b ≡ true → b ≡ false
+not-true true e = absurd (true≢false (sym e))
+not-true false e = refl
+
+not-false : (b : Bool) → not b ≡ false → b ≡ true
+not-false true e = refl
+not-false false e = absurd (true≢false e)
+
 lowest-met : (ks ms : List Condition) {n : ℕ} → n ≡ lowest ks → (n ≡ 0 → ⊥) → n ≡ lowest (ks ++ ms)
 unfolding lowest
 lowest-met [] ms e h = absurd (h e)
@@ -240,7 +250,7 @@ lowest-free (k ∷ ks) ms p e = by (k .met) e (lowest-free ks ms (p .1))
 
 pub node-numbered : (started : Bool) (outputs count : ℕ) → Numbered (nodeConditions started outputs count)
 unfolding nodeConditions
-node-numbered started outputs count = (omega arith, omega arith, omega arith, tt)
+node-numbered started outputs count = (omega arith, (omega arith, (omega arith, tt)))
 
 module _ (judge : Bool) (k : Seen) {n : ℕ} (e : n ≡ lowest (nodeConditions (k .started) (k .outputs) (k .count))) where
   free : n ≡ 0 → (ms : List Condition) → lowest (nodeConditions (k .started) (k .outputs) (k .count) ++ ms) ≡ lowest ms
@@ -256,18 +266,18 @@ module _ (judge : Bool) (k : Seen) {n : ℕ} (e : n ≡ lowest (nodeConditions (
       unfolding linConditions lowest
       lin-source h = sym (free z _ ∙ rw (sym f ∙ h))
 
-      pub lin-read : b ≡ false → judge ≡ false → 0 ≡ lowest (linConditions judge k v)
+      pub lin-read : b ≡ false → not judge ≡ true → 0 ≡ lowest (linConditions judge k v)
       unfolding linConditions lowest
-      lin-read h j = sym (free z _ ∙ rw (sym f ∙ h, j))
+      lin-read h j = sym (free z _ ∙ rw (sym f ∙ h, not-true judge j))
 
-      module _ (h : b ≡ false) (j : judge ≡ true) {m : ℕ} {o : Bool} (g : m ≡ coefNorm (termsOf v)) (q : o ≡ over (k .norm) m) where
+      module _ (h : b ≡ false) (j : not judge ≡ false) {m : ℕ} {o : Bool} (g : m ≡ coefNorm (termsOf v)) (q : o ≡ over (k .norm) m) where
         pub lin-over : o ≡ true → 25 ≡ lowest (linConditions judge k v)
         unfolding linConditions lowest
-        lin-over d = sym (free z _ ∙ rw (sym f ∙ h, j, ← g, sym q ∙ d))
+        lin-over d = sym (free z _ ∙ rw (sym f ∙ h, not-false judge j, ← g, sym q ∙ d))
 
         pub lin-good : o ≡ false → 0 ≡ lowest (linConditions judge k v)
         unfolding linConditions lowest
-        lin-good d = sym (free z _ ∙ rw (sym f ∙ h, j, ← g, sym q ∙ d))
+        lin-good d = sym (free z _ ∙ rw (sym f ∙ h, not-false judge j, ← g, sym q ∙ d))
 
   module _ (l : List ℕ) (i a t : ℕ) where
     pub boot-met : (n ≡ 0 → ⊥) → n ≡ lowest (bootConditions judge k l i a t)
@@ -280,28 +290,28 @@ module _ (judge : Bool) (k : Seen) {n : ℕ} (e : n ≡ lowest (nodeConditions (
       boot-unknown h = sym (free z _ ∙ rw (le-leb (k .count) i h))
 
       module _ (h : i < k .count) where
-        pub boot-read : judge ≡ false → 0 ≡ lowest (bootConditions judge k l i a t)
+        pub boot-read : not judge ≡ true → 0 ≡ lowest (bootConditions judge k l i a t)
         unfolding bootConditions lowest
-        boot-read j = sym (free z _ ∙ rw (lt-leb (k .count) i h, j))
+        boot-read j = sym (free z _ ∙ rw (lt-leb (k .count) i h, not-true judge j))
 
-        module _ (j : judge ≡ true) where
+        module _ (j : not judge ≡ false) where
           pub boot-misfit : (getD (k .fits) i 0 ≡ t - a → ⊥) → 23 ≡ lowest (bootConditions judge k l i a t)
           unfolding bootConditions lowest
-          boot-misfit g = sym (free z _ ∙ rw (lt-leb (k .count) i h, j, ne-eqb (getD (k .fits) i 0) (t - a) g))
+          boot-misfit g = sym (free z _ ∙ rw (lt-leb (k .count) i h, not-false judge j, ne-eqb (getD (k .fits) i 0) (t - a) g))
 
           module _ (f : getD (k .fits) i 0 ≡ t - a) where
             pub boot-long : k .m < t - a → 23 ≡ lowest (bootConditions judge k l i a t)
             unfolding bootConditions lowest
-            boot-long g = sym (free z _ ∙ rw (lt-leb (k .count) i h, j, eq-eqb (getD (k .fits) i 0) (t - a) f, lt-leb (t - a) (k .m) g))
+            boot-long g = sym (free z _ ∙ rw (lt-leb (k .count) i h, not-false judge j, eq-eqb (getD (k .fits) i 0) (t - a) f, lt-leb (t - a) (k .m) g))
 
             module _ (g : t - a ≤ k .m) {o : Bool} (q : o ≡ rotatable (k .p) (bitsFrom (take (t - a) (drop a l)))) where
               pub boot-good : o ≡ true → 0 ≡ lowest (bootConditions judge k l i a t)
               unfolding bootConditions lowest
-              boot-good d = sym (free z _ ∙ rw (lt-leb (k .count) i h, j, eq-eqb (getD (k .fits) i 0) (t - a) f, le-leb (t - a) (k .m) g, sym q ∙ d))
+              boot-good d = sym (free z _ ∙ rw (lt-leb (k .count) i h, not-false judge j, eq-eqb (getD (k .fits) i 0) (t - a) f, le-leb (t - a) (k .m) g, sym q ∙ d))
 
               pub boot-bent : o ≡ false → 24 ≡ lowest (bootConditions judge k l i a t)
               unfolding bootConditions lowest
-              boot-bent d = sym (free z _ ∙ rw (lt-leb (k .count) i h, j, eq-eqb (getD (k .fits) i 0) (t - a) f, le-leb (t - a) (k .m) g, sym q ∙ d))
+              boot-bent d = sym (free z _ ∙ rw (lt-leb (k .count) i h, not-false judge j, eq-eqb (getD (k .fits) i 0) (t - a) f, le-leb (t - a) (k .m) g, sym q ∙ d))
 
 module _ (judge : Bool) (count : ℕ) (bits : List Bool) (w : Wire) where
   pub wire-constant : {b : ℕ} → w ≡ Const b → 0 ≡ lowest (wireConditions judge count bits w)
@@ -314,17 +324,17 @@ module _ (judge : Bool) (count : ℕ) (bits : List Bool) (w : Wire) where
     wire-unknown h = rw (e, le-leb count i h)
 
     module _ (h : i < count) where
-      pub wire-read : judge ≡ false → 0 ≡ lowest (wireConditions judge count bits w)
+      pub wire-read : not judge ≡ true → 0 ≡ lowest (wireConditions judge count bits w)
       unfolding wireConditions noNode lowest
-      wire-read j = rw (e, lt-leb count i h, j)
+      wire-read j = rw (e, lt-leb count i h, not-true judge j)
 
-      pub wire-bit : judge ≡ true → getD bits i false ≡ true → 0 ≡ lowest (wireConditions judge count bits w)
+      pub wire-bit : not judge ≡ false → getD bits i false ≡ true → 0 ≡ lowest (wireConditions judge count bits w)
       unfolding wireConditions notBit noNode lowest
-      wire-bit j b = rw (e, lt-leb count i h, j, b)
+      wire-bit j b = rw (e, lt-leb count i h, not-false judge j, b)
 
-      pub wire-other : judge ≡ true → getD bits i false ≡ false → 26 ≡ lowest (wireConditions judge count bits w)
+      pub wire-other : not judge ≡ false → getD bits i false ≡ false → 26 ≡ lowest (wireConditions judge count bits w)
       unfolding wireConditions notBit noNode lowest
-      wire-other j b = rw (e, lt-leb count i h, j, b)
+      wire-other j b = rw (e, lt-leb count i h, not-false judge j, b)
 
 module _ (limit : Limit) (n : ℕ) where
   pub over-none : limit ≡ Unlimited → false ≡ over limit n
@@ -334,3 +344,107 @@ module _ (limit : Limit) (n : ℕ) where
   pub over-most : {k : ℕ} → limit ≡ AtMost k → ltb k n ≡ over limit n
   unfolding over
   over-most e = rw e
+
+-- ---- A line told apart.
+
+pub in-name : (k : Seen) {n : ℕ} {b : Bool} {x w : C.Name} → n ≡ lowest (inConditions (k .started) (k .outputs) (k .inputs) (k .count) b) → b ≡ repeated k x → x ≡ w
+    → n ≡ lowest (inConditions (k .started) (k .outputs) (k .inputs) (k .count) (repeated k w))
+in-name k e f g = e ∙ ap (λ (y : Bool). lowest (inConditions (k .started) (k .outputs) (k .inputs) (k .count) y)) (f ∙ ap (repeated k) g)
+
+module _ (judge : Bool) (k : Seen) (w : Wire) where
+  pub out-unstarted : not (k .started) ≡ true → 21 ≡ lowest (outConditions judge k w)
+  unfolding outConditions lowest
+  out-unstarted e = rw (not-true (k .started) e)
+
+  pub out-full : not (k .started) ≡ false → 32 ≤ k .outputs → 21 ≡ lowest (outConditions judge k w)
+  unfolding outConditions lowest
+  out-full e h = rw (not-false (k .started) e, le-leb 32 (k .outputs) h)
+
+  pub out-wire : {n : ℕ} → not (k .started) ≡ false → k .outputs < 32 → n ≡ lowest (wireConditions judge (k .count) (k .bits) w) → n ≡ lowest (outConditions judge k w)
+  unfolding outConditions lowest
+  out-wire e h f = rw (not-false (k .started) e, lt-leb 32 (k .outputs) h) f
+
+module _ (judge : Bool) (k : Seen) (l : List ℕ) (v : Lin) (line : Line) where
+  pub line-bad : line ≡ Bad → 21 ≡ lowest (seenConditions judge k l line v)
+  unfolding seenConditions lowest
+  line-bad e = rw e
+
+  pub line-net : {p m : ℕ} {n : Limit} → line ≡ NetRead p m n → k .started ≡ true → 21 ≡ lowest (seenConditions judge k l line v)
+  unfolding seenConditions lowest
+  line-net e h = rw (e, h)
+
+  pub line-first : {p m : ℕ} {n : Limit} → line ≡ NetRead p m n → k .started ≡ false → 0 ≡ lowest (seenConditions judge k l line v)
+  unfolding seenConditions lowest
+  line-first e h = rw (e, h)
+
+  module _ {n : ℕ} where
+    pub line-in : {a t : ℕ} → line ≡ In a t → n ≡ lowest (inConditions (k .started) (k .outputs) (k .inputs) (k .count) (repeated k (take (t - a) (drop a l))))
+        → n ≡ lowest (seenConditions judge k l line v)
+    unfolding seenConditions
+    line-in e h = rw e h
+
+    pub line-lin : line ≡ Sum → n ≡ lowest (linConditions judge k v) → n ≡ lowest (seenConditions judge k l line v)
+    unfolding seenConditions
+    line-lin e h = rw e h
+
+    pub line-boot : {i a t : ℕ} → line ≡ Boot i a t → n ≡ lowest (bootConditions judge k l i a t) → n ≡ lowest (seenConditions judge k l line v)
+    unfolding seenConditions
+    line-boot e h = rw e h
+
+    pub line-out : {a t : ℕ} {w : Wire} → line ≡ Out a t w → n ≡ lowest (outConditions judge k w) → n ≡ lowest (seenConditions judge k l line v)
+    unfolding seenConditions
+    line-out e h = rw e h
+
+pub named-within : (l : List ℕ) {line : Line} {a e : ℕ} → Within l line → line ≡ In a e → Named (length l) a e
+named-within l h k = subst (Within l) k h
+
+pub table-within : (l : List ℕ) {line : Line} {i a e : ℕ} → Within l line → line ≡ Boot i a e → TablePlace l a e
+table-within l h k = subst (Within l) k h
+
+module _ (k : Seen) {line : Line} (h : RoomFor k line) where
+  pub in-room : {a e : ℕ} → line ≡ In a e → (k .count < 672) × (k .inputs < 32)
+  unfolding RoomFor
+  in-room q = subst (RoomFor k) q h
+
+  pub lin-room : line ≡ Sum → k .count < 672
+  unfolding RoomFor
+  lin-room q = subst (RoomFor k) q h
+
+  pub boot-room : {i a e : ℕ} → line ≡ Boot i a e → k .count < 672
+  unfolding RoomFor
+  boot-room q = subst (RoomFor k) q h
+
+  pub out-room : {a e : ℕ} {w : Wire} → line ≡ Out a e w → k .outputs < 32
+  unfolding RoomFor
+  out-room q = subst (RoomFor k) q h
+
+pub name-room : (k : Seen) {r : Seen} (n : Name) → r ≡ withName k n → k .count < 672 → r .count < 672
+unfolding withName
+name-room k n e h = rw e h
+
+module _ (k : Seen) (l : List ℕ) (v : Lin) (line : Line) where
+  pub follows-bad : line ≡ Bad → Follows k l line v k
+  unfolding Follows
+  follows-bad e = rw e refl
+
+  pub follows-net : {s : Seen} {p m : ℕ} {n : Limit} → line ≡ NetRead p m n → s ≡ withNet k p m n → Follows k l line v s
+  unfolding Follows
+  follows-net e h = rw e h
+
+  pub follows-in : {r s : Seen} {a t : ℕ} (n : Name) → line ≡ In a t → nameBytes n ≡ take (t - a) (drop a l) → r ≡ withName k n → s ≡ withNode r false 2 true
+      → Follows k l line v s
+  unfolding Follows
+  follows-in n e f g h = rw e (n, f, h ∙ ap (λ x. withNode x false 2 true) g)
+
+  pub follows-lin : {s : Seen} {x : ℕ} {b : Bool} → line ≡ Sum → x ≡ tableFit (v .constant) (termsOf v) → b ≡ bitBounds (v .constant) (termsOf v) → s ≡ withNode k true x b
+      → Follows k l line v s
+  unfolding Follows
+  follows-lin e f g h = rw e (h ∙ ap₂ (withNode k true) f g)
+
+  pub follows-boot : {s : Seen} {i a t : ℕ} → line ≡ Boot i a t → s ≡ withNode k false 2 true → Follows k l line v s
+  unfolding Follows
+  follows-boot e h = rw e h
+
+  pub follows-out : {s : Seen} {a t : ℕ} {w : Wire} → line ≡ Out a t w → s ≡ withOutput k → Follows k l line v s
+  unfolding Follows
+  follows-out e h = rw e h

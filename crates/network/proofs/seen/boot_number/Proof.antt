@@ -21,7 +21,7 @@ returns-2 c = boot-unknown _ _ (c .before .before .node-number .ensures) _ _ _ _
 
 -- src/seen.rt:167:9
 returns-3 : tie.Need-returns-3
-returns-3 c = boot-read _ _ (c .before .before .before .node-number .ensures) _ _ _ _ (c .before .before .if1 .left) (c .before .if2 .left) (c .if3 .taken)
+returns-3 c = boot-read (c .before .before .before .before .before .args .judge) _ (c .before .before .before .node-number .ensures) _ _ _ _ (c .before .before .if1 .left) (c .before .if2 .left) (c .if3 .taken)
 
 -- src/seen.rt:169:8
 mul-if4 : tie.Need-mul-if4
@@ -37,7 +37,7 @@ sub-if4 c = search needs
 
 -- src/seen.rt:170:9
 returns-4 : tie.Need-returns-4
-returns-4 c = boot-misfit _ _ (c .before .before .before .before .before .node-number .ensures) _ _ _ _ (c .before .before .before .before .if1 .left) (c .before .before .before .if2 .left) (c .before .before .if3 .left) (c .if4 .taken)
+returns-4 c = boot-misfit (c .before .before .before .before .before .before .before .args .judge) _ (c .before .before .before .before .before .node-number .ensures) _ _ _ _ (c .before .before .before .before .if1 .left) (c .before .before .before .if2 .left) (c .before .before .if3 .left) (c .if4 .taken)
 
 -- src/seen.rt:172:14
 sub-if5 : tie.Need-sub-if5
@@ -45,7 +45,7 @@ sub-if5 c = search needs
 
 -- src/seen.rt:173:9
 returns-5 : tie.Need-returns-5
-returns-5 c = boot-long _ _ (c .before .before .before .before .before .before .node-number .ensures) _ _ _ _ (c .before .before .before .before .before .if1 .left) (c .before .before .before .before .if2 .left) (c .before .before .before .if3 .left) (c .before .if4 .left) (c .if5 .taken)
+returns-5 c = boot-long (c .before .before .before .before .before .before .before .before .args .judge) _ (c .before .before .before .before .before .before .node-number .ensures) _ _ _ _ (c .before .before .before .before .before .if1 .left) (c .before .before .before .before .if2 .left) (c .before .before .before .if3 .left) (c .before .if4 .left) (c .if5 .taken)
 
 -- src/seen.rt:175:8
 is-rotatable-requires : tie.Need-is-rotatable-requires
@@ -53,11 +53,11 @@ is-rotatable-requires c κs = search needs
 
 -- src/seen.rt:154:1
 returns-6 : tie.Need-returns-6
-returns-6 c = boot-good _ _ (c .before .before .before .before .before .before .before .before .node-number .ensures) _ _ _ _ (c .before .before .before .before .before .before .before .if1 .left) (c .before .before .before .before .before .before .if2 .left) (c .before .before .before .before .before .if3 .left) (c .before .before .before .if4 .left) (c .before .before .if5 .left) (c .before .is-rotatable .ensures) (c .if6 .taken)
+returns-6 c = boot-good (c .before .before .before .before .before .before .before .before .before .before .args .judge) _ (c .before .before .before .before .before .before .before .before .node-number .ensures) _ _ _ _ (c .before .before .before .before .before .before .before .if1 .left) (c .before .before .before .before .before .before .if2 .left) (c .before .before .before .before .before .if3 .left) (c .before .before .before .if4 .left) (c .before .before .if5 .left) (c .before .is-rotatable .ensures) (c .if6 .taken)
 
 -- src/seen.rt:154:1
 returns-7 : tie.Need-returns-7
-returns-7 c = boot-bent _ _ (c .before .before .before .before .before .before .before .before .node-number .ensures) _ _ _ _ (c .before .before .before .before .before .before .before .if1 .left) (c .before .before .before .before .before .before .if2 .left) (c .before .before .before .before .before .if3 .left) (c .before .before .before .if4 .left) (c .before .before .if5 .left) (c .before .is-rotatable .ensures) (c .if6 .left)
+returns-7 c = boot-bent (c .before .before .before .before .before .before .before .before .before .before .args .judge) _ (c .before .before .before .before .before .before .before .before .node-number .ensures) _ _ _ _ (c .before .before .before .before .before .before .before .if1 .left) (c .before .before .before .before .before .before .if2 .left) (c .before .before .before .before .before .if3 .left) (c .before .before .before .if4 .left) (c .before .before .if5 .left) (c .before .is-rotatable .ensures) (c .if6 .left)
 
 pub boot-number-spec : {M : Type 1} → statement M
 boot-number-spec =

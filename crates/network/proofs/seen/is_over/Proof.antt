@@ -19,7 +19,7 @@ returns c = over-none _ _ (c .enum-told .given .1)
 
 -- src/seen.rt:125:1
 returns-2 : tie.Need-returns-2
-returns-2 c = over-most _ _ (c .limit .given .1)
+returns-2 c = over-most _ _ (c .before .limit .given .1)
 
 pub is-over-spec : {M : Type 1} → statement M
 is-over-spec = tie.close (tie.spec enum-told enum-known-limit returns returns-2)

@@ -1,7 +1,4 @@
-use mathlib.Core.Path.{ap, _∙_}
-use mathlib.Core.Bool.{Bool}
-use Rattle.text.specs.Judged.{lowest}
-use Rattle.network.specs.Seen.{inConditions, repeated}
+use Rattle.network.specs.Seen.{in-name}
 use borrow.Author.Needs.{needs}
 use Rattle.network.proofs.seen.name_number.Statement.{statement}
 use Rattle.network.proofs.seen.name_number.Tie as tie
@@ -25,7 +22,7 @@ in-number-requires c κs = search needs
 
 -- src/seen.rt:84:1
 returns : tie.Need-returns
-returns c = c .in-number .ensures ∙ ap (λ (b : Bool). lowest (inConditions _ _ _ _ b)) (c .before .is-known-name .ensures ∙ ap (repeated _) (c .before .before .name-of .ensures))
+returns c = in-name _ (c .in-number .ensures) (c .before .is-known-name .ensures) (c .before .before .name-of .ensures)
 
 pub name-number-spec : {M : Type 1} → statement M
 name-number-spec =
