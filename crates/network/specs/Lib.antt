@@ -4,5 +4,6 @@ pub mod Tally
 pub mod Count
 pub mod Table
 pub mod Work
+pub mod Ran
 pub mod Seen
 pub mod Verdict

@@ -44,7 +44,7 @@ unfolding bitsFrom
 bits-length [] = refl
 bits-length (b ∷ w) = ap suc (bits-length w)
 
-bits-small : (bs : List ℕ) (i : ℕ) → T (allBits bs) → getD bs i 0 ≤ 1
+pub bits-small : (bs : List ℕ) (i : ℕ) → T (allBits bs) → getD bs i 0 ≤ 1
 unfolding allBits
 bits-small [] i h = omega arith
 bits-small (b ∷ bs) zero h = leb→le b 1 (and-left (leb b 1) (allBits bs) h)
