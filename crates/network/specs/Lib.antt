@@ -5,3 +5,4 @@ pub mod Count
 pub mod Table
 pub mod Seen
 pub mod Verdict
+pub mod Stands
