@@ -191,7 +191,17 @@ fn read_fbs(s: &[u8], at: usize) -> FbsRead
     let TailRead::At(norm, policy, many, last) = read_tail(s, h) else {
         return FbsRead::Nothing;
     };
-    FbsRead::At(Settings { p, m, t, norm, policy, many }, last)
+    FbsRead::At(
+        Settings {
+            p,
+            m,
+            t,
+            norm,
+            policy,
+            many,
+        },
+        last,
+    )
 }
 
 // A wire behind a space, from `at` on.

@@ -3,6 +3,7 @@ pub mod Bounds
 pub mod Tally
 pub mod Count
 pub mod Table
+pub mod Work
 pub mod Seen
 pub mod Verdict
 pub mod Stands

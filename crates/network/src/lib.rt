@@ -3,3 +3,4 @@ mod bounds;
 mod seen;
 mod table;
 mod tally;
+mod value;

@@ -20,7 +20,8 @@ use Rattle.rules.specs.Network.{LutNode, Input, Linear, Bootstrap}
 use Rattle.rules.specs.NetworkText.{Net, NetworkLine, NetLine, NodeLine, OutLine, netLine, bootLine, networkLine}
 use Rattle.text.specs.Cap.{cap-table}
 use Rattle.text.specs.Capped.{capped, exact-some, exact-none}
-use Rattle.text.specs.Forms.{Named, capOutput}
+use Rattle.text.specs.Forms.{Named, nameFrom, nameTo, capOutput}
+use Rattle.text.specs.declared.NameRead.{NameRead}
 use Rattle.network_text.specs.LineRead.{capNet, capBoot, BitsAt, plainRead, ended, line-net, line-in, line-lin, line-boot, line-out, line-none}
 use Rattle.network_text.specs.Lines.{goodForm, goodLine, lineIn, lineOf, LineRead}
 use Rattle.network_text.specs.Sum.{SumRead, sumOf}
@@ -233,3 +234,7 @@ module _ {l : List ℕ} {a e : ℕ} {w : Wire} {end : ℕ} (h : OutIs l a e w en
 
 pub none-is : {l : List ℕ} {r : Read} → netLine l ≡ none → inLine l ≡ none → exactly (bytes "(lin ") l ≡ none → bootLine l ≡ none → outLine l ≡ none → r ≡ plainRead Bad → LineRead l r
 none-is {l} a b c d e q = bad-line l q (no-line l (line-none l a b c d e) refl)
+
+-- Where the name stands, once the answer is taken apart.
+pub name-of : {n a e z : ℕ} {r : NameRead} → Named n (nameFrom r) (nameTo r) → r ≡ NameRead.At a e z → Named n a e
+name-of {n} h k = subst (λ x. Named n (nameFrom x) (nameTo x)) k h

@@ -4,5 +4,5 @@ mod sum;
 
 pub use line::Line;
 pub use line::Read;
-
+pub use line::read_line;
 pub use sum::Lin;

@@ -6,6 +6,8 @@ ghost use lib.ListN.{length};
 ghost use Rattle.rules.specs.Builder.{tableLimits};
 ghost use Rattle.network_text.specs.Lines.{LineRead};
 ghost use Rattle.network_text.specs.LineRead.{ReadsNet, ReadsBoot, plainRead};
+ghost use Rattle.network_text.specs.LineIs.{NetIs, InIs, SumIs, BootIs, OutIs};
+use crate::sum::Lin;
 use rules::Limit;
 use rules::Wire;
 use text::Found;
@@ -13,7 +15,6 @@ use text::LimitRead;
 use text::NameRead;
 use text::Number;
 use text::OutRead;
-use crate::sum::Lin;
 
 // What a line says: P, M and NORM; where the name stands; a sum; the node and where the bits stand; where the name stands, and the wire.
 pub enum Line {
@@ -114,4 +115,87 @@ fn plain(line: Line) -> Read
         line,
         lin: crate::sum::no_terms(0),
     }
+}
+
+fn net_line(l: &[u8], p: usize, m: usize, norm: Limit, end: usize) -> Read
+    requires { ⌜ NetIs (now l) p m norm end ⌝ }
+    ensures { λ r. ⌜ LineRead (now (l .entry)) r ⌝ }
+{
+    if end != l.len() {
+        return plain(Line::Bad);
+    }
+    if !is_within(p, m) {
+        return plain(Line::Bad);
+    }
+    plain(Line::Net(p, m, norm))
+}
+
+fn in_line(l: &[u8], a: usize, e: usize, end: usize) -> Read
+    requires { ⌜ InIs (now l) a e end ⌝ }
+    ensures { λ r. ⌜ LineRead (now (l .entry)) r ⌝ }
+{
+    if end != l.len() {
+        return plain(Line::Bad);
+    }
+    plain(Line::In(a, e))
+}
+
+fn lin_line(l: &[u8], at: usize) -> Read
+    requires { ⌜ SumIs (now l) at ⌝ }
+    ensures { λ r. ⌜ LineRead (now (l .entry)) r ⌝ }
+{
+    let r = crate::sum::read_sum(l, at);
+    if !r.good {
+        return plain(Line::Bad);
+    }
+    let lin = r.lin;
+    Read {
+        line: Line::Lin,
+        lin,
+    }
+}
+
+fn boot_line(l: &[u8], source: usize, a: usize, e: usize, end: usize) -> Read
+    requires { ⌜ BootIs (now l) source a e end ⌝ }
+    ensures { λ r. ⌜ LineRead (now (l .entry)) r ⌝ }
+{
+    if end != l.len() {
+        return plain(Line::Bad);
+    }
+    if 32 < e - a {
+        return plain(Line::Bad);
+    }
+    plain(Line::Boot(source, a, e))
+}
+
+fn out_line(l: &[u8], a: usize, e: usize, w: Wire, end: usize) -> Read
+    requires { ⌜ OutIs (now l) a e w end ⌝ }
+    ensures { λ r. ⌜ LineRead (now (l .entry)) r ⌝ }
+{
+    if end != l.len() {
+        return plain(Line::Bad);
+    }
+    plain(Line::Out(a, e, w))
+}
+
+// What a line says, if it is good on its own.
+pub fn read_line(l: &[u8]) -> Read
+    ensures { λ r. ⌜ LineRead (now (l .entry)) r ⌝ }
+{
+    if let NetRead::At(p, m, norm, end) = read_net(l) {
+        return net_line(l, p, m, norm, end);
+    }
+    if let NameRead::At(a, e, end) = text::read_in(l, 0) {
+        return in_line(l, a, e, end);
+    }
+    if let Found::At(a) = text::read_word(l, 0, b"(lin ") {
+        return lin_line(l, a);
+    }
+    if let BootRead::At(source, a, e, end) = read_boot(l) {
+        return boot_line(l, source, a, e, end);
+    }
+    if let OutRead::At(a, e, w, end) = text::read_out(l, 0) {
+        return out_line(l, a, e, w, end);
+    }
+    plain(Line::Bad)
 }

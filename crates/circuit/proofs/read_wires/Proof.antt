@@ -41,9 +41,10 @@ loop-again : tie.Need-loop-again Inv-loop μ-loop
 loop-again c =
     let q = c .before .before in
     let o = q .before .before in
-    let r = o .spaced-wire .ensures in
-    (ends wireEnd r (q .next .given .1),
-    o .before .loop .inv .1 ∙ wires-next _ _ _ _ _ _ _ (found (wireTaken _) r (q .next .given .1)) (c .with-wire .ensures))
+    let r = o .spaced-wire .ensures in (
+      ends wireEnd r (q .next .given .1),
+      o .before .loop .inv .1 ∙ wires-next _ _ _ _ _ _ _ (found (wireTaken _) r (q .next .given .1)) (c .with-wire .ensures),
+    )
 
 pub read-wires-spec : {M : Type 1} → statement M
 read-wires-spec =

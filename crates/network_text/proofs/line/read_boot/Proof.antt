@@ -79,11 +79,11 @@ returns-6 c =
           record {
             same = capped-some capBoot
                 (step _ (found (passed _) (t1 .before .before .before .read-word .ensures) (t1 .before .a .given .1))
-    (step _ (found (numberTaken _ _) (t2 .before .before .before .read-number .ensures .reads) (t2 .before .source .given .1))
-    (step _ (found (passed _) (t3 .before .before .before .read-word2 .ensures) (t3 .before .c .given .1))
-    (step _ (found (bitsTaken _ _) (t4 .before .before .before .read-bits .ensures) (t4 .before .d .given .1))
-    (step _ (found (passed _) (t5 .before .before .before .read-word3 .ensures) (t5 .before .z .given .1))
-    refl))))) (cap-boot _ (number-value (t2 .before .before .before .read-number .ensures) (t2 .before .source .given .1)));
+                (step _ (found (numberTaken _ _) (t2 .before .before .before .read-number .ensures .reads) (t2 .before .source .given .1))
+                (step _ (found (passed _) (t3 .before .before .before .read-word2 .ensures) (t3 .before .c .given .1))
+                (step _ (found (bitsTaken _ _) (t4 .before .before .before .read-bits .ensures) (t4 .before .d .given .1))
+                (step _ (found (passed _) (t5 .before .before .before .read-word3 .ensures) (t5 .before .z .given .1))
+                refl))))) (cap-boot _ (number-value (t2 .before .before .before .read-number .ensures) (t2 .before .source .given .1)));
             inside = ends endOf (t5 .before .before .before .read-word3 .ensures) (t5 .before .z .given .1);
           };
       place = bits-at _ _ _ (ends endOf (t4 .before .before .before .read-bits .ensures) (t4 .before .d .given .1)) (found (bitsTaken _ _) (t4 .before .before .before .read-bits .ensures) (t4 .before .d .given .1));

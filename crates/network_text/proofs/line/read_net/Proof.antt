@@ -118,13 +118,13 @@ returns-8 c =
     record {
       same = capped-some capNet
           (step _ (found (passed _) (t1 .before .before .before .read-word .ensures) (t1 .before .a .given .1))
-    (step _ (found (numberTaken _ _) (t2 .before .before .before .read-number .ensures .reads) (t2 .before .p .given .1))
-    (step _ (found (passed _) (t3 .before .before .before .read-word2 .ensures) (t3 .before .c .given .1))
-    (step _ (found (numberTaken _ _) (t4 .before .before .before .read-number2 .ensures .reads) (t4 .before .m .given .1))
-    (step _ (found (passed _) (t5 .before .before .before .read-word3 .ensures) (t5 .before .e .given .1))
-    (step _ (found (limitTaken _) (t6 .before .before .before .read-norm .ensures) (t6 .before .norm .given .1))
-    (step _ (found (passed _) (t7 .before .before .before .read-word4 .ensures) (t7 .before .z .given .1))
-    refl))))))) (cap-net _ _ (number-value (t2 .before .before .before .read-number .ensures) (t2 .before .p .given .1)) (number-value (t4 .before .before .before .read-number2 .ensures) (t4 .before .m .given .1)));
+          (step _ (found (numberTaken _ _) (t2 .before .before .before .read-number .ensures .reads) (t2 .before .p .given .1))
+          (step _ (found (passed _) (t3 .before .before .before .read-word2 .ensures) (t3 .before .c .given .1))
+          (step _ (found (numberTaken _ _) (t4 .before .before .before .read-number2 .ensures .reads) (t4 .before .m .given .1))
+          (step _ (found (passed _) (t5 .before .before .before .read-word3 .ensures) (t5 .before .e .given .1))
+          (step _ (found (limitTaken _) (t6 .before .before .before .read-norm .ensures) (t6 .before .norm .given .1))
+          (step _ (found (passed _) (t7 .before .before .before .read-word4 .ensures) (t7 .before .z .given .1))
+          refl))))))) (cap-net _ _ (number-value (t2 .before .before .before .read-number .ensures) (t2 .before .p .given .1)) (number-value (t4 .before .before .before .read-number2 .ensures) (t4 .before .m .given .1)));
       inside = ends endOf (t7 .before .before .before .read-word4 .ensures) (t7 .before .z .given .1);
     }
 

@@ -102,12 +102,12 @@ returns-7 c =
       reads =
           record {
             same = capped-some capCoef (step _ (found (passed _) (t1 .before .before .before .read-word .ensures) (t1 .before .a .given .1))
-    (step _ (found (passed _) (t2 .before .before .before .read-word2 .ensures) (t2 .before .b .given .1))
-    (step _ (x3 .1)
-    (step _ (found (passed _) (t4 .before .before .before .read-word3 .ensures) (t4 .before .e .given .1))
-    (step _ (found (numberTaken _ _) (t5 .before .before .before .read-number .ensures .reads) (t5 .before .source .given .1))
-    (step _ (found (passed _) (t6 .before .before .before .read-word4 .ensures) (t6 .before .next .given .1))
-    refl)))))) (term-cap _ _ _ (x3 .2));
+                (step _ (found (passed _) (t2 .before .before .before .read-word2 .ensures) (t2 .before .b .given .1))
+                (step _ (x3 .1)
+                (step _ (found (passed _) (t4 .before .before .before .read-word3 .ensures) (t4 .before .e .given .1))
+                (step _ (found (numberTaken _ _) (t5 .before .before .before .read-number .ensures .reads) (t5 .before .source .given .1))
+                (step _ (found (passed _) (t6 .before .before .before .read-word4 .ensures) (t6 .before .next .given .1))
+                refl)))))) (term-cap _ _ _ (x3 .2));
             inside = ends endOf (t6 .before .before .before .read-word4 .ensures) (t6 .before .next .given .1);
           };
       node = (
