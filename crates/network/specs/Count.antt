@@ -18,7 +18,7 @@ use Rattle.network.specs.Bounds.{coefNorm}
 use Rattle.network.specs.Tally.{Room, noNodes, withInput, withSum, withBoot}
 use Rattle.network.specs.declared.tally.Tally.{Tally}
 
-count-more : (f : LutNode → Bool) (ns : List LutNode) (n : LutNode) → count f (ns ++ (n ∷ [])) ≡ count f ns + (if f n then 1 else 0)
+pub count-more : (f : LutNode → Bool) (ns : List LutNode) (n : LutNode) → count f (ns ++ (n ∷ [])) ≡ count f ns + (if f n then 1 else 0)
 unfolding count
 count-more f [] n = omega arith
 count-more f (m ∷ ns) n = let h = count-more f ns n in omega arith

@@ -7,3 +7,4 @@ pub mod Work
 pub mod Ran
 pub mod Seen
 pub mod Verdict
+pub mod Stands

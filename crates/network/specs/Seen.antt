@@ -1,10 +1,10 @@
 -- What the code keeps of the lines so far, and what it says of a further line.
 use mathlib.Core.Path.{_≡_, refl, sym, ap, ap₂, subst, _∙_}
-use mathlib.Core.Bool.{Bool, true, false, _&&_, _||_, not, true≢false}
+use mathlib.Core.Bool.{Bool, true, false, _&&_, _||_, not}
 use mathlib.Core.List.{List, [], _∷_, _++_, map}
 use Prim.Native.Nat.{ℕ, zero, suc, _+_, _-_, _<_, _≤_}
 use native.Mathlib.Omega.{arith}
-use borrow.Author.Tests.{eq-eqb, ne-eqb, le-leb, lt-leb}
+use borrow.Author.Tests.{eq-eqb, ne-eqb, le-leb, lt-leb, not-true, not-false}
 use lib.Dec.{leb, ltb, eqb}
 use lib.ListN.{length, getD, set, take, drop, replicate}
 use Rattle.laws.specs.Test.{if_then_else_, if-both}
@@ -221,14 +221,6 @@ module _ (linear : List Bool) (count : ℕ) (v : Lin) (i : ℕ) where
     source-next e f = rw (terms-next v i h, e, f)
 
 -- ---- The numbers, test by test.
-
-not-true : (b : Bool) → not b ≡ true → b ≡ false
-not-true true e = absurd (true≢false (sym e))
-not-true false e = refl
-
-not-false : (b : Bool) → not b ≡ false → b ≡ true
-not-false true e = refl
-not-false false e = absurd (true≢false e)
 
 lowest-met : (ks ms : List Condition) {n : ℕ} → n ≡ lowest ks → (n ≡ 0 → ⊥) → n ≡ lowest (ks ++ ms)
 unfolding lowest

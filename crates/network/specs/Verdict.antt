@@ -6,7 +6,7 @@ use mathlib.Core.Logic.{⊎-elim}
 use mathlib.Core.Option.{Option, none, some, Option·none-ne-some}
 use Prim.Native.Nat.{ℕ, zero, suc, _+_, _-_, _<_, _≤_, min}
 use native.Mathlib.Omega.{arith}
-use borrow.Author.Tests.{le-leb, lt-leb, lt-ltb, le-ltb, leb-false}
+use borrow.Author.Tests.{le-leb, lt-leb, lt-ltb, le-ltb, leb-false, not-false}
 use lib.Dec.{leb, ltb, eqb}
 use lib.IntN.{ℤ}
 use lib.ListN.{length, getD, take, drop}
@@ -107,15 +107,11 @@ cap-known : (n i : ℕ) → n ≤ 65536 → leb n (min 65536 i) ≡ leb n i
 cap-known n i h =
     ⊎-elim (λ (l : i < n). rw (cap-small i (omega arith))) (λ (l : n ≤ i). rw (le-leb n i l, le-leb n (min 65536 i) (omega arith))) (lt-or-le i n)
 
-not-false : (b : Bool) → not b ≡ false → b ≡ true
-not-false true e = refl
-not-false false e = absurd (true≢false e)
-
-or-left : (a b : Bool) → (a || b) ≡ false → a ≡ false
+pub or-left : (a b : Bool) → (a || b) ≡ false → a ≡ false
 or-left true b e = e
 or-left false b e = refl
 
-or-right : (a b : Bool) → (a || b) ≡ false → b ≡ false
+pub or-right : (a b : Bool) → (a || b) ≡ false → b ≡ false
 or-right true b e = absurd (true≢false e)
 or-right false b e = e
 
