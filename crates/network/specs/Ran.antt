@@ -40,13 +40,15 @@ pub values-more : (P : ℕ) (bits : List ℕ) (vs : List ℤ) (ns : List LutNode
     → nodeValues P bits vs (ns ++ (n ∷ [])) ≡ after (nodeValues P bits vs ns) (λ us. N.withValue (nodeValue P bits us n) (λ v. some (us ++ (v ∷ []))))
 unfolding nodeValues after N.withValue
 values-more P bits vs [] n = refl
-values-more P bits vs (m ∷ ns) n = by (nodeValue P bits vs m)
+values-more P bits vs (m ∷ ns) n = by (nodeValue P bits vs m) (λ v. values-more P bits (vs ++ (v ∷ [])) ns n)
   where
     by : (o : Option ℤ)
+        → ((v : ℤ) → nodeValues P bits (vs ++ (v ∷ [])) (ns ++ (n ∷ []))
+        ≡ after (nodeValues P bits (vs ++ (v ∷ [])) ns) (λ us. N.withValue (nodeValue P bits us n) (λ x. some (us ++ (x ∷ [])))))
         → N.withValue o (λ v. nodeValues P bits (vs ++ (v ∷ [])) (ns ++ (n ∷ [])))
         ≡ after (N.withValue o (λ v. nodeValues P bits (vs ++ (v ∷ [])) ns)) (λ us. N.withValue (nodeValue P bits us n) (λ v. some (us ++ (v ∷ []))))
-    by none = refl
-    by (some v) = values-more P bits (vs ++ (v ∷ [])) ns n
+    by none f = refl
+    by (some v) f = f v
 
 -- ---- A `lin` takes bytes, a `boot` is a bit.
 
