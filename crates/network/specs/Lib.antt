@@ -8,3 +8,4 @@ pub mod Ran
 pub mod Seen
 pub mod Verdict
 pub mod Stands
+pub mod Step
