@@ -1,7 +1,7 @@
 -- What the code keeps of the lines so far stands for what they say.
-use mathlib.Core.Path.{_≡_, refl, sym, ap, ap₂, subst, _∙_}
-use mathlib.Core.Bool.{Bool, true, false, _&&_, _||_, not, and-false, true≢false}
-use mathlib.Core.List.{List, [], _∷_, _++_, map, append-nil}
+use mathlib.Core.Path.{_≡_, refl, sym, ap, ap₂, _∙_}
+use mathlib.Core.Bool.{Bool, true, false, _&&_, _||_, and-false, true≢false}
+use mathlib.Core.List.{List, [], _∷_, _++_, map}
 use mathlib.Core.Logic.{⊎-elim}
 use mathlib.Core.Option.{Option, none, some, Option·some-injective, Option·none-ne-some}
 use Prim.Native.Nat.{ℕ, zero, suc, _+_, _-_, _<_, _≤_}
@@ -11,23 +11,21 @@ use native.Mathlib.Omega.{arith}
 use borrow.Author.Tests.{eq-eqb, ne-eqb, le-leb, lt-leb, leb-false, eqb-true, not-false}
 use lib.Dec.{leb, eqb}
 use lib.IntN.{ℤ, pos, negsuc, _+ℤ_}
-use lib.ListN.{length, getD, set, take, drop, replicate, length-set, length-append, List·getD-append}
+use lib.ListN.{length, getD, set, take, drop, length-set, length-append, List·getD-append}
 use lib.Seq.{getD-set-same, getD-set-other, getD-at, take-suc-set}
 use lib.Signed.{leZ}
 use Rattle.laws.specs.Integer.{eqZ, plus, minus, add-parts, false-leZ}
-use Rattle.laws.specs.Test.{if_then_else_, if-both, isSome, lt-or-le, eq-or-ne}
+use Rattle.laws.specs.Test.{if-both, isSome, lt-or-le, eq-or-ne}
 use Rattle.rules.specs.declared.Limit.{Limit}
-use Rattle.rules.specs.declared.Limit.the-variants.{Unlimited}
 use Rattle.rules.specs.declared.Wire.{Wire}
 use Rattle.rules.specs.declared.Wire.the-variants.{Const, Node}
 use Rattle.rules.specs.Circuit as C
-use Rattle.rules.specs.CircuitText.{listed, noNode}
+use Rattle.rules.specs.CircuitText.{noNode}
 use Rattle.rules.specs.Form.{Condition, _when_, bitsFrom, Good, Refused}
 use Rattle.rules.specs.Network as W
 use Rattle.rules.specs.Network.{Term, LutNode, Input, Linear, Bootstrap, leastOf, greatestOf, isInput, isLinear, nodeNorm}
 use Rattle.rules.specs.NetworkText as N
-use Rattle.rules.specs.NetworkText.{Net, NetworkLine, NetLine, NodeLine, OutLine, NetPrefix, networkLine, allInputs, unknown, nodeAt, sources, anyBadSource, ending, settingsOf, over, fitsTable, isBit, noBit, safetyConditions, withNetworkLine, networkEnded, noNetwork}
-use Rattle.rules.specs.Rotation.{rotatable}
+use Rattle.rules.specs.NetworkText.{Net, NetworkLine, NetLine, NodeLine, OutLine, NetPrefix, networkLine, allInputs, unknown, nodeAt, sources, anyBadSource, ending, settingsOf, fitsTable, isBit, noBit, safetyConditions, withNetworkLine, networkEnded, noNetwork}
 use Rattle.text.specs.declared.Name.{Name}
 use Rattle.text.specs.Judged.{lowest, unmet}
 use Rattle.text.specs.Names.{nameBytes}
@@ -332,8 +330,7 @@ line-ready judge k l (In a t) v z e =
     omega (arith, leb-false 32 (k .count) (unmet _ _ (omega arith) (order .1) .0))
 line-ready judge k l Sum v z e =
     let count = unmet _ _ (omega arith) (unmet _ _ (omega arith) (unmet _ _ (omega arith) e .1) .1) in
-    let b = unmet _ _ (omega arith) (count .1) .0 in
-    (
+    let b = unmet _ _ (omega arith) (count .1) .0 in (
       leb-false 672 (k .count) (count .0),
       λ j h. omega (arith, z .count, sources-known (k .linear) (k .count) v (v .n) 0 (omega arith) (ap (badSource (k .linear) (k .count)) (sym (terms-start v 0)) ∙ b) j (omega arith) h),
     )

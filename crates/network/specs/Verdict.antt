@@ -1,20 +1,20 @@
 -- The number that a line is refused with, and what of a line that was read decides it.
-use mathlib.Core.Path.{_≡_, refl, sym, ap, ap₂, _∙_}
-use mathlib.Core.Bool.{Bool, true, false, _&&_, _||_, not, true≢false}
-use mathlib.Core.List.{List, [], _∷_, _++_, map, append-nil}
+use mathlib.Core.Path.{_≡_, refl, sym, ap, _∙_}
+use mathlib.Core.Bool.{Bool, true, false, _||_, not, true≢false}
+use mathlib.Core.List.{List, [], _∷_, _++_, append-nil}
 use mathlib.Core.Logic.{⊎-elim}
-use mathlib.Core.Option.{Option, none, some, Option·none-ne-some}
-use Prim.Native.Nat.{ℕ, zero, suc, _+_, _-_, _<_, _≤_, min}
+use mathlib.Core.Option.{Option, none, some}
+use Prim.Native.Nat.{ℕ, _+_, _-_, _<_, _≤_, min}
 use native.Mathlib.Omega.{arith}
 use borrow.Author.Tests.{le-leb, lt-leb, lt-ltb, le-ltb, leb-false, not-false}
-use lib.Dec.{leb, ltb, eqb}
+use lib.Dec.{leb, ltb}
 use lib.IntN.{ℤ}
-use lib.ListN.{length, getD, take, drop}
-use Rattle.laws.specs.Test.{if_then_else_, if-both, lt-or-le}
+use lib.ListN.{length, take, drop}
+use Rattle.laws.specs.Test.{if_then_else_, lt-or-le}
 use Rattle.rules.specs.declared.Wire.{Wire}
 use Rattle.rules.specs.declared.Wire.the-variants.{Const, Node}
 use Rattle.rules.specs.Builder.{tableLimits}
-use Rattle.rules.specs.Circuit.{Name, Output}
+use Rattle.rules.specs.Circuit.{Name}
 use Rattle.rules.specs.CircuitText.{listed, noNode}
 use Rattle.rules.specs.Form.{Condition, _when_, Reading, Refused}
 use Rattle.rules.specs.Network.{Term, LutNode, Input, Linear, Bootstrap, Network, isLinear, nodeNorm}
