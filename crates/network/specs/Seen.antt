@@ -2,7 +2,7 @@
 use mathlib.Core.Path.{_≡_, refl, sym, ap, ap₂, subst, _∙_}
 use mathlib.Core.Bool.{Bool, true, false, _&&_, _||_, not}
 use mathlib.Core.List.{List, [], _∷_, _++_, map}
-use Prim.Native.Nat.{ℕ, zero, suc, _+_, _-_, _<_, _≤_}
+use Prim.Native.Nat.{ℕ, _+_, _-_, _<_, _≤_}
 use native.Mathlib.Omega.{arith}
 use borrow.Author.Tests.{eq-eqb, ne-eqb, le-leb, lt-leb, not-true, not-false}
 use lib.Dec.{leb, ltb, eqb}
@@ -231,7 +231,7 @@ lowest-met (k ∷ ks) ms {n} e h = by (k .met) e (λ d. lowest-met ks ms d h)
     by true d f = d
     by false d f = f d
 
-pub lowest-free : (ks ms : List Condition) → Numbered ks → lowest ks ≡ 0 → lowest (ks ++ ms) ≡ lowest ms
+lowest-free : (ks ms : List Condition) → Numbered ks → lowest ks ≡ 0 → lowest (ks ++ ms) ≡ lowest ms
 unfolding lowest
 lowest-free [] ms p e = refl
 lowest-free (k ∷ ks) ms p e = by (k .met) e (lowest-free ks ms (p .1))
@@ -240,7 +240,7 @@ lowest-free (k ∷ ks) ms p e = by (k .met) e (lowest-free ks ms (p .1))
     by true d f = absurd (let h = p .0 in omega arith)
     by false d f = f d
 
-pub node-numbered : (started : Bool) (outputs count : ℕ) → Numbered (nodeConditions started outputs count)
+node-numbered : (started : Bool) (outputs count : ℕ) → Numbered (nodeConditions started outputs count)
 unfolding nodeConditions
 node-numbered started outputs count = (omega arith, (omega arith, (omega arith, tt)))
 

@@ -1,7 +1,7 @@
 -- What the code keeps of the lines so far stands for what they say.
-use mathlib.Core.Path.{_≡_, refl, sym, ap, ap₂, subst, _∙_}
-use mathlib.Core.Bool.{Bool, true, false, _&&_, _||_, not, and-false, true≢false}
-use mathlib.Core.List.{List, [], _∷_, _++_, map, append-nil}
+use mathlib.Core.Path.{_≡_, refl, sym, ap, ap₂, _∙_}
+use mathlib.Core.Bool.{Bool, true, false, _&&_, _||_, and-false, true≢false}
+use mathlib.Core.List.{List, [], _∷_, _++_, map}
 use mathlib.Core.Logic.{⊎-elim}
 use mathlib.Core.Option.{Option, none, some, Option·some-injective, Option·none-ne-some}
 use Prim.Native.Nat.{ℕ, zero, suc, _+_, _-_, _<_, _≤_}
@@ -11,28 +11,26 @@ use native.Mathlib.Omega.{arith}
 use borrow.Author.Tests.{eq-eqb, ne-eqb, le-leb, lt-leb, leb-false, eqb-true, not-false}
 use lib.Dec.{leb, eqb}
 use lib.IntN.{ℤ, pos, negsuc, _+ℤ_}
-use lib.ListN.{length, getD, set, take, drop, replicate, length-set, length-append, List·getD-append}
+use lib.ListN.{length, getD, set, take, drop, length-set, length-append, List·getD-append}
 use lib.Seq.{getD-set-same, getD-set-other, getD-at, take-suc-set}
 use lib.Signed.{leZ}
 use Rattle.laws.specs.Integer.{eqZ, plus, minus, add-parts, false-leZ}
-use Rattle.laws.specs.Test.{if_then_else_, if-both, lt-or-le, eq-or-ne}
+use Rattle.laws.specs.Test.{if-both, isSome, lt-or-le, eq-or-ne}
 use Rattle.rules.specs.declared.Limit.{Limit}
-use Rattle.rules.specs.declared.Limit.the-variants.{Unlimited}
 use Rattle.rules.specs.declared.Wire.{Wire}
 use Rattle.rules.specs.declared.Wire.the-variants.{Const, Node}
 use Rattle.rules.specs.Circuit as C
-use Rattle.rules.specs.CircuitText.{listed, noNode}
-use Rattle.rules.specs.Form.{Condition, _when_, bitsFrom}
+use Rattle.rules.specs.CircuitText.{noNode}
+use Rattle.rules.specs.Form.{Condition, _when_, bitsFrom, Good, Refused}
 use Rattle.rules.specs.Network as W
 use Rattle.rules.specs.Network.{Term, LutNode, Input, Linear, Bootstrap, leastOf, greatestOf, isInput, isLinear, nodeNorm}
 use Rattle.rules.specs.NetworkText as N
-use Rattle.rules.specs.NetworkText.{Net, NetworkLine, NetLine, NodeLine, OutLine, NetPrefix, networkLine, allInputs, unknown, nodeAt, sources, anyBadSource, ending, settingsOf, over, fitsTable, isBit, noBit, safetyConditions, withNetworkLine, noNetwork}
-use Rattle.rules.specs.Rotation.{rotatable}
+use Rattle.rules.specs.NetworkText.{Net, NetworkLine, NetLine, NodeLine, OutLine, NetPrefix, networkLine, allInputs, unknown, nodeAt, sources, anyBadSource, ending, settingsOf, fitsTable, isBit, noBit, safetyConditions, withNetworkLine, networkEnded, noNetwork}
 use Rattle.text.specs.declared.Name.{Name}
 use Rattle.text.specs.Judged.{lowest, unmet}
 use Rattle.text.specs.Names.{nameBytes}
 use Rattle.network_text.specs.Lines.{lineIn, lineOf, goodLine, TablePlace, Within, LineRead}
-use Rattle.network_text.specs.Terms.{termsOf}
+use Rattle.network_text.specs.Terms.{termsOf, termsAt, terms-start, terms-next}
 use Rattle.network_text.specs.declared.line.Line.{Line}
 use Rattle.network_text.specs.declared.line.Line.the-variants.{Bad, Net as NetRead, In, Lin as Sum, Boot, Out}
 use Rattle.network_text.specs.declared.line.Read.{Read}
@@ -41,7 +39,9 @@ use Rattle.network.specs.Bounds.{fitOf, tableFit, bitBounds, coefNorm}
 use Rattle.network.specs.Count.{count-more}
 use Rattle.network.specs.Seen.{noLines, Sized, namesOf, repeated, inConditions, nodeConditions, badSource, linConditions, bootConditions, notBit, wireConditions, outConditions, seenConditions, withNet, withNode, withName, withOutput, RoomFor, Follows}
 use Rattle.network.specs.Table.{table-length}
+use Rattle.network.specs.Tally.{Takes}
 use Rattle.network.specs.Verdict.{refusal, goodRefusal, laterConditions, safety, good-refusal, good-same, or-left, or-right}
+use Rattle.network.specs.Work.{KnownWire, Ready}
 use Rattle.network.specs.declared.seen.Seen.{Seen}
 
 -- The length of the tables that a node's bounds fit.
@@ -305,6 +305,50 @@ line-room judge k l Sum v z e = leb-false 672 (k .count) (unmet _ _ (omega arith
 line-room judge k l (Boot i a t) v z e = leb-false 672 (k .count) (unmet _ _ (omega arith) (unmet _ _ (omega arith) (unmet _ _ (omega arith) e .1) .1) .0)
 line-room judge k l (Out a t u) v z e = leb-false 32 (k .outputs) (unmet _ _ (omega arith) (unmet _ _ (omega arith) e .1) .0)
 
+-- The nodes that it takes are there.
+sources-known : (linear : List Bool) (count : ℕ) (v : Lin) (m i : ℕ) → i + m ≡ v .n → badSource linear count (termsAt v i) ≡ false → (j : ℕ) → i ≤ j → j < v .n → getD (v .sources) j 0 < count
+unfolding badSource
+sources-known linear count v zero i e b j h g = absurd (omega arith)
+sources-known linear count v (suc m) i e b j h g =
+    let q = terms-next v i (omega arith) in
+    let c : ((leb count (getD (v .sources) i 0) || getD linear (getD (v .sources) i 0) false) || badSource linear count (termsAt v (i + 1))) ≡ false = ap (badSource linear count) (sym q) ∙ b in
+    ⊎-elim (λ (d : j ≡ i). rw d (leb-false count (getD (v .sources) i 0) (or-left _ _ (or-left _ (badSource linear count (termsAt v (i + 1))) c))))
+    (λ (d : j ≡ i → ⊥). sources-known linear count v m (i + 1) (omega arith) (or-right (leb count (getD (v .sources) i 0) || getD linear (getD (v .sources) i 0) false) _ c) j (omega arith) g)
+    (eq-or-ne j i)
+
+wire-known : (count : ℕ) (u : Wire) → count ≤ 672 → noNode count u ≡ false → KnownWire u
+unfolding noNode
+wire-known count (Const b) h e = tt
+wire-known count (Node i) h e = omega (arith, leb-false count i e)
+
+line-ready : (judge : Bool) (k : Seen) (l : List ℕ) (line : Line) (v : Lin) → Sized k → lowest (seenConditions judge k l line v) ≡ 0 → Ready (k .count) (k .outputs) line v
+unfolding seenConditions inConditions linConditions bootConditions nodeConditions outConditions wireConditions
+line-ready judge k l Bad v z e = tt
+line-ready judge k l (NetRead p m n) v z e = tt
+line-ready judge k l (In a t) v z e =
+    let order = unmet _ _ (omega arith) (unmet _ _ (omega arith) e .1) in
+    omega (arith, leb-false 32 (k .count) (unmet _ _ (omega arith) (order .1) .0))
+line-ready judge k l Sum v z e =
+    let count = unmet _ _ (omega arith) (unmet _ _ (omega arith) (unmet _ _ (omega arith) e .1) .1) in
+    let b = unmet _ _ (omega arith) (count .1) .0 in (
+      leb-false 672 (k .count) (count .0),
+      λ j h. omega (arith, z .count, sources-known (k .linear) (k .count) v (v .n) 0 (omega arith) (ap (badSource (k .linear) (k .count)) (sym (terms-start v 0)) ∙ b) j (omega arith) h),
+    )
+line-ready judge k l (Boot i a t) v z e =
+    let count = unmet _ _ (omega arith) (unmet _ _ (omega arith) (unmet _ _ (omega arith) e .1) .1) in
+    (leb-false 672 (k .count) (count .0), omega (arith, z .count, leb-false (k .count) i (unmet _ _ (omega arith) (count .1) .0)))
+line-ready judge k l (Out a t u) v z e =
+    let room = unmet _ _ (omega arith) (unmet _ _ (omega arith) e .1) in
+    (leb-false 32 (k .outputs) (room .0), wire-known (k .count) u (z .count) (unmet _ _ (omega arith) (room .1) .0))
+
+line-takes : (count outputs : ℕ) (l : List ℕ) (line : Line) (v : Lin) → Within l line → Ready count outputs line v → Takes line
+line-takes count outputs l Bad v p h = tt
+line-takes count outputs l (NetRead q m n) v p h = tt
+line-takes count outputs l (In a e) v p h = tt
+line-takes count outputs l Sum v p h = tt
+line-takes count outputs l (Boot i a e) v p h = (h .1, p .later)
+line-takes count outputs l (Out a e u) v p h = tt
+
 none-refused : (judge : Bool) (w : NetPrefix) → refusal judge w none ≡ 0 → ⊥
 unfolding refusal
 none-refused judge w e = omega arith
@@ -328,6 +372,12 @@ module _ (judge : Bool) {k : Seen} {w : NetPrefix} (s : Stands k w) {l : List �
   pub number-room : {n : ℕ} → n ≡ lowest (seenConditions judge k l (r .line) (r .lin)) → n ≡ 0 → RoomFor k (r .line)
   number-room e z = line-room judge k l (r .line) (r .lin) (s .sized) (sym e ∙ z)
 
+  pub number-ready : {n : ℕ} → n ≡ lowest (seenConditions judge k l (r .line) (r .lin)) → n ≡ 0 → Ready (k .count) (k .outputs) (r .line) (r .lin)
+  number-ready e z = line-ready judge k l (r .line) (r .lin) (s .sized) (sym e ∙ z)
+
+  pub number-takes : {n : ℕ} → n ≡ lowest (seenConditions judge k l (r .line) (r .lin)) → n ≡ 0 → Takes (r .line)
+  number-takes e z = line-takes (k .count) (k .outputs) l (r .line) (r .lin) (q .within) (number-ready e z)
+
   -- `with_line` adds the line that the definition adds.
   pub line-added : (i : ℕ) {n : ℕ} {t : Seen} → n ≡ lowest (seenConditions judge k l (r .line) (r .lin)) → n ≡ 0 → Follows k l (r .line) (r .lin) t → Added i w l r t
   unfolding lineOf
@@ -338,3 +388,23 @@ module _ (judge : Bool) {k : Seen} {w : NetPrefix} (s : Stands k w) {l : List �
       by (some m) g y =
           let same : lineIn l (r .line) (r .lin) ≡ some m = q .same ∙ ap goodLine g ∙ good-same judge w few m y in
           record { line = m; form = g; kept = same; stands = stands-line s i l (r .line) (r .lin) t m (number-room e z) f same }
+
+-- ---- The text's end.
+
+module _ {k : Seen} {w : NetPrefix} (s : Stands k w) (i : ℕ) where
+  pub ended-unstarted : k .started ≡ false → networkEnded i w ≡ Refused 21 i
+  unfolding networkEnded N.withNet N.started
+  ended-unstarted e = by (w .net) (sym (s .started) ∙ e)
+    where
+      by : (o : Option Net) → isSome o ≡ false → N.withNet i w o ≡ Refused 21 i
+      by none f = refl
+      by (some n) f = absurd (true≢false f)
+
+  pub ended-good : k .started ≡ true → networkEnded i w ≡ Good (record { p = k .p; m = k .m; norm = k .norm; nodes = w .nodes; outputs = w .outputs })
+  unfolding networkEnded N.withNet N.started settingsOf
+  ended-good e = by (w .net) (sym (s .started) ∙ e) (s .settings)
+    where
+      by : (o : Option Net) → isSome o ≡ true → settingsOf o ≡ record { p = k .p; m = k .m; norm = k .norm }
+          → N.withNet i w o ≡ Good (record { p = k .p; m = k .m; norm = k .norm; nodes = w .nodes; outputs = w .outputs })
+      by none f g = absurd (true≢false (sym f))
+      by (some n) f g = ap (λ (x : Net). Good (record { p = x .p; m = x .m; norm = x .norm; nodes = w .nodes; outputs = w .outputs })) g

@@ -1,28 +1,28 @@
 -- The number that a line is refused with, and what of a line that was read decides it.
-use mathlib.Core.Path.{_≡_, refl, sym, ap, ap₂, _∙_}
-use mathlib.Core.Bool.{Bool, true, false, _&&_, _||_, not, true≢false}
-use mathlib.Core.List.{List, [], _∷_, _++_, map, append-nil}
+use mathlib.Core.Path.{_≡_, refl, sym, ap, _∙_}
+use mathlib.Core.Bool.{Bool, true, false, _||_, not, true≢false}
+use mathlib.Core.List.{List, [], _∷_, _++_, append-nil}
 use mathlib.Core.Logic.{⊎-elim}
-use mathlib.Core.Option.{Option, none, some, Option·none-ne-some}
-use Prim.Native.Nat.{ℕ, zero, suc, _+_, _-_, _<_, _≤_, min}
+use mathlib.Core.Option.{Option, none, some}
+use Prim.Native.Nat.{ℕ, _+_, _-_, _<_, _≤_, min}
 use native.Mathlib.Omega.{arith}
 use borrow.Author.Tests.{le-leb, lt-leb, lt-ltb, le-ltb, leb-false, not-false}
-use lib.Dec.{leb, ltb, eqb}
+use lib.Dec.{leb, ltb}
 use lib.IntN.{ℤ}
-use lib.ListN.{length, getD, take, drop}
-use Rattle.laws.specs.Test.{if_then_else_, if-both, lt-or-le}
+use lib.ListN.{length, take, drop}
+use Rattle.laws.specs.Test.{if_then_else_, lt-or-le}
 use Rattle.rules.specs.declared.Wire.{Wire}
 use Rattle.rules.specs.declared.Wire.the-variants.{Const, Node}
 use Rattle.rules.specs.Builder.{tableLimits}
-use Rattle.rules.specs.Circuit.{Name, Output}
+use Rattle.rules.specs.Circuit.{Name}
 use Rattle.rules.specs.CircuitText.{listed, noNode}
 use Rattle.rules.specs.Form.{Condition, _when_, Reading, Refused}
 use Rattle.rules.specs.Network.{Term, LutNode, Input, Linear, Bootstrap, Network, isLinear, nodeNorm}
-use Rattle.rules.specs.NetworkText.{Net, NetworkLine, NetLine, NodeLine, OutLine, NetPrefix, networkLine, goodSum, names, allInputs, unknown, nodeAt, sources, anyBadSource, started, ending, textConditions, safetyConditions, admissionConditions, settingsOf, over, withNetworkLine, networkEnded}
+use Rattle.rules.specs.NetworkText.{Net, NetworkLine, NetLine, NodeLine, OutLine, NetPrefix, networkLine, goodSum, names, allInputs, unknown, nodeAt, sources, anyBadSource, started, ending, textConditions, safetyConditions, admissionConditions, settingsOf, over, withNetworkLine, networkEnded, noNetwork, readNetwork, readAdmitted}
 use Rattle.rules.specs.Scale.{norm}
 use Rattle.text.specs.Cap.{cap-small}
 use Rattle.text.specs.Forms.{capOutput}
-use Rattle.text.specs.Judged.{lowest, Numbered, unmet, readFrom, read-no-form, read-refused, read-next}
+use Rattle.text.specs.Judged.{lowest, Numbered, unmet, readFrom, read-end, read-no-form, read-refused, read-next}
 use Rattle.text.specs.Line.{LineEnd}
 use Rattle.text.specs.Wire.{capWire}
 use Rattle.network_text.specs.Lines.{capTerm, capTerms, goodForm, goodLine}
@@ -57,6 +57,18 @@ numbered false w (OutLine o) = (omega arith, (omega arith, (omega arith, tt)))
 unfoldable pub networkFrom : Bool → List ℕ → ℕ → NetPrefix → ℕ → Reading Network
 networkFrom judge s i w a = readFrom networkLine 21 (conditionsOf judge) withNetworkLine networkEnded s i w a
 
+pub network-read : (s : List ℕ) → readNetwork s ≡ networkFrom false s 1 noNetwork 0
+unfolding readNetwork networkFrom readFrom conditionsOf
+network-read s = refl
+
+pub network-admitted : (s : List ℕ) → readAdmitted s ≡ networkFrom true s 1 noNetwork 0
+unfolding readAdmitted networkFrom readFrom conditionsOf
+network-admitted s = refl
+
+pub network-end : (judge : Bool) (s : List ℕ) (i : ℕ) (w : NetPrefix) (a : ℕ) → length s ≤ a → networkFrom judge s i w a ≡ networkEnded i w
+unfolding networkFrom
+network-end judge s i w a h = read-end networkLine 21 (conditionsOf judge) withNetworkLine networkEnded s i w a h
+
 module _ (judge : Bool) (s : List ℕ) (i : ℕ) (w : NetPrefix) (a e : ℕ) (h : LineEnd s a e) where
   pub line-refused : (n : ℕ) → refusal judge w (networkLine (take (e - a) (drop a s))) ≡ n → (n ≡ 0 → ⊥) → networkFrom judge s i w a ≡ Refused n i
   unfolding networkFrom refusal
@@ -67,10 +79,10 @@ module _ (judge : Bool) (s : List ℕ) (i : ℕ) (w : NetPrefix) (a e : ℕ) (h 
       by none f g z = read-no-form networkLine 21 (conditionsOf judge) withNetworkLine networkEnded s i w a e h f ∙ ap (λ k. Refused k i) g
       by (some l) f g z = read-refused networkLine 21 (conditionsOf judge) withNetworkLine networkEnded s i w a e h l n f g z
 
-  pub line-next : (l : NetworkLine) → networkLine (take (e - a) (drop a s)) ≡ some l → refusal judge w (some l) ≡ 0
+  pub line-next : (l : NetworkLine) → networkLine (take (e - a) (drop a s)) ≡ some l → refusal judge w (networkLine (take (e - a) (drop a s))) ≡ 0
       → networkFrom judge s i w a ≡ networkFrom judge s (i + 1) (withNetworkLine i w l) e
   unfolding networkFrom refusal
-  line-next l f g = read-next networkLine 21 (conditionsOf judge) withNetworkLine networkEnded s i w a e h l f (numbered judge w l) g
+  line-next l f g = read-next networkLine 21 (conditionsOf judge) withNetworkLine networkEnded s i w a e h l f (numbered judge w l) (ap (refusal judge w) (sym f) ∙ g)
 
 -- ---- A line that is good on its own: what stands before it decides.
 
@@ -103,10 +115,6 @@ conditions-are false w l = sym (append-nil (textConditions w l))
 
 -- ---- A node's number up to 65536 says whether it is a node, and which.
 
-cap-known : (n i : ℕ) → n ≤ 65536 → leb n (min 65536 i) ≡ leb n i
-cap-known n i h =
-    ⊎-elim (λ (l : i < n). rw (cap-small i (omega arith))) (λ (l : n ≤ i). rw (le-leb n i l, le-leb n (min 65536 i) (omega arith))) (lt-or-le i n)
-
 pub or-left : (a b : Bool) → (a || b) ≡ false → a ≡ false
 or-left true b e = e
 or-left false b e = refl
@@ -116,10 +124,6 @@ or-right true b e = absurd (true≢false e)
 or-right false b e = e
 
 module _ (ns : List LutNode) (h : length ns ≤ 65536) where
-  cap-unknown : (i : ℕ) → unknown ns (min 65536 i) ≡ unknown ns i
-  unfolding unknown
-  cap-unknown i = cap-known (length ns) i h
-
   -- a node or not: its number is exact, or past all of them
   exact-or-unknown : (Q : ℕ → ℕ → Type 0) (i : ℕ) → (min 65536 i ≡ i → Q i i) → (unknown ns i ≡ true → unknown ns (min 65536 i) ≡ true → Q (min 65536 i) i) → Q (min 65536 i) i
   unfolding unknown

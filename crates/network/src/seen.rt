@@ -9,11 +9,11 @@ ghost use Rattle.text.specs.Names.{nameBytes};
 ghost use Rattle.network_text.specs.Lines.{TablePlace, Within};
 ghost use Rattle.network_text.specs.Terms.{Small, termsOf};
 ghost use Rattle.network.specs.Seen.{noLines, Sized, Flags, namesOf, repeated, inConditions, nodeConditions, badSource, linConditions, bootConditions, wireConditions, outConditions, seenConditions, withNet, withNode, withName, withOutput, RoomFor, Follows};
-use rules::Limit;
-use rules::Wire;
 use network_text::Lin;
 use network_text::Line;
 use network_text::Read;
+use rules::Limit;
+use rules::Wire;
 use text::Name;
 
 // The `net` line, if it was there; how many nodes, inputs and outputs; of each node whether it is a sum, the length of the tables that its
@@ -86,7 +86,13 @@ fn name_number(k: Seen, l: &[u8], a: usize, e: usize) -> usize
     requires { ⌜ Named (length (now l)) a e ⌝ }
     ensures { λ r. ⌜ r ≡ lowest (inConditions (k .started) (k .outputs) (k .inputs) (k .count) (repeated k (take (e - a) (drop a (now (l .entry)))))) ⌝ }
 {
-    in_number(k.started, k.outputs, k.inputs, k.count, is_known_name(k, text::name_of(l, a, e)))
+    in_number(
+        k.started,
+        k.outputs,
+        k.inputs,
+        k.count,
+        is_known_name(k, text::name_of(l, a, e)),
+    )
 }
 
 // A sum or a boot.
@@ -148,7 +154,11 @@ fn lin_number(judge: bool, k: Seen, lin: Lin) -> usize
         return 0;
     }
     let limit = k.norm;
-    if is_over(limit, crate::bounds::norm_of(lin)) { 25 } else { 0 }
+    if is_over(limit, crate::bounds::norm_of(lin)) {
+        25
+    } else {
+        0
+    }
 }
 
 fn boot_number(judge: bool, k: Seen, l: &[u8], source: usize, a: usize, e: usize) -> usize
@@ -172,7 +182,11 @@ fn boot_number(judge: bool, k: Seen, l: &[u8], source: usize, a: usize, e: usize
     if k.m < e - a {
         return 23;
     }
-    if crate::table::is_rotatable(k.p, l, a, e) { 0 } else { 24 }
+    if crate::table::is_rotatable(k.p, l, a, e) {
+        0
+    } else {
+        24
+    }
 }
 
 fn wire_number(judge: bool, count: usize, bits: &[bool; 672], w: Wire) -> usize
@@ -294,7 +308,12 @@ pub fn with_line(k: Seen, l: &[u8], r: Read) -> Seen
         Line::Bad => k,
         Line::Net(p, m, norm) => with_net(k, p, m, norm),
         Line::In(a, e) => with_node(with_name(k, text::name_of(l, a, e)), false, 2, true),
-        Line::Lin => with_node(k, true, crate::bounds::table_fit(lin), crate::bounds::is_bit(lin)),
+        Line::Lin => with_node(
+            k,
+            true,
+            crate::bounds::table_fit(lin),
+            crate::bounds::is_bit(lin),
+        ),
         Line::Boot(_, _, _) => with_node(k, false, 2, true),
         Line::Out(_, _, _) => with_output(k),
     }
