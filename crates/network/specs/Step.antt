@@ -1,102 +1,85 @@
--- One line of the text: judged, and counted where it has no fault.
-use mathlib.Core.Path.{_≡_, refl, sym, ap, subst, _∙_}
-use mathlib.Core.Bool.{Bool, true, false, _||_, not}
+-- The lines in turn: what a loop over them holds after each, and what it ends with.
+use mathlib.Core.Path.{_≡_, refl, sym, ap, _∙_}
+use mathlib.Core.Bool.{Bool, true, false}
 use mathlib.Core.List.{List, [], _∷_, _++_}
-use Prim.Native.Nat.{ℕ, zero, suc, _+_, _<_, _≤_}
+use mathlib.Core.Option.{Option, none, some, Option·some-injective, Option·none-ne-some}
+use Prim.Native.Nat.{ℕ, _+_, _-_, _<_, _≤_}
 use native.Mathlib.Omega.{arith}
-use borrow.Author.Tests.{leb-false}
-use lib.Dec.{leb}
-use lib.ListN.{length, getD}
-use Rattle.laws.specs.Test.{if_then_else_}
+use lib.ListN.{length, take, drop}
+use Rattle.rules.specs.declared.AdmitReply.{AdmitReply}
+use Rattle.rules.specs.declared.AdmitReply.the-variants.{Admitted, Refused as NotAdmitted}
 use Rattle.rules.specs.declared.Stats.{Stats}
-use Rattle.rules.specs.declared.Wire.{Wire}
-use Rattle.rules.specs.declared.Wire.the-variants.{Const, Node}
-use Rattle.rules.specs.CircuitText.{noNode}
-use Rattle.rules.specs.Network.{Term}
-use Rattle.text.specs.Judged.{lowest, unmet}
-use Rattle.network_text.specs.Lines.{Within, LineRead}
-use Rattle.network_text.specs.Terms.{termsOf, termsAt, terms-start, terms-next}
+use Rattle.rules.specs.Form.{Reading, Good, Refused, bitsFrom}
+use Rattle.rules.specs.Network.{Network, Input, Linear, Bootstrap, stats}
+use Rattle.rules.specs.NetworkText.{NetworkLine, NetLine, NodeLine, OutLine, NetPrefix, networkLine, withNetworkLine, noNetwork, admitReply, admission}
+use Rattle.text.specs.Judged.{lowest}
+use Rattle.text.specs.Line.{LineEnd}
+use Rattle.network_text.specs.Lines.{lineIn, lineOf, Within, LineRead}
+use Rattle.network_text.specs.Terms.{termsOf}
 use Rattle.network_text.specs.declared.line.Line.{Line}
 use Rattle.network_text.specs.declared.line.Line.the-variants.{Bad, Net as NetRead, In, Lin as Sum, Boot, Out}
 use Rattle.network_text.specs.declared.line.Read.{Read}
 use Rattle.network_text.specs.declared.sum.Lin.{Lin}
-use Rattle.network.specs.Seen.{Sized, badSource, inConditions, nodeConditions, linConditions, bootConditions, wireConditions, outConditions, seenConditions, Follows}
-use Rattle.network.specs.Tally.{Takes, lineTally}
-use Rattle.network.specs.Verdict.{or-left, or-right}
-use Rattle.network.specs.Work.{Sourced, KnownWire, Ready}
+use Rattle.network.specs.Count.{tallyOf, tally-none, tally-input, tally-sum, tally-table, tally-room}
+use Rattle.network.specs.Seen.{noLines, seenConditions, Follows}
+use Rattle.network.specs.Stands.{Stands, stands-none, number-is, number-takes, line-added, ended-unstarted, ended-good}
+use Rattle.network.specs.Table.{table-length}
+use Rattle.network.specs.Tally.{Room, Takes, noNodes, lineTally}
+use Rattle.network.specs.Verdict.{refusal, networkFrom, network-admitted, network-end, line-refused, line-next}
 use Rattle.network.specs.declared.admission.Step.{Step}
 use Rattle.network.specs.declared.seen.Seen.{Seen}
 use Rattle.network.specs.declared.tally.Tally.{Tally}
 
--- ---- A line with no fault takes earlier nodes only.
+-- What is kept stands for some lines.
+abbrev pub Standing : Seen → Type 0
+Standing k = (w : NetPrefix) × Stands k w
 
-source-step : (linear : List Bool) (n : ℕ) (v : Lin) (j : ℕ) → j < v .n → badSource linear n (termsAt v j) ≡ false
-    → (getD (v .sources) j 0 < n) × (badSource linear n (termsAt v (j + 1)) ≡ false)
-unfolding badSource
-source-step linear n v j h e =
-    let f = ap (badSource linear n) (sym (terms-next v j h)) ∙ e in
-    let a = or-left (leb n (getD (v .sources) j 0) || getD linear (getD (v .sources) j 0) false) (badSource linear n (termsAt v (j + 1))) f in
-    (
-      leb-false n (getD (v .sources) j 0) (or-left (leb n (getD (v .sources) j 0)) (getD linear (getD (v .sources) j 0) false) a),
-      or-right (leb n (getD (v .sources) j 0) || getD linear (getD (v .sources) j 0) false) (badSource linear n (termsAt v (j + 1))) f,
-    )
-
-source-known : (linear : List Bool) (n : ℕ) (v : Lin) (m j : ℕ) → badSource linear n (termsAt v j) ≡ false → j + m < v .n → getD (v .sources) (j + m) 0 < n
-source-known linear n v zero j e h = let q : j + 0 ≡ j = omega arith in rw q (source-step linear n v j (omega arith) e .0)
-source-known linear n v (suc m) j e h =
-    let q : j + suc m ≡ j + 1 + m = omega arith in
-    rw q (source-known linear n v m (j + 1) (source-step linear n v j (omega arith) e .1) (omega arith))
-
-sourced : (linear : List Bool) (n : ℕ) (v : Lin) → n ≤ 672 → badSource linear n (termsOf v) ≡ false → Sourced v
-sourced linear n v k e i h =
-    let g = source-known linear n v i 0 (ap (badSource linear n) (sym (terms-start v 0)) ∙ e) (omega arith) in
-    let q : 0 + i ≡ i = omega arith in
-    let f : getD (v .sources) i 0 < n = rw q at g in
-    omega arith
-
-known-wire : (n : ℕ) (w : Wire) → n ≤ 672 → noNode n w ≡ false → KnownWire w
-unfolding noNode
-known-wire n (Const b) h e = tt
-known-wire n (Node i) h e = omega (arith, leb-false n i e)
-
-module _ (judge : Bool) (k : Seen) (l : List ℕ) (v : Lin) (z : Sized k) where
-  pub line-takes : (line : Line) → Within l line → lowest (seenConditions judge k l line v) ≡ 0 → Takes line
-  unfolding seenConditions bootConditions nodeConditions
-  line-takes Bad p e = tt
-  line-takes (NetRead q m n) p e = tt
-  line-takes (In a t) p e = tt
-  line-takes Sum p e = tt
-  line-takes (Boot i a t) p e =
-      let order = unmet _ _ (omega arith) (unmet _ _ (omega arith) (unmet _ _ (omega arith) e .1) .1) in
-      let known = leb-false (k .count) i (unmet _ _ (omega arith) (order .1) .0) in
-      (omega (arith, z .count), p .later)
-  line-takes (Out a t u) p e = tt
-
-  pub line-ready : (line : Line) → lowest (seenConditions judge k l line v) ≡ 0 → Ready (k .count) (k .outputs) line v
-  unfolding seenConditions inConditions linConditions bootConditions nodeConditions outConditions wireConditions
-  line-ready Bad e = tt
-  line-ready (NetRead q m n) e = tt
-  line-ready (In a t) e =
-      let few = leb-false 32 (k .count) (unmet _ _ (omega arith) (unmet _ _ (omega arith) (unmet _ _ (omega arith) e .1) .1) .0) in
-      omega arith
-  line-ready Sum e =
-      let order = unmet _ _ (omega arith) (unmet _ _ (omega arith) (unmet _ _ (omega arith) e .1) .1) in
-      (leb-false 672 (k .count) (order .0), sourced (k .linear) (k .count) v (z .count) (unmet _ _ (omega arith) (order .1) .0))
-  line-ready (Boot i a t) e =
-      let order = unmet _ _ (omega arith) (unmet _ _ (omega arith) (unmet _ _ (omega arith) e .1) .1) in
-      let known = leb-false (k .count) i (unmet _ _ (omega arith) (order .1) .0) in
-      (leb-false 672 (k .count) (order .0), omega (arith, z .count))
-  line-ready (Out a t u) e =
-      let order = unmet _ _ (omega arith) (unmet _ _ (omega arith) e .1) in
-      (leb-false 32 (k .outputs) (order .0), known-wire (k .count) u (z .count) (unmet _ _ (omega arith) (order .1) .0))
-
--- ---- What a step of the loop says of the line that it read.
-
+-- A line was read; n is the number that it is refused with, and s is k with the line where that is 0.
 pub record Stepped (judge : Bool) (k : Seen) (l : List ℕ) (n : ℕ) (s : Seen) : Type 0 where
   pub read : Read
   pub good : LineRead l read
   pub number : n ≡ lowest (seenConditions judge k l (read .line) (read .lin))
   pub added : n ≡ 0 → Follows k l (read .line) (read .lin) s
+
+-- The lines before `at` were not refused and say w; `line` is the next line's number.
+pub record Lines (judge : Bool) (text : List ℕ) (k : Seen) (line at : ℕ) (w : NetPrefix) : Type 0 where
+  pub stands : Stands k w
+  pub inside : at ≤ length text
+  pub counted : line ≤ at + 1
+  pub same : networkFrom judge text 1 noNetwork 0 ≡ networkFrom judge text line w at
+
+pub lines-start : (judge : Bool) (text : List ℕ) → Lines judge text noLines 1 0 noNetwork
+lines-start judge text = record { stands = stands-none; inside = omega arith; counted = omega arith; same = refl }
+
+module _ {judge : Bool} {text : List ℕ} {k : Seen} {line at : ℕ} {w : NetPrefix} (h : Lines judge text k line at w) where
+  module _ {e n : ℕ} {s : Seen} (d : LineEnd text at e) (q : Stepped judge k (take (e - at) (drop at text)) n s) where
+    number : n ≡ refusal judge w (networkLine (take (e - at) (drop at text)))
+    number = number-is judge (h .stands) (q .good) (q .number)
+
+    pub lines-refused : (n ≡ 0 → ⊥) → networkFrom judge text 1 noNetwork 0 ≡ Refused n line
+    lines-refused z = h .same ∙ line-refused judge text line w at e d n (sym number) z
+
+    pub lines-next : n ≡ 0 → (m : NetworkLine) × (lineOf (take (e - at) (drop at text)) (q .read) ≡ some m) × Lines judge text s (line + 1) e (withNetworkLine line w m)
+    lines-next z =
+        let a = line-added judge (h .stands) (q .good) line (q .number) z (q .added z) in (
+          a .line,
+          a .kept,
+          record {
+            stands = a .stands;
+            inside = d .inside;
+            counted = omega (arith, h .counted, d .later);
+            same = h .same ∙ line-next judge text line w at e d (a .line) (a .form) (sym number ∙ z);
+          },
+        )
+
+  module _ (e : length text ≤ at) where
+    pub lines-unstarted : k .started ≡ false → networkFrom judge text 1 noNetwork 0 ≡ Refused 21 line
+    lines-unstarted f = h .same ∙ network-end judge text line w at e ∙ ended-unstarted (h .stands) line f
+
+    pub lines-ended : k .started ≡ true → networkFrom judge text 1 noNetwork 0 ≡ Good (record { p = k .p; m = k .m; norm = k .norm; nodes = w .nodes; outputs = w .outputs })
+    lines-ended f = h .same ∙ network-end judge text line w at e ∙ ended-good (h .stands) line f
+
+-- ---- Admission counts along.
 
 pub record AdmitStep (k : Seen) (t : Tally) (l : List ℕ) (r : Step) : Type 0 where
   pub step : Stepped true k l (r .number) (r .seen)
@@ -113,3 +96,58 @@ statsFrom k t =
       norm = t .norm;
       outputs = k .outputs;
     }
+
+tally-line : (l : List ℕ) (line : Line) (v : Lin) (i : ℕ) (w : NetPrefix) (m : NetworkLine) → Within l line → Takes line → lineIn l line v ≡ some m
+    → lineTally (tallyOf (w .nodes)) line v ≡ tallyOf (withNetworkLine i w m .nodes)
+unfolding lineTally lineIn withNetworkLine
+tally-line l Bad v i w m p t e = absurd (Option·none-ne-some _ e)
+tally-line l (NetRead q k n) v i w m p t e = ap (λ y. tallyOf (withNetworkLine i w y .nodes)) (Option·some-injective _ _ e)
+tally-line l (In a b) v i w m p t e = tally-input (w .nodes) (take (b - a) (drop a l)) ∙ ap (λ y. tallyOf (withNetworkLine i w y .nodes)) (Option·some-injective _ _ e)
+tally-line l Sum v i w m p t e = tally-sum (w .nodes) (v .constant) (termsOf v) ∙ ap (λ y. tallyOf (withNetworkLine i w y .nodes)) (Option·some-injective _ _ e)
+tally-line l (Boot j a b) v i w m p t e =
+    tally-table (w .nodes) j (bitsFrom (take (b - a) (drop a l))) (b - a) (t .0) (table-length p)
+    ∙ ap (λ y. tallyOf (withNetworkLine i w y .nodes)) (Option·some-injective _ _ e)
+tally-line l (Out a b u) v i w m p t e = ap (λ y. tallyOf (withNetworkLine i w y .nodes)) (Option·some-injective _ _ e)
+
+pub record Admitting (text : List ℕ) (k : Seen) (t : Tally) (line at : ℕ) : Type 0 where
+  pub said : NetPrefix
+  pub lines : Lines true text k line at said
+  pub tally : t ≡ tallyOf (said .nodes)
+
+pub admit-start : {k : Seen} {t : Tally} (text : List ℕ) → k ≡ noLines → t ≡ noNodes → Admitting text k t 1 0
+unfolding noNetwork
+admit-start text e f = rw e (record { said = noNetwork; lines = lines-start true text; tally = f ∙ tally-none })
+
+module _ {text : List ℕ} {k : Seen} {t : Tally} {line at : ℕ} (h : Admitting text k t line at) where
+  pub admit-room : Room t
+  admit-room = let s = h .lines .stands in rw (h .tally) (tally-room (h .said .nodes) (omega (arith, s .count, s .sized .count)))
+
+  module _ {e : ℕ} {r : Step} (d : LineEnd text at e) (q : AdmitStep k t (take (e - at) (drop at text)) r) where
+    pub admit-refused : (r .number ≡ 0 → ⊥) → NotAdmitted (r .number) line ≡ admission text
+    unfolding admission admitReply
+    admit-refused z = sym (ap admitReply (network-admitted text ∙ lines-refused (h .lines) d (q .step) z))
+
+    pub admit-next : {m : ℕ} → r .number ≡ 0 → m ≡ line + 1 → Admitting text (r .seen) (r .tally) m e
+    unfolding lineOf
+    admit-next z o =
+        let n = lines-next (h .lines) d (q .step) z in
+        let g = q .step .good in
+        let s = h .lines .stands in
+        rw o
+        (record {
+          said = withNetworkLine line (h .said) (n .0);
+          lines = n .2;
+          tally = q .tally z ∙ ap (λ u. lineTally u (q .step .read .line) (q .step .read .lin)) (h .tally)
+              ∙ tally-line (take (e - at) (drop at text)) (q .step .read .line) (q .step .read .lin) line (h .said) (n .0) (g .within) (number-takes true s g (q .step .number) z) (n .1);
+        })
+
+  module _ (e : length text ≤ at) where
+    pub admit-unstarted : k .started ≡ false → NotAdmitted 21 line ≡ admission text
+    unfolding admission admitReply
+    admit-unstarted f = sym (ap admitReply (network-admitted text ∙ lines-unstarted (h .lines) e f))
+
+    pub admit-ended : {x : Stats} → k .started ≡ true → x ≡ statsFrom k t → Admitted x ≡ admission text
+    unfolding admission admitReply statsFrom stats tallyOf
+    admit-ended f g =
+        let s = h .lines .stands in
+        ap Admitted (g ∙ rw (h .tally, s .inputs, s .outputs)) ∙ sym (ap admitReply (network-admitted text ∙ lines-ended (h .lines) e f))

@@ -1,8 +1,7 @@
 // Admission.
 ghost use mathlib.Core.Path.{_≡_};
 ghost use Rattle.rules.specs.NetworkText.{admission};
-ghost use Rattle.network.specs.Seen.{Sized};
-ghost use Rattle.network.specs.Step.{AdmitStep, statsFrom};
+ghost use Rattle.network.specs.Step.{Standing, AdmitStep, statsFrom};
 ghost use Rattle.network.specs.Tally.{Room};
 use rules::AdmitReply;
 use rules::Stats;
@@ -17,7 +16,7 @@ struct Step {
 }
 
 fn admit_line(k: Seen, t: Tally, l: &[u8]) -> Step
-    requires { ⌜ Sized k ⌝ }
+    requires { ⌜ Standing k ⌝ }
     requires { ⌜ Room t ⌝ }
     ensures { λ r. ⌜ AdmitStep k t (now (l .entry)) r ⌝ }
 {

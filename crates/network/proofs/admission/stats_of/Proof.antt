@@ -1,3 +1,5 @@
+use Rattle.network.specs.Step.{statsFrom}
+use mathlib.Core.Path.{refl}
 use Rattle.network.proofs.admission.stats_of.Statement.{statement}
 use Rattle.network.proofs.admission.stats_of.Tie as tie
 use Rattle.network.proofs.admission.stats_of.Reads as reads
@@ -5,7 +7,8 @@ use Rattle.network.proofs.admission.stats_of.Lts as lts
 
 -- src/admission.rt:42:1
 returns : tie.Need-returns
-returns c = ?
+unfolding statsFrom
+returns c = refl
 
 pub stats-of-spec : {M : Type 1} → statement M
 stats-of-spec = tie.close (tie.spec returns)
