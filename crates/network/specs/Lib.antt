@@ -9,3 +9,4 @@ pub mod Seen
 pub mod Verdict
 pub mod Stands
 pub mod Step
+pub mod Running

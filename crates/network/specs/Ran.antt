@@ -20,14 +20,15 @@ use Rattle.rules.specs.Circuit.{Name, Output}
 use Rattle.rules.specs.CircuitText.{noNode}
 use Rattle.rules.specs.Network.{Term, LutNode, Input, Linear, Bootstrap, sumFrom, nodeValue, nodeValues, wireValue, outputValues}
 use Rattle.rules.specs.Network as N
-use Rattle.rules.specs.NetworkText.{NetPrefix, sources, anyBadSource, unknown, nodeAt}
+use Rattle.rules.specs.NetworkText.{Net, NetworkLine, NetLine, NodeLine, OutLine, NetPrefix, sources, anyBadSource, unknown, nodeAt, started, settingsOf, withNetworkLine, noNetwork}
 use Rattle.rules.specs.Rotation.{rotated, rotatable, centre}
 use Rattle.rules.specs.Rotation as R
 use Rattle.rules.specs.Runs.{allBits}
 use Rattle.theorems.specs.RotationRule.{rotation-rule}
 use Rattle.network.specs.Table.{bits-small}
 use Rattle.network.specs.Verdict.{or-left, or-right}
-use Rattle.network.specs.Work.{byteOf, sumBytes}
+use Rattle.network.specs.Work.{byteOf, sumBytes, noValues, withValue, withOut}
+use Rattle.network.specs.declared.value.Work.{Work}
 
 -- ---- One node more.
 
@@ -52,12 +53,12 @@ values-more P bits vs (m ∷ ns) n = by (nodeValue P bits vs m) (λ v. values-mo
 
 -- ---- A `lin` takes bytes, a `boot` is a bit.
 
-same-byte : (a : ℕ) → a ≤ 255 → byteOf (pos a) ≡ pos a
+pub same-byte : (a : ℕ) → a ≤ 255 → byteOf (pos a) ≡ pos a
 unfolding byteOf
 same-byte a h = rw (le-leb a 255 h)
 
 -- What a `boot` of bits is.
-boot-byte : (P : ℕ) (table : List ℕ) (x y : ℤ) → T (allBits table) → rotated P table x ≡ some y → byteOf y ≡ y
+pub boot-byte : (P : ℕ) (table : List ℕ) (x y : ℤ) → T (allBits table) → rotated P table x ≡ some y → byteOf y ≡ y
 unfolding rotated rotatable
 boot-byte P table (negsuc a) y b e = absurd (Option·none-ne-some _ e)
 boot-byte P table (pos a) y b e =
@@ -138,3 +139,134 @@ module _ {ns : List LutNode} {values : List ℤ} (b : Bytes ns values) where
   unfolding wireValue noNode
   wire-is (Const b) e = refl
   wire-is (Node i) e = sym (front-value i (leb-false (length ns) i e))
+
+-- ---- The values so far, for these bits.
+
+abbrev pub valuesOf : List ℕ → NetPrefix → Option (List ℤ)
+valuesOf bits w = nodeValues (settingsOf (w .net) .p) bits [] (w .nodes)
+
+pub record Valued (bits : List ℕ) (w : NetPrefix) (u : Work) : Type 0 where
+  pub values : valuesOf bits w ≡ some (take (length (w .nodes)) (u .values))
+  pub bytes : Bytes (w .nodes) (u .values)
+  pub room : length (u .outs) ≡ 32
+  pub outs : take (length (w .outputs)) (u .outs) ≡ outputValues (w .outputs) (take (length (w .nodes)) (u .values))
+
+pub record Ran (bits : List ℕ) (w : NetPrefix) (u : Work) : Type 0 where
+  pub fresh : started w ≡ false → w .nodes ≡ []
+  pub broken : u .broken ≡ true → valuesOf bits w ≡ none
+  pub whole : u .broken ≡ false → Valued bits w u
+
+pub ran-none : (bits : List ℕ) → Ran bits noNetwork (noValues false)
+unfolding noNetwork noValues nodeValues outputValues
+ran-none bits =
+    record {
+      fresh = λ e. refl;
+      broken = λ e. absurd (true≢false (sym e));
+      whole = λ e.
+          record {
+            values = refl;
+            bytes = record { long = refl; within = omega arith; byte = λ i h f. absurd (not-suc-le-zero h) };
+            room = refl;
+            outs = refl;
+          };
+    }
+
+-- no output yet
+no-outputs : (os : List Output) → leb 1 (length os) ≡ false → os ≡ []
+no-outputs [] e = refl
+no-outputs (o ∷ os) e = absurd (true≢false (sym (le-leb 1 (suc (length os)) (omega arith)) ∙ e))
+
+outputs-more : (os : List Output) (o : Output) (vs : List ℤ) → outputValues (os ++ (o ∷ [])) vs ≡ outputValues os vs ++ (wireValue vs (o .wire) ∷ [])
+unfolding outputValues
+outputs-more [] o vs = refl
+outputs-more (p ∷ os) o vs = ap {B = List ℤ} (λ l. wireValue vs (p .wire) ∷ l) (outputs-more os o vs)
+
+none-out : (os : List Output) → os ≡ [] → (outs vs : List ℤ) → take (length os) outs ≡ outputValues os vs
+unfolding outputValues
+none-out os e outs vs = rw e
+
+module _ (bits : List ℕ) (i : ℕ) (w : NetPrefix) (u : Work) (r : Ran bits w u) where
+  -- a `net` line
+  pub ran-net : (n : Net) → started w ≡ false → Ran bits (withNetworkLine i w (NetLine n)) u
+  unfolding withNetworkLine started settingsOf nodeValues
+  ran-net n s =
+      let e = r .fresh s in
+      record {
+        fresh = λ f. absurd (true≢false f);
+        broken = λ b. let q = r .broken b in absurd (Option·none-ne-some [] (sym q ∙ ap (λ l. nodeValues (settingsOf (w .net) .p) bits [] l) e));
+        whole = λ b.
+            let v = r .whole b in
+            record { values = rw e; bytes = v .bytes; room = v .room; outs = v .outs };
+      }
+
+  module _ (n : LutNode) (s : started w ≡ true) (o : leb 1 (length (w .outputs)) ≡ false) (h : length (w .nodes) < 672) where
+    later : started (withNetworkLine i w (NodeLine n)) ≡ false → (w .nodes ++ (n ∷ [])) ≡ []
+    unfolding withNetworkLine started
+    later e = absurd (true≢false (sym s ∙ e))
+
+    -- once it broke off it stays so
+    pub ran-still : u .broken ≡ true → Ran bits (withNetworkLine i w (NodeLine n)) u
+    unfolding withNetworkLine after
+    ran-still b =
+        record {
+          fresh = later;
+          broken = λ _. values-more (settingsOf (w .net) .p) bits [] (w .nodes) n ∙ ap (λ z. after z (λ us. N.withValue (nodeValue (settingsOf (w .net) .p) bits us n) (λ v. some (us ++ (v ∷ []))))) (r .broken b);
+          whole = λ f. absurd (true≢false (sym b ∙ f));
+        }
+
+    module _ (b : u .broken ≡ false) where
+      next : (x : Option ℤ) → nodeValue (settingsOf (w .net) .p) bits (take (length (w .nodes)) (u .values)) n ≡ x
+          → nodeValues (settingsOf (w .net) .p) bits [] (w .nodes ++ (n ∷ [])) ≡ N.withValue x (λ y. some (take (length (w .nodes)) (u .values) ++ (y ∷ [])))
+      unfolding after
+      next x e =
+          values-more (settingsOf (w .net) .p) bits [] (w .nodes) n
+          ∙ ap (λ z. after z (λ us. N.withValue (nodeValue (settingsOf (w .net) .p) bits us n) (λ y. some (us ++ (y ∷ []))))) (r .whole b .values)
+          ∙ ap (λ z. N.withValue z (λ y. some (take (length (w .nodes)) (u .values) ++ (y ∷ [])))) e
+
+      pub ran-breaks : nodeValue (settingsOf (w .net) .p) bits (take (length (w .nodes)) (u .values)) n ≡ none → Ran bits (withNetworkLine i w (NodeLine n)) (noValues true)
+      unfolding withNetworkLine noValues N.withValue
+      ran-breaks e = record { fresh = later; broken = λ _. next none e; whole = λ f. absurd (true≢false f) }
+
+      pub ran-goes : (x : ℤ) → nodeValue (settingsOf (w .net) .p) bits (take (length (w .nodes)) (u .values)) n ≡ some x → (N.isLinear n ≡ false → byteOf x ≡ x)
+          → Ran bits (withNetworkLine i w (NodeLine n)) (withValue u (length (w .nodes)) x)
+      unfolding withNetworkLine withValue N.withValue
+      ran-goes x e f =
+          let v = r .whole b in
+          let q : length (w .nodes ++ (n ∷ [])) ≡ length (w .nodes) + 1 = length-append (w .nodes) (n ∷ []) in
+          let m = front-more (v .bytes) x h in
+          record {
+            fresh = later;
+            broken = λ g. absurd (true≢false (sym g ∙ b));
+            whole = λ g.
+                record {
+                  values = next (some x) e ∙ ap {B = Option (List ℤ)} some (sym (ap (λ k. take k (set (u .values) (length (w .nodes)) x)) q ∙ m));
+                  bytes = bytes-more (v .bytes) n x h f;
+                  room = v .room;
+                  outs = none-out (w .outputs) (no-outputs (w .outputs) o) (u .outs) (take (length (w .nodes ++ (n ∷ []))) (set (u .values) (length (w .nodes)) x));
+                };
+          }
+
+  -- an output
+  module _ (p : Output) (h : length (w .outputs) < 32) (k : noNode (length (w .nodes)) (p .wire) ≡ false) where
+    pub ran-out-still : u .broken ≡ true → Ran bits (withNetworkLine i w (OutLine p)) u
+    unfolding withNetworkLine started
+    ran-out-still b = record { fresh = r .fresh; broken = λ _. r .broken b; whole = λ f. absurd (true≢false (sym b ∙ f)) }
+
+    pub ran-out : u .broken ≡ false → Ran bits (withNetworkLine i w (OutLine p)) (withOut u (length (w .outputs)) (wireValue (u .values) (p .wire)))
+    unfolding withNetworkLine started withOut
+    ran-out b =
+        let v = r .whole b in
+        let x = wireValue (u .values) (p .wire) in
+        let q : length (w .outputs ++ (p ∷ [])) ≡ suc (length (w .outputs)) = length-append (w .outputs) (p ∷ []) ∙ add-one (length (w .outputs)) in
+        record {
+          fresh = r .fresh;
+          broken = λ g. absurd (true≢false (sym g ∙ b));
+          whole = λ g.
+              record {
+                values = v .values;
+                bytes = v .bytes;
+                room = simp length-set (v .room);
+                outs = ap (λ m. take m (set (u .outs) (length (w .outputs)) x)) q ∙ take-suc-set (u .outs) (length (w .outputs)) x (let l = v .room in omega arith)
+                    ∙ ap₂ {C = List ℤ} (λ l y. l ++ (y ∷ [])) (v .outs) (wire-is (v .bytes) (p .wire) k) ∙ sym (outputs-more (w .outputs) p (take (length (w .nodes)) (u .values)));
+              };
+        }
