@@ -10,3 +10,4 @@ pub mod Verdict
 pub mod Stands
 pub mod Step
 pub mod Running
+pub mod Run

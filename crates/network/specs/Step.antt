@@ -59,11 +59,12 @@ module _ {judge : Bool} {text : List ℕ} {k : Seen} {line at : ℕ} {w : NetPre
     pub lines-refused : (n ≡ 0 → ⊥) → networkFrom judge text 1 noNetwork 0 ≡ Refused n line
     lines-refused z = h .same ∙ line-refused judge text line w at e d n (sym number) z
 
-    pub lines-next : n ≡ 0 → (m : NetworkLine) × (lineOf (take (e - at) (drop at text)) (q .read) ≡ some m) × Lines judge text s (line + 1) e (withNetworkLine line w m)
+    pub lines-next : n ≡ 0 → (m : NetworkLine) × (lineOf (take (e - at) (drop at text)) (q .read) ≡ some m) × (networkLine (take (e - at) (drop at text)) ≡ some m) × Lines judge text s (line + 1) e (withNetworkLine line w m)
     lines-next z =
         let a = line-added judge (h .stands) (q .good) line (q .number) z (q .added z) in (
           a .line,
           a .kept,
+          a .form,
           record {
             stands = a .stands;
             inside = d .inside;
@@ -136,7 +137,7 @@ module _ {text : List ℕ} {k : Seen} {t : Tally} {line at : ℕ} (h : Admitting
         rw o
         (record {
           said = withNetworkLine line (h .said) (n .0);
-          lines = n .2;
+          lines = n .3;
           tally = q .tally z ∙ ap (λ u. lineTally u (q .step .read .line) (q .step .read .lin)) (h .tally)
               ∙ tally-line (take (e - at) (drop at text)) (q .step .read .line) (q .step .read .lin) line (h .said) (n .0) (g .within) (number-takes true s g (q .step .number) z) (n .1);
         })

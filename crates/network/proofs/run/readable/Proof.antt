@@ -1,0 +1,11 @@
+use Rattle.network.proofs.run.readable.Statement.{statement}
+use Rattle.network.proofs.run.readable.Tie as tie
+use Rattle.network.proofs.run.readable.Reads as reads
+use Rattle.network.proofs.run.readable.Lts as lts
+
+-- src/run.rt:65:1
+returns : tie.Need-returns
+returns c = ?
+
+pub readable-spec : {M : Type 1} → statement M
+readable-spec = tie.close (tie.spec returns)

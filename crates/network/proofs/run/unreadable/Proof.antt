@@ -1,0 +1,11 @@
+use Rattle.network.proofs.run.unreadable.Statement.{statement}
+use Rattle.network.proofs.run.unreadable.Tie as tie
+use Rattle.network.proofs.run.unreadable.Reads as reads
+use Rattle.network.proofs.run.unreadable.Lts as lts
+
+-- src/run.rt:52:1
+returns : tie.Need-returns
+returns c = ?
+
+pub unreadable-spec : {M : Type 1} → statement M
+unreadable-spec = tie.close (tie.spec returns)
