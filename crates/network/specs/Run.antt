@@ -9,9 +9,10 @@ use native.Mathlib.Omega.{arith}
 use borrow.Author.Tests.{eq-eqb, ne-eqb, le-leb, lt-leb, lt-ltb, le-ltb}
 use lib.Dec.{leb, ltb, eqb}
 use lib.IntN.{ℤ, pos}
-use lib.ListN.{length, getD, take, drop, replicate, length-take, drop-of-length-le}
-use lib.Seq.{drop-cons}
-use Rattle.laws.specs.Over.{over}
+use lib.ListN.{length, getD, set, take, drop, replicate, length-take, drop-of-length-le}
+use lib.Seq.{drop-cons, getD-take}
+use Rattle.laws.specs.Front.{front, front-step}
+use Rattle.laws.specs.Over.{over, front-over}
 use Rattle.laws.specs.Test.{if_then_else_}
 use Rattle.rules.specs.declared.RunReply.{RunReply}
 use Rattle.rules.specs.declared.RunReply.the-variants.{Ran as Finished, Unreadable, BadBits, ShortBuffer, BrokenOff}
@@ -186,3 +187,15 @@ module _ {text bits : List ℕ} {r : Run} (buffer : List ℤ) (t : TextRun text 
         entry-ran after k e =
             let n : length (take (r .outputs) (r .outs)) ≡ r .outputs = let q = good .room k in let w = good .few in simp length-take (omega arith) in
             rw e (sym (opened ∙ rw (sym judged ∙ f, le-ltb (length buffer) (length (good .net .outputs)) enough, good .whole k, n)))
+
+-- ---- The values written.
+
+module _ (outs buffer values : List ℤ) (n i : ℕ) (l : length outs ≡ 32) (few : n ≤ 32) (h : n ≤ length buffer) (v : values ≡ front (take n outs) buffer i) where
+  long : length (take n outs) ≡ n
+  long = simp length-take (omega arith)
+
+  pub write-next : (x : ℤ) → i < n → x ≡ getD outs i (pos 0) → set values i x ≡ front (take n outs) buffer (i + 1)
+  write-next x k e = front-step (take n outs) buffer values i x (pos 0) v (e ∙ sym (getD-take n outs i (pos 0) k)) (omega (arith, long)) (omega arith)
+
+  pub write-done : i ≤ n → n ≤ i → values ≡ over (take n outs) buffer
+  write-done k m = v ∙ front-over (take n outs) buffer i (omega (arith, long)) (omega (arith, long))

@@ -3,10 +3,10 @@ ghost use mathlib.Core.Path.{_≡_};
 ghost use Rattle.rules.specs.NetworkText.{admission};
 ghost use Rattle.network.specs.Step.{Standing, AdmitStep, statsFrom};
 ghost use Rattle.network.specs.Tally.{Room};
-use rules::AdmitReply;
-use rules::Stats;
 use crate::seen::Seen;
 use crate::tally::Tally;
+use rules::AdmitReply;
+use rules::Stats;
 
 // The lines so far with one more, or the number that it is refused with.
 struct Step {

@@ -6,9 +6,9 @@ ghost use Rattle.laws.specs.Over.{over};
 ghost use Rattle.rules.specs.Runs.{ran, bitsFor, runNetwork};
 ghost use Rattle.network.specs.Step.{Standing};
 ghost use Rattle.network.specs.Run.{RunStep, unreadableRun, readableRun, TextRun};
-use rules::RunReply;
 use crate::seen::Seen;
 use crate::value::Work;
+use rules::RunReply;
 
 // The lines so far with one more, or the number that it is refused with.
 struct Step {
@@ -120,7 +120,7 @@ fn is_bits_for(n: usize, bits: &[u8]) -> bool
 
 // The first n values written to the buffer's front.
 fn write_values(outs: &[i64; 32], n: usize, values: &mut [i64])
-    requires { ⌜ (n ≤ 32) × (n ≤ length (now values)) ⌝ }
+    requires { ⌜ (length (now outs) ≡ 32) × (n ≤ 32) × (n ≤ length (now values)) ⌝ }
     ensures { λ _. ⌜ now (values .exit) ≡ over (take n (now (outs .entry))) (now (values .entry)) ⌝ }
 {
     let mut i = 0;

@@ -9,12 +9,12 @@ ghost use Rattle.network_text.specs.Lines.{Within};
 ghost use Rattle.network_text.specs.Terms.{Small, termsOf};
 ghost use Rattle.network.specs.Table.{valueOf};
 ghost use Rattle.network.specs.Work.{byteOf, sumBytes, Sourced, KnownWire, noValues, withValue, withOut, bootWork, lineWork, Ready};
+use crate::table::Value;
+use crate::table::wide;
 use network_text::Lin;
 use network_text::Line;
 use network_text::Read;
 use rules::Wire;
-use crate::table::Value;
-use crate::table::wide;
 
 // The value of each node and of each output so far; none of them where a boot broke off.
 pub struct Work {
@@ -130,13 +130,25 @@ fn run_good(w: Work, p: usize, count: usize, outputs: usize, bits: &[u8], l: &[u
         Line::Net(_, _, _) => w,
         Line::In(_, _) => with_value(w, count, bit_at(bits, count)),
         Line::Lin => with_value(w, count, sum_of(&values, lin)),
-        Line::Boot(source, a, e) => run_boot(w, count, crate::table::boot_at(p, values[source], l, a, e)),
+        Line::Boot(source, a, e) => run_boot(
+            w,
+            count,
+            crate::table::boot_at(p, values[source], l, a, e),
+        ),
         Line::Out(_, _, wire) => with_out(w, outputs, wire_value(&values, wire)),
     }
 }
 
 // Nothing more is run once a boot broke off.
-pub fn run_line(w: Work, p: usize, count: usize, outputs: usize, bits: &[u8], l: &[u8], r: Read) -> Work
+pub fn run_line(
+    w: Work,
+    p: usize,
+    count: usize,
+    outputs: usize,
+    bits: &[u8],
+    l: &[u8],
+    r: Read,
+) -> Work
     requires { ⌜ Small (r .lin) ⌝ }
     requires { ⌜ Within (now l) (r .line) ⌝ }
     requires { ⌜ Ready count outputs (r .line) (r .lin) ⌝ }
