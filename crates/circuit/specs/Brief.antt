@@ -1,21 +1,20 @@
 -- A line as the code keeps it, which decides its conditions and, where it meets none, what it adds.
 use mathlib.Core.Path.{_≡_, refl, sym, ap, ap₂, _∙_}
 use mathlib.Core.Bool.{Bool, true, false, _&&_, _||_, not, true≢false}
-use mathlib.Core.List.{List, [], _∷_, _++_}
-use mathlib.Core.Logic.{⊎-elim}
-use mathlib.Core.Option.{Option, none, some}
-use Prim.Native.Nat.{ℕ, zero, suc, _+_, _*_, _<_, _≤_, min}
+use mathlib.Core.List.{List, [], _∷_}
+use mathlib.Core.Option.{none}
+use Prim.Native.Nat.{ℕ, suc, _*_, _≤_}
 use native.Mathlib.Omega.{arith}
 use borrow.Author.Tests.{lt-ltb, leb-false}
-use lib.Dec.{leb, ltb, eqb, leb→le}
+use lib.Dec.{leb, ltb, leb→le}
 use lib.ListN.{length}
-use Rattle.laws.specs.Test.{if_then_else_, isSome, is-T, and-left, and-right}
+use Rattle.laws.specs.Test.{isSome, is-T, and-left, and-right}
 use Rattle.rules.specs.declared.Settings.{Settings}
 use Rattle.rules.specs.declared.Wire.{Wire}
 use Rattle.rules.specs.declared.Wire.the-variants.{Const, Node}
 use Rattle.rules.specs.Builder.{tableLimits}
-use Rattle.rules.specs.Circuit.{Name, Gate, Output}
-use Rattle.rules.specs.CircuitText.{CircuitLine, FbsLine, InLine, GateLine, OutLine, Prefix, inLimits, some?, listed, nodeCount, noNode, anyNoNode, matching, conditions, withLine}
+use Rattle.rules.specs.Circuit.{Name}
+use Rattle.rules.specs.CircuitText.{CircuitLine, FbsLine, InLine, GateLine, OutLine, Prefix, inLimits, some?, listed, nodeCount, noNode, anyNoNode, matching, conditions}
 use Rattle.rules.specs.Form.{Condition, _when_}
 use Rattle.text.specs.Cap.{cap-table, cap-ten, cap-small}
 use Rattle.text.specs.Wire.{capWire}
@@ -98,15 +97,15 @@ limits-small s e =
     let p = leb→le (s .p) 16 (and-right (leb 2 (s .p)) _ (and-left (leb 2 (s .p) && leb (s .p) 16) _ (and-left (leb 2 (s .p) && leb (s .p) 16 && leb (s .p) (s .m)) _ table))) in
     rw (cap-small (s .p) (omega arith), cap-small (s .m) (omega arith), cap-small (s .t) (omega arith))
 
-or-left : (a b : Bool) → (a || b) ≡ false → a ≡ false
+pub or-left : (a b : Bool) → (a || b) ≡ false → a ≡ false
 or-left true b e = e
 or-left false b e = refl
 
-or-right : (a b : Bool) → (a || b) ≡ false → b ≡ false
+pub or-right : (a b : Bool) → (a || b) ≡ false → b ≡ false
 or-right true b e = absurd (true≢false e)
 or-right false b e = e
 
-not-false : (b : Bool) → not b ≡ false → b ≡ true
+pub not-false : (b : Bool) → not b ≡ false → b ≡ true
 not-false true e = refl
 not-false false e = absurd (true≢false e)
 

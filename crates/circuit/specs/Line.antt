@@ -1,20 +1,20 @@
 -- Lines as the code reads them: where names and bits stand, and what is kept of the rest.
 use mathlib.Core.Path.{_≡_, refl, sym, ap, subst, _∙_}
 use mathlib.Core.Bool.{Bool, true, false}
-use mathlib.Core.List.{List, [], _∷_}
+use mathlib.Core.List.{List}
 use mathlib.Core.Option.{Option, none, some, Option·some-injective, Option·none-ne-some}
-use Prim.Native.Nat.{ℕ, suc, _-_, _≤_}
+use Prim.Native.Nat.{ℕ, _-_, _≤_}
 use native.Mathlib.Omega.{arith}
 use lib.Dec.{leb→le}
-use lib.ListN.{length, take, drop, length-take, length-drop}
+use lib.ListN.{length, take, drop, length-take}
 use Rattle.laws.specs.Test.{if_then_else_, is-T}
 use Rattle.rules.specs.declared.Wire.{Wire}
 use Rattle.rules.specs.CircuitText.{CircuitLine, GateLine}
 use Rattle.rules.specs.Form.{Piece, give, onward, run, runOf, bits, isBits, isBitByte, bitsFrom}
-use Rattle.text.specs.Reads.{Reads}
 use Rattle.circuit.specs.declared.GateRead.{GateRead}
 use Rattle.circuit.specs.declared.GateRead.the-variants.{At as GateAt, Nothing as NoGate}
 use Rattle.circuit.specs.declared.Wires.{Wires}
+use Rattle.circuit.specs.Bits.{bits-length}
 use Rattle.circuit.specs.Brief.{Brief, GateBrief, brief}
 use Rattle.circuit.specs.Wires.{noWires, withWires}
 
@@ -31,6 +31,19 @@ briefed-some n {x = x} e h = ap (λ w. some (record { value = w; rest = x })) h 
 pub briefed-none : (n : ℕ) {o : Option (Piece CircuitLine)} → o ≡ none → none ≡ briefed n o
 unfolding briefed
 briefed-none n e = sym (ap (briefed n) e)
+
+pub exact-line : (n : ℕ) {b : Brief} {x : List ℕ} (o : Option (Piece CircuitLine)) → briefed n o ≡ some (record { value = b; rest = x })
+    → (l : CircuitLine) × (o ≡ some (record { value = l; rest = x })) × (b ≡ brief n l)
+unfolding briefed
+exact-line n none e = absurd (Option·none-ne-some _ e)
+exact-line n (some p) e =
+    let q = Option·some-injective _ _ e in
+    (p .value, ap (λ y. some (record { value = p .value; rest = y })) (ap (λ t. t .rest) q), sym (ap (λ t. t .value) q))
+
+pub exact-no-line : (n : ℕ) (o : Option (Piece CircuitLine)) → briefed n o ≡ none → o ≡ none
+unfolding briefed
+exact-no-line n none e = refl
+exact-no-line n (some p) e = absurd (Option·none-ne-some _ (sym e))
 
 -- ---- A gate's line: its bits stand from d up to e.
 
@@ -49,11 +62,6 @@ gate-brief n b ws e = ap (GateBrief b) e
 abbrev pub BitsIn : ℕ → GateRead → Type 0
 BitsIn k (GateAt d e v z) = (d ≤ e) × (e ≤ k)
 BitsIn k NoGate = Unit {0}
-
-pub bits-length : (w : List ℕ) → length (bitsFrom w) ≡ length w
-unfolding bitsFrom
-bits-length [] = refl
-bits-length (b ∷ w) = ap suc (bits-length w)
 
 some-bits : (l w x : List ℕ) → bits l ≡ some (record { value = w; rest = x }) → 1 ≤ length w
 unfolding bits runOf isBits onward

@@ -1,12 +1,12 @@
 -- A gate's wires, of which the code keeps how many there are, the first two, and whether one goes to no earlier node.
-use mathlib.Core.Path.{_≡_, refl, sym, ap, _∙_}
-use mathlib.Core.Bool.{Bool, true, false, _&&_, _||_, or-false, or-assoc}
+use mathlib.Core.Path.{_≡_, refl, sym, _∙_}
+use mathlib.Core.Bool.{Bool, false, _&&_, _||_, or-false, or-assoc}
 use mathlib.Core.Logic.{⊎-elim}
 use mathlib.Core.List.{List, [], _∷_}
-use Prim.Native.Nat.{ℕ, zero, suc, _+_, _<_, _≤_, min}
+use Prim.Native.Nat.{ℕ, suc, _<_, _≤_, min}
 use native.Mathlib.Omega.{arith}
-use borrow.Author.Tests.{le-leb, lt-leb, eq-eqb, ne-eqb}
-use lib.Dec.{leb, ltb, eqb}
+use borrow.Author.Tests.{le-leb, lt-leb, ne-eqb}
+use lib.Dec.{eqb}
 use lib.ListN.{length}
 use Rattle.laws.specs.Test.{if_then_else_, lt-or-le}
 use Rattle.rules.specs.declared.Wire.{Wire}

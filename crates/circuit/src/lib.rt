@@ -1,31 +1,46 @@
 // The circuit's text: its lines, the refusals 1 to 7, and a run of the circuit.
 ghost use mathlib.Core.Path.{_≡_};
-ghost use mathlib.Core.Bool.{false, _&&_, _||_, not};
+ghost use mathlib.Core.Bool.{true, false, _&&_, _||_, not};
 ghost use mathlib.Core.List.{[], _∷_};
-ghost use Prim.Native.Nat.{ℕ, _+_, _*_, _≤_};
-ghost use lib.Dec.{leb, ltb, eqb};
-ghost use lib.ListN.{length, getD, drop};
-ghost use Rattle.laws.specs.Test.{if_then_else_};
+ghost use Prim.Native.Nat.{ℕ, _+_, _*_, _-_, _<_, _≤_};
+ghost use lib.Dec.{leb, ltb};
+ghost use lib.ListN.{length, take, drop};
+ghost use Rattle.laws.specs.Over.{over};
 ghost use Rattle.rules.specs.Builder.{tableLimits};
-ghost use Rattle.rules.specs.CircuitText.{noNode, policy, tables, fbsLine, gateLine};
+ghost use Rattle.rules.specs.CircuitText.{noNode, policy, tables, fbsLine, gateLine, circuitLine, readCircuit};
 ghost use Rattle.rules.specs.Form.{_when_};
-ghost use Rattle.rules.specs.Circuit.{wireBit};
+ghost use Rattle.rules.specs.Runs.{allBits, bitsFor, ran, runCircuit};
+ghost use Rattle.rules.specs.Circuit.{wireBit, gateBit, gateValues};
 ghost use Rattle.text.specs.Capped.{capped};
+ghost use Rattle.text.specs.Forms.{Named};
+ghost use Rattle.text.specs.Gives.{Each};
 ghost use Rattle.text.specs.Judged.{lowest};
 ghost use Rattle.text.specs.Reads.{Reads};
 ghost use Rattle.text.specs.Wire.{capWire, wireTaken, wireEnd};
+ghost use Rattle.circuit.specs.Added.{Sized, withSettings, withInput, withGate, withOut};
+ghost use Rattle.circuit.specs.Bits.{bitsAt};
+ghost use Rattle.circuit.specs.Brief.{FbsBrief, InBrief, GateBrief, OutBrief};
 ghost use Rattle.circuit.specs.Line.{briefed, gateTaken, gateEnd, BitsIn};
+ghost use Rattle.circuit.specs.LineRead.{LineIs};
+ghost use Rattle.circuit.specs.Reading.{readingOf};
+ghost use Rattle.circuit.specs.Run.{padded, Runs, outputBits};
 ghost use Rattle.circuit.specs.Settings.{policyTaken, policyEnd, tablesTaken, tablesEnd, fbsTail, tailTaken, tailEnd, capSettings, fbsTaken, fbsEnd};
-ghost use Rattle.circuit.specs.View.{gateOf};
+ghost use Rattle.circuit.specs.Sound.{SoundGate, SoundOutput};
+ghost use Rattle.circuit.specs.Took.{Ready, Took, TookLine, Blank};
+ghost use Rattle.circuit.specs.View.{gateOf, gatesOf, outputsOf};
 ghost use Rattle.circuit.specs.Wires.{noWires, withWire, shape};
 ghost use Rattle.circuit.specs.WiresRead.{spacedWire, wiresTaken, wiresFrom};
 use rules::Limit;
 use rules::Policy;
+use rules::RunReply;
 use rules::Settings;
 use rules::Wire;
 use text::Found;
 use text::LimitRead;
+use text::Name;
+use text::NameRead;
 use text::Number;
+use text::OutRead;
 use text::WireRead;
 
 // What is kept of a gate's wires: how many (3 for more), the first two, and whether one of them goes to no earlier node.
@@ -43,6 +58,23 @@ pub struct Gate {
     pub right: Wire,
     pub bits: [u8; 4],
     pub line: usize,
+}
+
+// An output: its name and its wire.
+pub struct Out {
+    pub name: Name,
+    pub wire: Wire,
+}
+
+// A circuit: its settings, its inputs, its gates and its outputs.
+pub struct Circuit {
+    pub settings: Settings,
+    pub inputs: usize,
+    pub names: [Name; 32],
+    pub gate_count: usize,
+    pub gates: [Gate; 96],
+    pub out_count: usize,
+    pub outs: [Out; 32],
 }
 
 // Whether a wire goes to none of n nodes.
@@ -275,6 +307,97 @@ fn read_gate(s: &[u8], at: usize, n: usize) -> GateRead
     GateRead::At(d, e, v, last)
 }
 
+// A line: its settings; its name from start to end; its bits from start to end, and its wires; its name, and its wire.
+enum Line {
+    Fbs(Settings),
+    In(usize, usize),
+    Gate(usize, usize, Wires),
+    Out(usize, usize, Wire),
+    Nothing,
+}
+
+// All of s as a line, after n nodes.
+fn read_line(s: &[u8], n: usize) -> Line
+    ensures { λ r. ⌜ LineIs n (now (s .entry)) r ⌝ }
+{
+    if let FbsRead::At(f, e) = read_fbs(s, 0) {
+        return if e == s.len() {
+            Line::Fbs(f)
+        } else {
+            Line::Nothing
+        };
+    }
+    if let NameRead::At(a, b, e) = text::read_in(s, 0) {
+        return if e == s.len() {
+            Line::In(a, b)
+        } else {
+            Line::Nothing
+        };
+    }
+    if let GateRead::At(d, c, v, e) = read_gate(s, 0, n) {
+        return if e == s.len() {
+            Line::Gate(d, c, v)
+        } else {
+            Line::Nothing
+        };
+    }
+    if let OutRead::At(a, b, w, e) = text::read_out(s, 0) {
+        return if e == s.len() {
+            Line::Out(a, b, w)
+        } else {
+            Line::Nothing
+        };
+    }
+    Line::Nothing
+}
+
+// What a line makes of the circuit: the lowest number that it meets, or 0 and the circuit with the line.
+struct Step {
+    number: usize,
+    circuit: Circuit,
+}
+
+fn with_settings(c: Circuit, f: Settings) -> Circuit
+    ensures { λ r. ⌜ r ≡ withSettings c f ⌝ }
+{
+    let mut d = c;
+    d.settings = f;
+    d
+}
+
+fn with_input(c: Circuit, name: Name) -> Circuit
+    requires { ⌜ c .inputs < 32 ⌝ }
+    ensures { λ r. ⌜ r ≡ withInput c name ⌝ }
+{
+    let mut d = c;
+    let k = d.inputs;
+    d.names[k] = name;
+    d.inputs = k + 1;
+    d
+}
+
+fn with_gate(c: Circuit, gate: Gate) -> Circuit
+    requires { ⌜ c .«gate_count» < 96 ⌝ }
+    ensures { λ r. ⌜ r ≡ withGate c gate ⌝ }
+{
+    let mut d = c;
+    let k = d.gate_count;
+    d.gates[k] = gate;
+    d.gate_count = k + 1;
+    d
+}
+
+fn with_out(c: Circuit, out: Out) -> Circuit
+    requires { ⌜ c .«out_count» < 32 ⌝ }
+    ensures { λ r. ⌜ r ≡ withOut c out ⌝ }
+{
+    let mut d = c;
+    let k = d.out_count;
+    d.outs[k] = out;
+    d.out_count = k + 1;
+    d
+}
+
 // P from 2 to 16, M from P to 2P.
 pub fn is_within(p: usize, m: usize) -> bool
     ensures { λ r. ⌜ r ≡ tableLimits p m ⌝ }
@@ -368,6 +491,197 @@ fn out_number(started: bool, outs: usize, astray: bool) -> usize
     if astray { 6 } else { 0 }
 }
 
+fn bit_of(b: u8) -> u8
+    ensures { λ r. ⌜ r ≡ b - 48 ⌝ }
+{
+    if b < b'0' { 0 } else { b - b'0' }
+}
+
+// The bits that stand in s from d up to e.
+fn bits_of(s: &[u8], d: usize, e: usize) -> [u8; 4]
+    requires { ⌜ (d ≤ e) × (e ≤ length (now s)) × (e ≤ d + 4) ⌝ }
+    ensures { λ r. ⌜ take (e - d) r ≡ bitsAt (now (s .entry)) d (e - d) ⌝ }
+{
+    let mut bits = [0u8; 4];
+    let mut i = 0;
+    while i < e - d {
+        bits[i] = bit_of(s[d + i]);
+        i += 1;
+    }
+    bits
+}
+
+fn take_fbs(c: Circuit, line: usize, f: Settings) -> Step
+    requires { ⌜ Ready line c ⌝ }
+    ensures { λ r. ⌜ Took line c (FbsBrief f) r ⌝ }
+{
+    let within = is_within(f.p, f.m);
+    let number = fbs_number(line != 1, within, f.t);
+    let circuit = with_settings(c, f);
+    Step { number, circuit }
+}
+
+fn take_in(c: Circuit, line: usize, s: &[u8], a: usize, b: usize) -> Step
+    requires { ⌜ Ready line c ⌝ }
+    requires { ⌜ Named (length (now s)) a b ⌝ }
+    ensures { λ r. ⌜ Took line c (InBrief (take (b - a) (drop a (now (s .entry))))) r ⌝ }
+{
+    let name = text::name_of(s, a, b);
+    let names = c.names;
+    let repeated = text::is_listed(names, c.inputs, name);
+    let number = in_number(line != 1, c.inputs, c.gate_count, c.out_count, repeated);
+    if number != 0 {
+        return Step { number, circuit: c };
+    }
+    let circuit = with_input(c, name);
+    Step { number: 0, circuit }
+}
+
+fn take_gate(c: Circuit, line: usize, s: &[u8], d: usize, e: usize, v: Wires) -> Step
+    requires { ⌜ Ready line c ⌝ }
+    requires { ⌜ (d ≤ e) × (e ≤ length (now s)) ⌝ }
+    ensures { λ r. ⌜ Took line c (GateBrief (bitsAt (now (s .entry)) d (e - d)) v) r ⌝ }
+{
+    let number = gate_number(
+        line != 1,
+        c.gate_count,
+        c.out_count,
+        v.astray,
+        v.count,
+        e - d,
+    );
+    if number != 0 {
+        return Step { number, circuit: c };
+    }
+    let bits = bits_of(s, d, e);
+    let left = v.left;
+    let right = v.right;
+    let gate = Gate {
+        arity: v.count,
+        left,
+        right,
+        bits,
+        line,
+    };
+    let circuit = with_gate(c, gate);
+    Step { number: 0, circuit }
+}
+
+fn take_out(c: Circuit, line: usize, s: &[u8], a: usize, b: usize, wire: Wire) -> Step
+    requires { ⌜ Ready line c ⌝ }
+    requires { ⌜ Named (length (now s)) a b ⌝ }
+    ensures { λ r. ⌜ Took line c (OutBrief (take (b - a) (drop a (now (s .entry)))) wire) r ⌝ }
+{
+    let astray = is_astray(c.inputs + c.gate_count, wire);
+    let number = out_number(line != 1, c.out_count, astray);
+    if number != 0 {
+        return Step { number, circuit: c };
+    }
+    let name = text::name_of(s, a, b);
+    let out = Out { name, wire };
+    let circuit = with_out(c, out);
+    Step { number: 0, circuit }
+}
+
+// All of s as a line, the circuit being what the lines before it say.
+fn take_line(c: Circuit, line: usize, s: &[u8]) -> Step
+    requires { ⌜ Ready line c ⌝ }
+    ensures { λ r. ⌜ TookLine line c (circuitLine (now (s .entry))) r ⌝ }
+{
+    let l = read_line(s, c.inputs + c.gate_count);
+    match l {
+        Line::Fbs(f) => take_fbs(c, line, f),
+        Line::In(a, b) => take_in(c, line, s, a, b),
+        Line::Gate(d, e, v) => take_gate(c, line, s, d, e, v),
+        Line::Out(a, b, w) => take_out(c, line, s, a, b, w),
+        Line::Nothing => Step {
+            number: 1,
+            circuit: c,
+        },
+    }
+}
+
+// The circuit of no line.
+fn blank() -> Circuit
+    ensures { λ r. ⌜ Blank r ⌝ }
+{
+    let settings = Settings {
+        p: 0,
+        m: 0,
+        t: 0,
+        norm: Limit::Unlimited,
+        policy: Policy::Basic,
+        many: false,
+    };
+    let name = Name {
+        len: 0,
+        bytes: [0u8; 16],
+    };
+    let gate = Gate {
+        arity: 0,
+        left: Wire::Const(0),
+        right: Wire::Const(0),
+        bits: [0u8; 4],
+        line: 0,
+    };
+    let out = Out {
+        name,
+        wire: Wire::Const(0),
+    };
+    Circuit {
+        settings,
+        inputs: 0,
+        names: [name; 32],
+        gate_count: 0,
+        gates: [gate; 96],
+        out_count: 0,
+        outs: [out; 32],
+    }
+}
+
+// What a text says: number 0 and its circuit, or the number and the line of its refusal.
+pub struct Reading {
+    pub number: usize,
+    pub line: usize,
+    pub circuit: Circuit,
+}
+
+// The circuit that a text describes.
+pub fn read(s: &[u8]) -> Reading
+    ensures { λ r. ⌜ readingOf r ≡ readCircuit (now (s .entry)) ⌝ }
+    ensures { λ r. ⌜ Sized (r .circuit) ⌝ }
+{
+    let mut c = blank();
+    let mut at = 0;
+    let mut line = 1;
+    while at < s.len() {
+        let end = text::line_end(s, at);
+        let next = take_line(c, line, &s[at..end]);
+        if next.number != 0 {
+            return Reading {
+                number: next.number,
+                line,
+                circuit: c,
+            };
+        }
+        c = next.circuit;
+        at = end;
+        line += 1;
+    }
+    if line == 1 {
+        return Reading {
+            number: 4,
+            line,
+            circuit: c,
+        };
+    }
+    Reading {
+        number: 0,
+        line: 0,
+        circuit: c,
+    }
+}
+
 fn wire_value(values: &[u8; 128], w: Wire) -> u8
     requires { ⌜ noNode 128 w ≡ false ⌝ }
     ensures { λ r. ⌜ r ≡ wireBit (now (values .entry)) w ⌝ }
@@ -378,13 +692,103 @@ fn wire_value(values: &[u8; 128], w: Wire) -> u8
     }
 }
 
-// The bit of a gate whose wires have the bits l and r.
-fn answer(g: Gate, l: u8, r: u8) -> u8
-    requires { ⌜ (l ≤ 1) × (r ≤ 1) ⌝ }
-    ensures { λ b. ⌜ b ≡ getD (gateOf g .bits) (if eqb (g .arity) 1 then l else 2 * l + r) 0 ⌝ }
+// The bit of a gate: its answer.
+fn gate_value(values: &[u8; 128], g: Gate) -> u8
+    requires { ⌜ SoundGate 128 (gateOf g) ⌝ }
+    requires { ⌜ allBits (now values) ≡ true ⌝ }
+    ensures { λ r. ⌜ r ≡ gateBit (now (values .entry)) (gateOf g) ⌝ }
 {
+    let left = g.left;
+    let l = wire_value(values, left);
     if g.arity == 1 {
         return g.bits[l as usize];
     }
+    let right = g.right;
+    let r = wire_value(values, right);
     g.bits[2 * (l as usize) + (r as usize)]
+}
+
+// The bits of the inputs.
+fn input_values(bits: &[u8]) -> [u8; 128]
+    requires { ⌜ length (now bits) ≤ 128 ⌝ }
+    ensures { λ r. ⌜ r ≡ padded (now (bits .entry)) ⌝ }
+{
+    let mut values = [0u8; 128];
+    let mut i = 0;
+    while i < bits.len() {
+        values[i] = bits[i];
+        i += 1;
+    }
+    values
+}
+
+// The bits of the inputs and the gates.
+fn gate_values(c: Circuit, bits: &[u8]) -> [u8; 128]
+    requires { ⌜ Runs c (now bits) ⌝ }
+    ensures { λ r. ⌜ r ≡ padded (gateValues (now (bits .entry)) (gatesOf c)) ⌝ }
+{
+    let n = c.inputs;
+    let mut values = input_values(bits);
+    let mut i = 0;
+    while i < c.gate_count {
+        let g = c.gates[i];
+        let v = gate_value(&values, g);
+        values[n + i] = v;
+        i += 1;
+    }
+    values
+}
+
+// The bits of the outputs.
+fn put_outputs(c: Circuit, values: &[u8; 128], out: &mut [u8])
+    requires { ⌜ Sized c ⌝ }
+    requires { ⌜ Each (SoundOutput 128) (outputsOf c) ⌝ }
+    requires { ⌜ c .«out_count» ≤ length (now out) ⌝ }
+    ensures { λ r. ⌜ now (out .exit) ≡ over (outputBits (now (values .entry)) (outputsOf c)) (now (out .entry)) ⌝ }
+{
+    let mut i = 0;
+    while i < c.out_count {
+        let o = c.outs[i];
+        let w = o.wire;
+        out[i] = wire_value(values, w);
+        i += 1;
+    }
+}
+
+// Whether there is a bit for each of n inputs.
+fn are_bits_for(n: usize, bits: &[u8]) -> bool
+    ensures { λ r. ⌜ r ≡ bitsFor n (now (bits .entry)) ⌝ }
+{
+    if bits.len() != n {
+        return false;
+    }
+    let mut i = 0;
+    while i < bits.len() {
+        if 1 < bits[i] {
+            return false;
+        }
+        i += 1;
+    }
+    true
+}
+
+// The circuit that a text describes, run on a bit for each input.
+pub fn run_circuit(text: &[u8], bits: &[u8], values: &mut [u8]) -> RunReply
+    ensures { λ r. ⌜ ran r (now (values .exit)) ≡ runCircuit (now (text .entry)) (now (bits .entry)) (now (values .entry)) ⌝ }
+{
+    let reading = read(text);
+    if reading.number != 0 {
+        return RunReply::Unreadable(reading.number, reading.line);
+    }
+    let c = reading.circuit;
+    let n = c.out_count;
+    if !are_bits_for(c.inputs, bits) {
+        return RunReply::BadBits;
+    }
+    if values.len() < n {
+        return RunReply::ShortBuffer;
+    }
+    let all = gate_values(c, bits);
+    put_outputs(c, &all, values);
+    RunReply::Ran(n)
 }

@@ -1,19 +1,19 @@
 -- A number has only one way to be written, so numbers of any length are compared by their digits.
 use mathlib.Core.Path.{_≡_, refl, sym, ap, ap₂, subst, _∙_}
-use mathlib.Core.Bool.{Bool, true, false, not, _&&_, _||_, and-false, true≢false, false≢true}
+use mathlib.Core.Bool.{Bool, true, false, and-false, true≢false, false≢true}
 use mathlib.Core.List.{List, [], _∷_}
 use mathlib.Core.Logic.{⊎-elim}
-use mathlib.Core.Option.{Option, none, some, Option·some-injective, Option·none-ne-some}
-use Prim.Native.Nat.{ℕ, zero, suc, _+_, _*_, _-_, _<_, _≤_}
+use mathlib.Core.Option.{none, some, Option·some-injective, Option·none-ne-some}
+use Prim.Native.Nat.{ℕ, suc, _+_, _*_, _-_, _<_, _≤_}
 use native.Mathlib.Nat.{not-suc-le-zero, le-of-suc-le-suc}
 use native.Mathlib.Omega.{arith}
-use borrow.Author.Tests.{eq-eqb, ne-eqb, lt-leb}
+use borrow.Author.Tests.{eq-eqb, ne-eqb}
 use lib.Dec.{leb, eqb, leb→le}
-use lib.ListN.{length, getD, take, drop, length-drop}
+use lib.ListN.{length, take, drop, length-drop}
 use Rattle.laws.specs.Test.{if_then_else_, decide, lt-or-le, and-left, and-right, is-T}
 use Rattle.rules.specs.CircuitText.{sameName}
 use Rattle.rules.specs.Form.{give, onward, run, runOf, number, isNumber, isDigit, valueFrom}
-use Rattle.text.specs.Run.{RunEnd, runStop, run-within, run-end}
+use Rattle.text.specs.Run.{runStop, run-within, run-end}
 use Rattle.text.specs.Same.{same-self, same-is}
 
 unfoldable pub Digits : List ℕ → Type 0
@@ -107,7 +107,7 @@ longer w (c ∷ d ∷ u) h p q e =
     let l = less 0 (10 * 0 + (c - 48)) w (d ∷ u) n (le-of-suc-le-suc h) (p .digits) in
     omega arith
 
-same-digits : (w u : List ℕ) → Decimal w → Decimal u → valueFrom 0 w ≡ valueFrom 0 u → w ≡ u
+pub same-digits : (w u : List ℕ) → Decimal w → Decimal u → valueFrom 0 w ≡ valueFrom 0 u → w ≡ u
 same-digits w u p q e =
     ⊎-elim (λ (h : length w < length u). absurd (longer w u h p q e))
     (λ (h : length u ≤ length w).

@@ -1,14 +1,13 @@
 -- A norm limit.
-use mathlib.Core.Path.{_≡_, refl}
+use mathlib.Core.Path.{_≡_}
 use mathlib.Core.List.{List}
 use mathlib.Core.Option.{Option, none, some}
 use Prim.Native.Nat.{ℕ, _<_, _≤_, min}
 use native.Mathlib.Omega.{arith}
 use borrow.Author.Tests.{le-leb, lt-leb}
 use lib.ListN.{drop}
-use Rattle.laws.specs.Test.{if_then_else_}
 use Rattle.rules.specs.declared.Limit.{Limit}
-use Rattle.rules.specs.declared.Limit.the-variants.{Unlimited, AtMost}
+use Rattle.rules.specs.declared.Limit.the-variants.{AtMost}
 use Rattle.rules.specs.Form.{Piece, give, upTo4096}
 use Rattle.text.specs.declared.LimitRead.{LimitRead}
 use Rattle.text.specs.declared.LimitRead.the-variants.{At, Nothing}

@@ -1,8 +1,8 @@
 -- Names kept in arrays of sixteen bytes.
-use mathlib.Core.Path.{_≡_, refl, sym, ap, _∙_}
+use mathlib.Core.Path.{_≡_, refl, ap, ap₂, _∙_}
 use mathlib.Core.Bool.{Bool, true, false}
 use mathlib.Core.List.{List, [], _∷_, map}
-use Prim.Native.Nat.{ℕ, zero, suc, _+_, _-_, _<_, _≤_, min}
+use Prim.Native.Nat.{ℕ, zero, suc, _+_, _-_, _<_, _≤_}
 use native.Mathlib.Nat.{sub-zero}
 use native.Mathlib.Numerals.{add-one}
 use native.Mathlib.Omega.{arith}
@@ -36,7 +36,7 @@ module _ (n : Name) (h : length (n .bytes) ≡ 16) where
   unfolding nameBytes
   length-full k = simp length-take (omega arith)
 
-pub all-bytes : (m : Name) (n : ℕ) → n ≡ length (nameBytes m) → take (n - 0) (m .bytes) ≡ nameBytes m
+all-bytes : (m : Name) (n : ℕ) → n ≡ length (nameBytes m) → take (n - 0) (m .bytes) ≡ nameBytes m
 unfolding nameBytes
 all-bytes m n e = ap (λ k. take k (m .bytes)) (sub-zero n ∙ e) ∙ taken-again (m .len) (m .bytes)
   where
@@ -44,6 +44,10 @@ all-bytes m n e = ap (λ k. take k (m .bytes)) (sub-zero n ∙ e) ∙ taken-agai
     taken-again zero b = refl
     taken-again (suc k) [] = refl
     taken-again (suc k) (x ∷ b) = ap {B = List ℕ} (λ t. x ∷ t) (taken-again k b)
+
+-- two names compared over all their bytes
+pub same-names : (a b : Name) (n m : ℕ) {t : Bool} → n ≡ length (nameBytes a) → m ≡ length (nameBytes b) → t ≡ sameName (take (n - 0) (a .bytes)) (take (m - 0) (b .bytes)) → t ≡ sameName (nameBytes a) (nameBytes b)
+same-names a b n m h k e = e ∙ ap₂ sameName (all-bytes a n h) (all-bytes b m k)
 
 -- ---- A name looked for among the first n of l, from index i on.
 unfoldable pub listedFrom : List ℕ → List Name → ℕ → ℕ → Bool

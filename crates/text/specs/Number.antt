@@ -1,19 +1,17 @@
 -- Decimal numbers: what a number that was read says of its digits, and when two are the same.
-use mathlib.Core.Path.{_≡_, refl, sym, ap, subst, _∙_}
-use mathlib.Core.Bool.{Bool, true, false, _&&_, _||_, not, or-true}
+use mathlib.Core.Path.{_≡_, refl, subst}
+use mathlib.Core.Bool.{or-true}
 use mathlib.Core.List.{List, [], _∷_, _++_}
-use mathlib.Core.Logic.{⊎-elim}
-use mathlib.Core.Option.{Option, none, some, Option·some-injective}
-use Prim.Native.Nat.{ℕ, zero, suc, _+_, _*_, _-_, _<_, _≤_, min}
-use native.Mathlib.Nat.{not-suc-le-zero, add-zero}
+use mathlib.Core.Option.{Option, none, some}
+use Prim.Native.Nat.{ℕ, suc, _+_, _*_, _-_, _<_, _≤_, min}
+use native.Mathlib.Nat.{add-zero}
 use native.Mathlib.Omega.{arith}
-use borrow.Author.Tests.{le-leb, lt-leb, eq-eqb, ne-eqb, leb-true}
-use lib.Dec.{T, leb, eqb, leb→le}
-use lib.ListN.{length, getD, take, drop, length-take, length-drop}
+use borrow.Author.Tests.{le-leb, lt-leb, eq-eqb, ne-eqb}
+use lib.Dec.{leb, eqb, leb→le}
+use lib.ListN.{length, getD, take, drop, length-drop}
 use lib.Seq.{take-suc, getD-take, getD-drop, drop-cons}
-use Rattle.laws.specs.Test.{if_then_else_, lt-or-le, T-is, and-left, and-right, is-T}
-use Rattle.rules.specs.CircuitText.{sameName}
-use Rattle.rules.specs.Form.{Piece, Reader, give, onward, run, runOf, number, isNumber, isDigit, valueFrom}
+use Rattle.laws.specs.Test.{and-left, is-T}
+use Rattle.rules.specs.Form.{Piece, give, number, isNumber, isDigit, valueFrom}
 use Rattle.text.specs.declared.Number.{Number}
 use Rattle.text.specs.declared.Number.the-variants.{At, Nothing}
 use Rattle.text.specs.Chain.{step, stop}

@@ -3,7 +3,7 @@ use mathlib.Core.Path.{_≡_, sym, ap, subst, _∙_}
 use mathlib.Core.List.{List}
 use mathlib.Core.Option.{Option, none, some}
 use Prim.Native.Nat.{ℕ, _-_, _≤_}
-use lib.ListN.{length, take, drop}
+use lib.ListN.{take, drop}
 use Rattle.rules.specs.Form.{Piece, bitsFrom}
 use Rattle.text.specs.declared.Found.{Found}
 use Rattle.text.specs.declared.Found.the-variants.{At, Nothing}

@@ -5,11 +5,11 @@ use mathlib.Core.List.{List, [], _∷_}
 use Prim.Native.Nat.{ℕ, suc, _+_, _-_, _<_, _≤_}
 use native.Mathlib.Nat.{add-zero}
 use native.Mathlib.Omega.{arith}
-use borrow.Author.Tests.{eq-eqb, ne-eqb, eqb-true}
+use borrow.Author.Tests.{eq-eqb, ne-eqb}
 use lib.Dec.{T, eqb, eqb→eq}
 use lib.ListN.{length, getD, take, drop, length-take, length-drop}
 use lib.Seq.{drop-cons}
-use Rattle.laws.specs.Test.{is-T, and-left, and-right, T-is}
+use Rattle.laws.specs.Test.{and-left, and-right}
 use Rattle.rules.specs.CircuitText.{sameName}
 
 -- ---- What the comparison says.

@@ -11,7 +11,6 @@ use mir.Facts.{toZ-ofZ}
 use mir.Syntax.{w64}
 use mir.Val.{toZ, ofZ}
 use Rattle.laws.specs.Integer.{abs-neg, fits-abs}
-use Rattle.laws.specs.Test.{if_then_else_}
 use Rattle.rules.specs.Form.{Piece, Reader, give, _>>=_, _>>_, word, number, below}
 use Rattle.text.specs.declared.Signed.{Signed}
 use Rattle.text.specs.declared.Signed.the-variants.{At, Nothing}

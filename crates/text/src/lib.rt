@@ -1,4 +1,4 @@
-// The pieces of a text: words, names, numbers, bits and wires, each read from a place of the text.
+// The pieces of a text: lines, words, names, bits, numbers, wires and limits, each read from a place of the text, and names kept.
 use rules::Limit;
 use rules::Wire;
 ghost use mathlib.Core.List.{map};
@@ -19,7 +19,7 @@ ghost use Rattle.text.specs.Reads.{Reads, passed, taken, bitsTaken, endO
 ghost use Rattle.text.specs.Signed.{capSigned, signedTaken, signedEnd, negative};
 ghost use Rattle.text.specs.Wire.{capWire, wireTaken, wireEnd, nodeWire};
 
-// Where the line from `at` on ends, behind its newline.
+// Where the line from `at` on ends: behind its newline, or at the text's end.
 pub fn line_end(s: &[u8], at: usize) -> usize
     requires { ⌜ at < length (now s) ⌝ }
     ensures { λ r. ⌜ LineEnd (now (s .entry)) at r ⌝ }

@@ -1,37 +1,28 @@
 use borrow.Author.Tests.{le-leb, le-ltb, lt-leb, lt-ltb}
-use borrow.Author.Needs.{needs}
 use Rattle.text.specs.Judged.{lowest}
 use Rattle.circuit.proofs.in_number.Statement.{statement}
 use Rattle.circuit.proofs.in_number.Tie as tie
-use Rattle.circuit.proofs.in_number.Reads as reads
-use Rattle.circuit.proofs.in_number.Lts as lts
 
--- src/lib.rt:84:9
 returns : tie.Need-returns
 unfolding lowest
 returns c = simp (le-leb _ _ (c .if1 .taken))
 
--- src/lib.rt:87:9
 returns-2 : tie.Need-returns-2
 unfolding lowest
 returns-2 c = simp (lt-leb _ _ (c .before .if1 .left), c .if2 .taken)
 
--- src/lib.rt:90:9
 returns-3 : tie.Need-returns-3
 unfolding lowest
 returns-3 c = simp (lt-leb _ _ (c .before .before .if1 .left), c .before .if2 .left, lt-ltb _ _ (c .if3 .taken))
 
--- src/lib.rt:93:9
 returns-4 : tie.Need-returns-4
 unfolding lowest
 returns-4 c = simp (lt-leb _ _ (c .before .before .before .if1 .left), c .before .before .if2 .left, le-ltb _ _ (c .before .if3 .left), lt-ltb _ _ (c .if4 .taken))
 
--- src/lib.rt:80:1
 returns-5 : tie.Need-returns-5
 unfolding lowest
 returns-5 c = simp (lt-leb _ _ (c .before .before .before .before .if1 .left), c .before .before .before .if2 .left, le-ltb _ _ (c .before .before .if3 .left), le-ltb _ _ (c .before .if4 .left), c .if5 .taken)
 
--- src/lib.rt:80:1
 returns-6 : tie.Need-returns-6
 unfolding lowest
 returns-6 c = simp (lt-leb _ _ (c .before .before .before .before .if1 .left), c .before .before .before .if2 .left, le-ltb _ _ (c .before .before .if3 .left), le-ltb _ _ (c .before .if4 .left), c .if5 .left)

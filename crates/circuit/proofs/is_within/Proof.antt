@@ -1,34 +1,24 @@
-use Rattle.rules.specs.Builder.{tableLimits}
-use Rattle.laws.specs.Tests.{tests}
 use borrow.Author.Needs.{needs}
+use Rattle.laws.specs.Tests.{tests}
+use Rattle.rules.specs.Builder.{tableLimits}
 use Rattle.circuit.proofs.is_within.Statement.{statement}
 use Rattle.circuit.proofs.is_within.Tie as tie
-use Rattle.circuit.proofs.is_within.Reads as reads
-use Rattle.circuit.proofs.is_within.Lts as lts
 
--- src/lib.rt:53:9
 returns : tie.Need-returns
 unfolding tableLimits
 returns c = search (needs, tests)
 
--- src/lib.rt:56:9
 returns-2 : tie.Need-returns-2
 unfolding tableLimits
 returns-2 c = search (needs, tests)
 
--- src/lib.rt:59:9
 returns-3 : tie.Need-returns-3
 unfolding tableLimits
 returns-3 c = search (needs, tests)
 
--- src/lib.rt:61:10
-mul-result : tie.Need-mul-result
-mul-result c = search needs
-
--- src/lib.rt:49:1
 returns-4 : tie.Need-returns-4
 unfolding tableLimits
 returns-4 c = search (needs, tests)
 
 pub is-within-spec : {M : Type 1} → statement M
-is-within-spec = tie.close (tie.spec returns returns-2 returns-3 mul-result returns-4)
+is-within-spec = tie.close (tie.spec returns returns-2 returns-3 (λ c. search needs) returns-4)

@@ -1,27 +1,20 @@
 use borrow.Author.Tests.{le-leb, lt-leb}
-use borrow.Author.Needs.{needs}
 use Rattle.text.specs.Judged.{lowest}
 use Rattle.circuit.proofs.out_number.Statement.{statement}
 use Rattle.circuit.proofs.out_number.Tie as tie
-use Rattle.circuit.proofs.out_number.Reads as reads
-use Rattle.circuit.proofs.out_number.Lts as lts
 
--- src/lib.rt:126:9
 returns : tie.Need-returns
 unfolding lowest
 returns c = simp (le-leb _ _ (c .if1 .taken))
 
--- src/lib.rt:129:9
 returns-2 : tie.Need-returns-2
 unfolding lowest
 returns-2 c = simp (lt-leb _ _ (c .before .if1 .left), c .if2 .taken)
 
--- src/lib.rt:122:1
 returns-3 : tie.Need-returns-3
 unfolding lowest
 returns-3 c = simp (lt-leb _ _ (c .before .before .if1 .left), c .before .if2 .left, c .if3 .taken)
 
--- src/lib.rt:122:1
 returns-4 : tie.Need-returns-4
 unfolding lowest
 returns-4 c = simp (lt-leb _ _ (c .before .before .if1 .left), c .before .if2 .left, c .if3 .left)

@@ -1,58 +1,25 @@
-use mathlib.Core.Path.{refl}
+use borrow.Author.Needs.{needs}
 use Rattle.rules.specs.CircuitText.{fbsLine}
 use Rattle.text.specs.Capped.{capped-some, capped-none}
 use Rattle.text.specs.Chain.{step, stop}
 use Rattle.text.specs.Number.{numberTaken, numberEnd, number-value}
 use Rattle.text.specs.Reads.{passed, endOf, found, ends}
 use Rattle.circuit.specs.Settings.{fbsTail, tailTaken, tailEnd, capSettings, cap-settings}
-use borrow.Author.Needs.{needs}
 use Rattle.circuit.proofs.read_fbs.Statement.{statement}
 use Rattle.circuit.proofs.read_fbs.Tie as tie
-use Rattle.circuit.proofs.read_fbs.Reads as reads
-use Rattle.circuit.proofs.read_fbs.Lts as lts
-use Rattle.circuit.proofs.read_tail.Reads as read-tail-reads
-use Rattle.text.proofs.read_number.Reads as read-number-reads
-use Rattle.text.proofs.read_word.Reads as read-word-reads
 
--- src/lib.rt:170:47
-slice-aggregate-read-word : tie.Need-slice-aggregate-read-word
-slice-aggregate-read-word c = search needs
-
--- src/lib.rt:170:24
-read-word-requires : tie.Need-read-word-requires
-read-word-requires c κs = search needs
-
--- src/lib.rt:170:19
-enum-known-a : tie.Need-enum-known-a
-enum-known-a c = search needs
-
--- src/lib.rt:171:9
-enum-told : tie.Need-enum-told
-enum-told c = search needs
-
--- src/lib.rt:171:9
 returns : tie.Need-returns
 unfolding fbsLine fbsTail
 returns c =
     let c2 = c .before .before in
     record { same = capped-none capSettings (stop _ (found (passed _) (c2 .read-word .ensures) (c .enum-told .given .1))); inside = search needs }
 
--- src/lib.rt:173:28
 read-number-requires : tie.Need-read-number-requires
 read-number-requires c κs =
     let c1 = c .before in
     let c3 = c1 .before .before in
     (ends endOf (c3 .read-word .ensures) (c1 .a .given .1))
 
--- src/lib.rt:173:20
-enum-known-p : tie.Need-enum-known-p
-enum-known-p c = search needs
-
--- src/lib.rt:174:9
-enum-told-2 : tie.Need-enum-told-2
-enum-told-2 c = search needs
-
--- src/lib.rt:174:9
 returns-2 : tie.Need-returns-2
 unfolding fbsLine fbsTail
 returns-2 c =
@@ -61,26 +28,12 @@ returns-2 c =
     let c6 = c4 .before .before in
     record { same = capped-none capSettings (step _ (found (passed _) (c6 .read-word .ensures) (c4 .a .given .1)) (stop _ (found (numberTaken _ _) (c2 .read-number .ensures .reads) (c .enum-told2 .given .1)))); inside = search needs }
 
--- src/lib.rt:176:46
-slice-aggregate-read-word-2 : tie.Need-slice-aggregate-read-word-2
-slice-aggregate-read-word-2 c = search needs
-
--- src/lib.rt:176:24
 read-word-requires-2 : tie.Need-read-word-requires-2
 read-word-requires-2 c κs =
     let c2 = c .before .before in
     let c4 = c2 .before .before in
     (ends numberEnd (c4 .read-number .ensures .reads) (c2 .p .given .1))
 
--- src/lib.rt:176:19
-enum-known-d : tie.Need-enum-known-d
-enum-known-d c = search needs
-
--- src/lib.rt:177:9
-enum-told-3 : tie.Need-enum-told-3
-enum-told-3 c = search needs
-
--- src/lib.rt:177:9
 returns-3 : tie.Need-returns-3
 unfolding fbsLine fbsTail
 returns-3 c =
@@ -91,22 +44,12 @@ returns-3 c =
     let c11 = c9 .before .before in
     record { same = capped-none capSettings (step _ (found (passed _) (c11 .read-word .ensures) (c9 .a .given .1)) (step _ (found (numberTaken _ _) (c7 .read-number .ensures .reads) (c5 .p .given .1)) (stop _ (found (passed _) (c2 .read-word2 .ensures) (c .enum-told3 .given .1))))); inside = search needs }
 
--- src/lib.rt:179:28
 read-number-requires-2 : tie.Need-read-number-requires-2
 read-number-requires-2 c κs =
     let c1 = c .before in
     let c3 = c1 .before .before in
     (ends endOf (c3 .read-word2 .ensures) (c1 .d .given .1))
 
--- src/lib.rt:179:20
-enum-known-m : tie.Need-enum-known-m
-enum-known-m c = search needs
-
--- src/lib.rt:180:9
-enum-told-4 : tie.Need-enum-told-4
-enum-told-4 c = search needs
-
--- src/lib.rt:180:9
 returns-4 : tie.Need-returns-4
 unfolding fbsLine fbsTail
 returns-4 c =
@@ -119,26 +62,12 @@ returns-4 c =
     let c15 = c13 .before .before in
     record { same = capped-none capSettings (step _ (found (passed _) (c15 .read-word .ensures) (c13 .a .given .1)) (step _ (found (numberTaken _ _) (c11 .read-number .ensures .reads) (c9 .p .given .1)) (step _ (found (passed _) (c6 .read-word2 .ensures) (c4 .d .given .1)) (stop _ (found (numberTaken _ _) (c2 .read-number2 .ensures .reads) (c .enum-told4 .given .1)))))); inside = search needs }
 
--- src/lib.rt:182:46
-slice-aggregate-read-word-3 : tie.Need-slice-aggregate-read-word-3
-slice-aggregate-read-word-3 c = search needs
-
--- src/lib.rt:182:24
 read-word-requires-3 : tie.Need-read-word-requires-3
 read-word-requires-3 c κs =
     let c2 = c .before .before in
     let c4 = c2 .before .before in
     (ends numberEnd (c4 .read-number2 .ensures .reads) (c2 .m .given .1))
 
--- src/lib.rt:182:19
-enum-known-f : tie.Need-enum-known-f
-enum-known-f c = search needs
-
--- src/lib.rt:183:9
-enum-told-5 : tie.Need-enum-told-5
-enum-told-5 c = search needs
-
--- src/lib.rt:183:9
 returns-5 : tie.Need-returns-5
 unfolding fbsLine fbsTail
 returns-5 c =
@@ -153,22 +82,12 @@ returns-5 c =
     let c20 = c18 .before .before in
     record { same = capped-none capSettings (step _ (found (passed _) (c20 .read-word .ensures) (c18 .a .given .1)) (step _ (found (numberTaken _ _) (c16 .read-number .ensures .reads) (c14 .p .given .1)) (step _ (found (passed _) (c11 .read-word2 .ensures) (c9 .d .given .1)) (step _ (found (numberTaken _ _) (c7 .read-number2 .ensures .reads) (c5 .m .given .1)) (stop _ (found (passed _) (c2 .read-word3 .ensures) (c .enum-told5 .given .1))))))); inside = search needs }
 
--- src/lib.rt:185:28
 read-number-requires-3 : tie.Need-read-number-requires-3
 read-number-requires-3 c κs =
     let c1 = c .before in
     let c3 = c1 .before .before in
     (ends endOf (c3 .read-word3 .ensures) (c1 .f .given .1))
 
--- src/lib.rt:185:20
-enum-known-t : tie.Need-enum-known-t
-enum-known-t c = search needs
-
--- src/lib.rt:186:9
-enum-told-6 : tie.Need-enum-told-6
-enum-told-6 c = search needs
-
--- src/lib.rt:186:9
 returns-6 : tie.Need-returns-6
 unfolding fbsLine fbsTail
 returns-6 c =
@@ -185,26 +104,12 @@ returns-6 c =
     let c24 = c22 .before .before in
     record { same = capped-none capSettings (step _ (found (passed _) (c24 .read-word .ensures) (c22 .a .given .1)) (step _ (found (numberTaken _ _) (c20 .read-number .ensures .reads) (c18 .p .given .1)) (step _ (found (passed _) (c15 .read-word2 .ensures) (c13 .d .given .1)) (step _ (found (numberTaken _ _) (c11 .read-number2 .ensures .reads) (c9 .m .given .1)) (step _ (found (passed _) (c6 .read-word3 .ensures) (c4 .f .given .1)) (stop _ (found (numberTaken _ _) (c2 .read-number3 .ensures .reads) (c .enum-told6 .given .1)))))))); inside = search needs }
 
--- src/lib.rt:188:46
-slice-aggregate-read-word-4 : tie.Need-slice-aggregate-read-word-4
-slice-aggregate-read-word-4 c = search needs
-
--- src/lib.rt:188:24
 read-word-requires-4 : tie.Need-read-word-requires-4
 read-word-requires-4 c κs =
     let c2 = c .before .before in
     let c4 = c2 .before .before in
     (ends numberEnd (c4 .read-number3 .ensures .reads) (c2 .t .given .1))
 
--- src/lib.rt:188:19
-enum-known-h : tie.Need-enum-known-h
-enum-known-h c = search needs
-
--- src/lib.rt:189:9
-enum-told-7 : tie.Need-enum-told-7
-enum-told-7 c = search needs
-
--- src/lib.rt:189:9
 returns-7 : tie.Need-returns-7
 unfolding fbsLine fbsTail
 returns-7 c =
@@ -223,22 +128,12 @@ returns-7 c =
     let c29 = c27 .before .before in
     record { same = capped-none capSettings (step _ (found (passed _) (c29 .read-word .ensures) (c27 .a .given .1)) (step _ (found (numberTaken _ _) (c25 .read-number .ensures .reads) (c23 .p .given .1)) (step _ (found (passed _) (c20 .read-word2 .ensures) (c18 .d .given .1)) (step _ (found (numberTaken _ _) (c16 .read-number2 .ensures .reads) (c14 .m .given .1)) (step _ (found (passed _) (c11 .read-word3 .ensures) (c9 .f .given .1)) (step _ (found (numberTaken _ _) (c7 .read-number3 .ensures .reads) (c5 .t .given .1)) (stop _ (found (passed _) (c2 .read-word4 .ensures) (c .enum-told7 .given .1))))))))); inside = search needs }
 
--- src/lib.rt:191:50
 read-tail-requires : tie.Need-read-tail-requires
 read-tail-requires c κs =
     let c1 = c .before in
     let c3 = c1 .before .before in
     (ends endOf (c3 .read-word4 .ensures) (c1 .h .given .1))
 
--- src/lib.rt:191:22
-enum-known-norm : tie.Need-enum-known-norm
-enum-known-norm c = search needs
-
--- src/lib.rt:192:9
-enum-told-8 : tie.Need-enum-told-8
-enum-told-8 c = search needs
-
--- src/lib.rt:192:9
 returns-8 : tie.Need-returns-8
 unfolding fbsLine fbsTail
 returns-8 c =
@@ -259,7 +154,6 @@ returns-8 c =
     let c33 = c31 .before .before in
     record { same = capped-none capSettings (step _ (found (passed _) (c33 .read-word .ensures) (c31 .a .given .1)) (step _ (found (numberTaken _ _) (c29 .read-number .ensures .reads) (c27 .p .given .1)) (step _ (found (passed _) (c24 .read-word2 .ensures) (c22 .d .given .1)) (step _ (found (numberTaken _ _) (c20 .read-number2 .ensures .reads) (c18 .m .given .1)) (step _ (found (passed _) (c15 .read-word3 .ensures) (c13 .f .given .1)) (step _ (found (numberTaken _ _) (c11 .read-number3 .ensures .reads) (c9 .t .given .1)) (step _ (found (passed _) (c6 .read-word4 .ensures) (c4 .h .given .1)) (found (tailTaken _ _ _ _) (c2 .read-tail .ensures _ _ _) (c .enum-told8 .given .1))))))))); inside = search needs }
 
--- src/lib.rt:166:1
 returns-9 : tie.Need-returns-9
 unfolding fbsLine fbsTail
 returns-9 c =
@@ -285,40 +179,40 @@ pub read-fbs-spec : {M : Type 1} → statement M
 read-fbs-spec =
     tie.close
     (tie.spec
-    slice-aggregate-read-word
-    read-word-requires
-    enum-known-a
-    enum-told
+    (λ c. search needs)
+    (λ c κs. search needs)
+    (λ c. search needs)
+    (λ c. search needs)
     returns
     read-number-requires
-    enum-known-p
-    enum-told-2
+    (λ c. search needs)
+    (λ c. search needs)
     returns-2
-    slice-aggregate-read-word-2
+    (λ c. search needs)
     read-word-requires-2
-    enum-known-d
-    enum-told-3
+    (λ c. search needs)
+    (λ c. search needs)
     returns-3
     read-number-requires-2
-    enum-known-m
-    enum-told-4
+    (λ c. search needs)
+    (λ c. search needs)
     returns-4
-    slice-aggregate-read-word-3
+    (λ c. search needs)
     read-word-requires-3
-    enum-known-f
-    enum-told-5
+    (λ c. search needs)
+    (λ c. search needs)
     returns-5
     read-number-requires-3
-    enum-known-t
-    enum-told-6
+    (λ c. search needs)
+    (λ c. search needs)
     returns-6
-    slice-aggregate-read-word-4
+    (λ c. search needs)
     read-word-requires-4
-    enum-known-h
-    enum-told-7
+    (λ c. search needs)
+    (λ c. search needs)
     returns-7
     read-tail-requires
-    enum-known-norm
-    enum-told-8
+    (λ c. search needs)
+    (λ c. search needs)
     returns-8
     returns-9)

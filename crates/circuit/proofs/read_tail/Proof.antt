@@ -1,57 +1,24 @@
 use mathlib.Core.Path.{refl, sym}
+use borrow.Author.Needs.{needs}
 use Rattle.text.specs.Chain.{step, stop}
 use Rattle.text.specs.Limit.{limitTaken, limitEnd}
 use Rattle.text.specs.Reads.{passed, endOf, found, ends}
 use Rattle.circuit.specs.Settings.{policyTaken, policyEnd, tablesTaken, tablesEnd, fbsTail}
-use borrow.Author.Needs.{needs}
 use Rattle.circuit.proofs.read_tail.Statement.{statement}
 use Rattle.circuit.proofs.read_tail.Tie as tie
-use Rattle.circuit.proofs.read_tail.Reads as reads
-use Rattle.circuit.proofs.read_tail.Lts as lts
-use Rattle.circuit.proofs.read_policy.Reads as read-policy-reads
-use Rattle.circuit.proofs.read_tables.Reads as read-tables-reads
-use Rattle.text.proofs.read_norm.Reads as read-norm-reads
-use Rattle.text.proofs.read_word.Reads as read-word-reads
 
--- src/lib.rt:139:31
-read-norm-requires : tie.Need-read-norm-requires
-read-norm-requires c κs = search needs
-
--- src/lib.rt:139:23
-enum-known-l : tie.Need-enum-known-l
-enum-known-l c = search needs
-
--- src/lib.rt:140:9
-enum-told : tie.Need-enum-told
-enum-told c = search needs
-
--- src/lib.rt:140:9
 returns : tie.Need-returns
 unfolding fbsTail
 returns c =
     let c2 = c .before .before in
     λ p m t. record { same = sym (stop _ (found (limitTaken _) (c2 .read-norm .ensures) (c .enum-told .given .1))); inside = search needs }
 
--- src/lib.rt:142:46
-slice-aggregate-read-word : tie.Need-slice-aggregate-read-word
-slice-aggregate-read-word c = search needs
-
--- src/lib.rt:142:24
 read-word-requires : tie.Need-read-word-requires
 read-word-requires c κs =
     let c2 = c .before .before in
     let c4 = c2 .before .before in
     (ends limitEnd (c4 .read-norm .ensures) (c2 .l .given .1))
 
--- src/lib.rt:142:19
-enum-known-b : tie.Need-enum-known-b
-enum-known-b c = search needs
-
--- src/lib.rt:143:9
-enum-told-2 : tie.Need-enum-told-2
-enum-told-2 c = search needs
-
--- src/lib.rt:143:9
 returns-2 : tie.Need-returns-2
 unfolding fbsTail
 returns-2 c =
@@ -60,22 +27,12 @@ returns-2 c =
     let c7 = c5 .before .before in
     λ p m t. record { same = sym (step _ (found (limitTaken _) (c7 .read-norm .ensures) (c5 .l .given .1)) (stop _ (found (passed _) (c2 .read-word .ensures) (c .enum-told2 .given .1)))); inside = search needs }
 
--- src/lib.rt:145:32
 read-policy-requires : tie.Need-read-policy-requires
 read-policy-requires c κs =
     let c1 = c .before in
     let c3 = c1 .before .before in
     (ends endOf (c3 .read-word .ensures) (c1 .b .given .1))
 
--- src/lib.rt:145:24
-enum-known-q : tie.Need-enum-known-q
-enum-known-q c = search needs
-
--- src/lib.rt:146:9
-enum-told-3 : tie.Need-enum-told-3
-enum-told-3 c = search needs
-
--- src/lib.rt:146:9
 returns-3 : tie.Need-returns-3
 unfolding fbsTail
 returns-3 c =
@@ -86,26 +43,12 @@ returns-3 c =
     let c11 = c9 .before .before in
     λ p m t. record { same = sym (step _ (found (limitTaken _) (c11 .read-norm .ensures) (c9 .l .given .1)) (step _ (found (passed _) (c6 .read-word .ensures) (c4 .b .given .1)) (stop _ (found (policyTaken _) (c2 .read-policy .ensures) (c .enum-told3 .given .1))))); inside = search needs }
 
--- src/lib.rt:148:46
-slice-aggregate-read-word-2 : tie.Need-slice-aggregate-read-word-2
-slice-aggregate-read-word-2 c = search needs
-
--- src/lib.rt:148:24
 read-word-requires-2 : tie.Need-read-word-requires-2
 read-word-requires-2 c κs =
     let c2 = c .before .before in
     let c4 = c2 .before .before in
     (ends policyEnd (c4 .read-policy .ensures) (c2 .q .given .1))
 
--- src/lib.rt:148:19
-enum-known-e : tie.Need-enum-known-e
-enum-known-e c = search needs
-
--- src/lib.rt:149:9
-enum-told-4 : tie.Need-enum-told-4
-enum-told-4 c = search needs
-
--- src/lib.rt:149:9
 returns-4 : tie.Need-returns-4
 unfolding fbsTail
 returns-4 c =
@@ -118,22 +61,12 @@ returns-4 c =
     let c16 = c14 .before .before in
     λ p m t. record { same = sym (step _ (found (limitTaken _) (c16 .read-norm .ensures) (c14 .l .given .1)) (step _ (found (passed _) (c11 .read-word .ensures) (c9 .b .given .1)) (step _ (found (policyTaken _) (c7 .read-policy .ensures) (c5 .q .given .1)) (stop _ (found (passed _) (c2 .read-word2 .ensures) (c .enum-told4 .given .1)))))); inside = search needs }
 
--- src/lib.rt:151:35
 read-tables-requires : tie.Need-read-tables-requires
 read-tables-requires c κs =
     let c1 = c .before in
     let c3 = c1 .before .before in
     (ends endOf (c3 .read-word2 .ensures) (c1 .e .given .1))
 
--- src/lib.rt:151:24
-enum-known-many : tie.Need-enum-known-many
-enum-known-many c = search needs
-
--- src/lib.rt:152:9
-enum-told-5 : tie.Need-enum-told-5
-enum-told-5 c = search needs
-
--- src/lib.rt:152:9
 returns-5 : tie.Need-returns-5
 unfolding fbsTail
 returns-5 c =
@@ -148,26 +81,12 @@ returns-5 c =
     let c20 = c18 .before .before in
     λ p m t. record { same = sym (step _ (found (limitTaken _) (c20 .read-norm .ensures) (c18 .l .given .1)) (step _ (found (passed _) (c15 .read-word .ensures) (c13 .b .given .1)) (step _ (found (policyTaken _) (c11 .read-policy .ensures) (c9 .q .given .1)) (step _ (found (passed _) (c6 .read-word2 .ensures) (c4 .e .given .1)) (stop _ (found (tablesTaken _) (c2 .read-tables .ensures) (c .enum-told5 .given .1))))))); inside = search needs }
 
--- src/lib.rt:154:49
-slice-aggregate-read-word-3 : tie.Need-slice-aggregate-read-word-3
-slice-aggregate-read-word-3 c = search needs
-
--- src/lib.rt:154:27
 read-word-requires-3 : tie.Need-read-word-requires-3
 read-word-requires-3 c κs =
     let c2 = c .before .before in
     let c4 = c2 .before .before in
     (ends tablesEnd (c4 .read-tables .ensures) (c2 .many .given .1))
 
--- src/lib.rt:154:19
-enum-known-last : tie.Need-enum-known-last
-enum-known-last c = search needs
-
--- src/lib.rt:155:9
-enum-told-6 : tie.Need-enum-told-6
-enum-told-6 c = search needs
-
--- src/lib.rt:155:9
 returns-6 : tie.Need-returns-6
 unfolding fbsTail
 returns-6 c =
@@ -184,7 +103,6 @@ returns-6 c =
     let c25 = c23 .before .before in
     λ p m t. record { same = sym (step _ (found (limitTaken _) (c25 .read-norm .ensures) (c23 .l .given .1)) (step _ (found (passed _) (c20 .read-word .ensures) (c18 .b .given .1)) (step _ (found (policyTaken _) (c16 .read-policy .ensures) (c14 .q .given .1)) (step _ (found (passed _) (c11 .read-word2 .ensures) (c9 .e .given .1)) (step _ (found (tablesTaken _) (c7 .read-tables .ensures) (c5 .many .given .1)) (stop _ (found (passed _) (c2 .read-word3 .ensures) (c .enum-told6 .given .1)))))))); inside = search needs }
 
--- src/lib.rt:135:1
 returns-7 : tie.Need-returns-7
 unfolding fbsTail
 returns-7 c =
@@ -206,31 +124,31 @@ pub read-tail-spec : {M : Type 1} → statement M
 read-tail-spec =
     tie.close
     (tie.spec
-    read-norm-requires
-    enum-known-l
-    enum-told
+    (λ c κs. search needs)
+    (λ c. search needs)
+    (λ c. search needs)
     returns
-    slice-aggregate-read-word
+    (λ c. search needs)
     read-word-requires
-    enum-known-b
-    enum-told-2
+    (λ c. search needs)
+    (λ c. search needs)
     returns-2
     read-policy-requires
-    enum-known-q
-    enum-told-3
+    (λ c. search needs)
+    (λ c. search needs)
     returns-3
-    slice-aggregate-read-word-2
+    (λ c. search needs)
     read-word-requires-2
-    enum-known-e
-    enum-told-4
+    (λ c. search needs)
+    (λ c. search needs)
     returns-4
     read-tables-requires
-    enum-known-many
-    enum-told-5
+    (λ c. search needs)
+    (λ c. search needs)
     returns-5
-    slice-aggregate-read-word-3
+    (λ c. search needs)
     read-word-requires-3
-    enum-known-last
-    enum-told-6
+    (λ c. search needs)
+    (λ c. search needs)
     returns-6
     returns-7)

@@ -1,34 +1,13 @@
 use mathlib.Core.Path.{refl, sym, ap, _∙_}
+use borrow.Author.Needs.{needs}
 use Rattle.text.specs.Capped.{capped, capped-none}
 use Rattle.text.specs.Chain.{step, stop}
 use Rattle.text.specs.Reads.{passed, endOf, found, ends}
 use Rattle.text.specs.Wire.{capWire}
 use Rattle.circuit.specs.WiresRead.{spacedWire}
-use borrow.Author.Needs.{needs}
 use Rattle.circuit.proofs.spaced_wire.Statement.{statement}
 use Rattle.circuit.proofs.spaced_wire.Tie as tie
-use Rattle.circuit.proofs.spaced_wire.Reads as reads
-use Rattle.circuit.proofs.spaced_wire.Lts as lts
-use Rattle.text.proofs.read_wire.Reads as read-wire-reads
-use Rattle.text.proofs.read_word.Reads as read-word-reads
 
--- src/lib.rt:87:47
-slice-aggregate-read-word : tie.Need-slice-aggregate-read-word
-slice-aggregate-read-word c = search needs
-
--- src/lib.rt:87:24
-read-word-requires : tie.Need-read-word-requires
-read-word-requires c κs = search needs
-
--- src/lib.rt:87:19
-enum-known-a : tie.Need-enum-known-a
-enum-known-a c = search needs
-
--- src/lib.rt:88:9
-enum-told : tie.Need-enum-told
-enum-told c = search needs
-
--- src/lib.rt:88:9
 returns : tie.Need-returns
 unfolding spacedWire
 returns c =
@@ -37,11 +16,9 @@ returns c =
       inside = search needs;
     }
 
--- src/lib.rt:90:5
 read-wire-requires : tie.Need-read-wire-requires
 read-wire-requires c κs = ends endOf (c .before .before .before .read-word .ensures) (c .before .a .given .1)
 
--- src/lib.rt:83:1
 returns-2 : tie.Need-returns-2
 unfolding spacedWire
 returns-2 c =
@@ -55,10 +32,10 @@ pub spaced-wire-spec : {M : Type 1} → statement M
 spaced-wire-spec =
     tie.close
     (tie.spec
-    slice-aggregate-read-word
-    read-word-requires
-    enum-known-a
-    enum-told
+    (λ c. search needs)
+    (λ c κs. search needs)
+    (λ c. search needs)
+    (λ c. search needs)
     returns
     read-wire-requires
     returns-2)

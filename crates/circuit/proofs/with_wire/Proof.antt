@@ -2,25 +2,15 @@ use borrow.Author.Needs.{needs}
 use Rattle.circuit.specs.Wires.{wire-first, wire-second, wire-more}
 use Rattle.circuit.proofs.with_wire.Statement.{statement}
 use Rattle.circuit.proofs.with_wire.Tie as tie
-use Rattle.circuit.proofs.with_wire.Reads as reads
-use Rattle.circuit.proofs.with_wire.Lts as lts
-use Rattle.circuit.proofs.is_astray.Reads as is-astray-reads
 
--- src/lib.rt:30:29
-is-astray-requires : tie.Need-is-astray-requires
-is-astray-requires c κs = search needs
-
--- src/lib.rt:32:9
 returns : tie.Need-returns
 returns c = wire-first _ _ _ _ (c .before .before .before .is-astray .ensures) (c .if1 .taken)
 
--- src/lib.rt:35:9
 returns-2 : tie.Need-returns-2
 returns-2 c = wire-second _ _ _ _ (c .before .before .before .before .before .is-astray .ensures) (c .if2 .taken)
 
--- src/lib.rt:25:1
 returns-3 : tie.Need-returns-3
 returns-3 c = wire-more _ _ _ _ (c .before .before .before .before .before .is-astray .ensures) (c .before .before .if1 .left) (c .if2 .left)
 
 pub with-wire-spec : {M : Type 1} → statement M
-with-wire-spec = tie.close (tie.spec is-astray-requires returns returns-2 returns-3)
+with-wire-spec = tie.close (tie.spec (λ c κs. search needs) returns returns-2 returns-3)

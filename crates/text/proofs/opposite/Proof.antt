@@ -5,7 +5,7 @@ use borrow.Author.Needs.{needs}
 use lib.IntN.{pos, negℤ, _-ℤ_, +ℤ-idl}
 use mir.Facts.{toZ-ofZ}
 use mir.Syntax.{w64}
-use mir.Val.{toZ, ofZ, SFits}
+use mir.Val.{toZ, SFits}
 use Rattle.laws.specs.Integer.{abs-neg, fits-abs}
 use Rattle.text.proofs.opposite.Statement.{statement}
 use Rattle.text.proofs.opposite.Tie as tie

@@ -1,4 +1,4 @@
-use mathlib.Core.Path.{refl, sym, _∙_}
+use mathlib.Core.Path.{_∙_}
 use native.Mathlib.Omega.{arith}
 use borrow.Author.Needs.{needs}
 use Rattle.text.specs.Capped.{capped-some, capped-none}
