@@ -1,75 +1,222 @@
-// The cases in turn.
+// The cases in turn. A case is a header line, LEN bytes of text and a newline; the header is `A LEN`, `C LEN`, `R LEN BITS COUNT` or
+// `N LEN BITS COUNT`, BITS a digit for each byte handed in as a bit or `-` for none, COUNT the length of the lent buffer, filled with 7.
+use crate::circuits::put_circuit;
+use crate::circuits::put_refusal;
+use crate::print::end_line;
+use crate::print::put;
+use crate::print::put_all;
+use crate::print::put_next;
+use crate::print::put_value;
+use rules::AdmitReply;
+use rules::RunReply;
+use rules::Stats;
 
-// A number and the place after it.
 struct Number {
     value: usize,
     end: usize,
 }
 
+fn is_digit(b: u8) -> bool {
+    if b < b'0' {
+        return false;
+    }
+    b <= b'9'
+}
+
+fn with_digit(v: usize, b: u8) -> usize {
+    if 1048576 < v {
+        return v;
+    }
+    v * 10 + (b as usize) % 16
+}
+
 fn number_at(s: &[u8], at: usize) -> Number {
     let mut value = 0;
     let mut i = at;
-    while i < s.len() && b'0' <= s[i] && s[i] <= b'9' {
-        value = value * 10 + ((s[i] - b'0') as usize);
-        if 1048576 < value {
-            value = 1048576;
+    while i < s.len() {
+        if !is_digit(s[i]) {
+            return Number { value, end: i };
         }
+        value = with_digit(value, s[i]);
         i += 1;
     }
     Number { value, end: i }
 }
 
-// The bits of a header, up to a space; how many.
+// Where the next word of a header begins: past one space.
+fn past(s: &[u8], at: usize) -> usize {
+    if at < s.len() { at + 1 } else { at }
+}
+
+// Up to 64 digits from `at` on, as bytes; how many.
 fn take_bits(s: &[u8], at: usize, bits: &mut [u8; 64]) -> usize {
     let mut n = 0;
-    while n < 64 && at + n < s.len() && b'0' <= s[at + n] && s[at + n] <= b'9' {
-        bits[n] = s[at + n] - b'0';
+    let mut i = at;
+    while i < s.len() {
+        if 64 <= n {
+            return n;
+        }
+        if !is_digit(s[i]) {
+            return n;
+        }
+        bits[n] = s[i] % 16;
         n += 1;
+        i += 1;
     }
     n
 }
 
-fn answer_run(text: &[u8], bits: &[u8], count: usize) {
-    let mut values = [7i64; 64];
-    let all = &mut values[..];
-    if count <= 64 {
-        let part = &mut all[0..count];
-        let r = network::run_network(text, bits, part);
-        crate::print::print_run(r, part);
+fn put_stats(out: &mut [u8], s: Stats) -> usize {
+    let a = put(out, 0, b'0');
+    let b = put_next(out, a, s.inputs);
+    let c = put_next(out, b, s.sums);
+    let d = put_next(out, c, s.boots);
+    let e = put_next(out, d, s.sources);
+    let f = put_next(out, e, s.longest);
+    let g = put_next(out, f, s.norm);
+    put_next(out, g, s.outputs)
+}
+
+fn put_admission(out: &mut [u8], r: AdmitReply) -> usize {
+    match r {
+        AdmitReply::Admitted(s) => put_stats(out, s),
+        AdmitReply::Refused(number, line) => put_refusal(out, number, line),
     }
+}
+
+fn put_run(out: &mut [u8], r: RunReply) -> usize {
+    match r {
+        RunReply::Ran(n) => {
+            let a = put(out, 0, b'0');
+            put_next(out, a, n)
+        }
+        RunReply::Unreadable(number, line) => {
+            let a = put_all(out, 0, b"no");
+            let b = put_next(out, a, number);
+            put_next(out, b, line)
+        }
+        RunReply::BadBits => put_all(out, 0, b"bits"),
+        RunReply::ShortBuffer => put_all(out, 0, b"short"),
+        RunReply::BrokenOff => put_all(out, 0, b"broken"),
+    }
+}
+
+fn put_values(out: &mut [u8], at: usize, values: &[i64]) -> usize {
+    let mut to = put_all(out, at, b" |");
+    let mut i = 0;
+    while i < values.len() {
+        to = put_value(out, to, values[i]);
+        i += 1;
+    }
+    to
+}
+
+fn put_bits(out: &mut [u8], at: usize, values: &[u8]) -> usize {
+    let mut to = put_all(out, at, b" |");
+    let mut i = 0;
+    while i < values.len() {
+        to = put_next(out, to, values[i] as usize);
+        i += 1;
+    }
+    to
+}
+
+fn answer_admission(text: &[u8]) {
+    let mut out = [0u8; 8192];
+    let r = network::admit(text);
+    let n = put_admission(&mut out, r);
+    end_line(&mut out, n);
+}
+
+fn answer_reader(text: &[u8]) {
+    let mut out = [0u8; 8192];
+    let r = circuit::read(text);
+    if r.number != 0 {
+        let n = put_refusal(&mut out, r.number, r.line);
+        end_line(&mut out, n);
+        return;
+    }
+    let c = r.circuit;
+    let a = put_all(&mut out, 0, b"0 ");
+    let n = put_circuit(&mut out, a, c);
+    end_line(&mut out, n);
+}
+
+fn network_run(text: &[u8], bits: &[u8], values: &mut [i64]) {
+    let mut out = [0u8; 8192];
+    let r = network::run_network(text, bits, values);
+    let a = put_run(&mut out, r);
+    let n = put_values(&mut out, a, values);
+    end_line(&mut out, n);
+}
+
+fn circuit_run(text: &[u8], bits: &[u8], values: &mut [u8]) {
+    let mut out = [0u8; 8192];
+    let r = circuit::run_circuit(text, bits, values);
+    let a = put_run(&mut out, r);
+    let n = put_bits(&mut out, a, values);
+    end_line(&mut out, n);
+}
+
+fn answer_run(kind: u8, text: &[u8], bits: &[u8], count: usize) {
+    if 64 < count {
+        return;
+    }
+    if kind == b'N' {
+        let mut values = [7i64; 64];
+        network_run(text, bits, &mut values[0..count]);
+        return;
+    }
+    let mut values = [7u8; 64];
+    circuit_run(text, bits, &mut values[0..count]);
+}
+
+// A run's header goes on at `at`; where its text begins is past the newline.
+fn answer_long(kind: u8, s: &[u8], at: usize, length: usize) -> usize {
+    let mut bits = [0u8; 64];
+    let n = take_bits(s, at, &mut bits);
+    let word = if n == 0 { past(s, at) } else { at + n };
+    let count = number_at(s, past(s, word));
+    let start = past(s, count.end);
+    if s.len() - start < length {
+        return s.len();
+    }
+    answer_run(kind, &s[start..start + length], &bits[..n], count.value);
+    start + length
+}
+
+fn answer_short(kind: u8, s: &[u8], start: usize, length: usize) -> usize {
+    if s.len() - start < length {
+        return s.len();
+    }
+    if kind == b'A' {
+        answer_admission(&s[start..start + length]);
+    } else {
+        answer_reader(&s[start..start + length]);
+    }
+    start + length
 }
 
 // The case whose header begins at `at`; where the next begins.
 fn answer_case(s: &[u8], at: usize) -> usize {
     let kind = s[at];
-    let length = number_at(s, at + 2);
-    let mut bits = [0u8; 64];
-    let n = take_bits(s, length.end + 1, &mut bits);
-    let past = if n == 0 { 1 } else { n };
-    let count = number_at(s, length.end + past + 2);
-    let start = if kind == b'A' || kind == b'C' {
-        length.end + 1
+    let length = number_at(s, past(s, past(s, at)));
+    let next = past(s, length.end);
+    let end = if kind == b'A' || kind == b'C' {
+        answer_short(kind, s, next, length.value)
     } else {
-        count.end + 1
+        answer_long(kind, s, next, length.value)
     };
-    let end = start + length.value;
-    if s.len() < end {
-        return s.len();
-    }
-    let text = &s[start..end];
-    if kind == b'A' {
-        crate::print::print_admission(network::admit(text));
-    }
-    if kind == b'N' {
-        let all = &bits[..];
-        answer_run(text, &all[0..n], count.value);
-    }
-    end + 1
+    past(s, end)
 }
 
 pub fn answer_all(s: &[u8]) {
     let mut at = 0;
     while at < s.len() {
-        at = answer_case(s, at);
+        let next = answer_case(s, at);
+        if next <= at {
+            return;
+        }
+        at = next;
     }
 }
