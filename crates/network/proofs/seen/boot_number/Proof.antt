@@ -1,0 +1,78 @@
+use Rattle.network.specs.Seen.{boot-met, boot-unknown, boot-read, boot-misfit, boot-long, boot-good, boot-bent}
+use borrow.Author.Needs.{needs}
+use Rattle.network.proofs.seen.boot_number.Statement.{statement}
+use Rattle.network.proofs.seen.boot_number.Tie as tie
+use Rattle.network.proofs.seen.boot_number.Reads as reads
+use Rattle.network.proofs.seen.boot_number.Lts as lts
+use Rattle.network.proofs.seen.node_number.Reads as node-number-reads
+use Rattle.network.proofs.table.is_rotatable.Reads as is-rotatable-reads
+
+-- src/seen.rt:159:9
+node-number-requires : tie.Need-node-number-requires
+node-number-requires c κs = search needs
+
+-- src/seen.rt:161:9
+returns : tie.Need-returns
+returns c = boot-met _ _ (c .before .node-number .ensures) _ _ _ _ (c .if1 .taken)
+
+-- src/seen.rt:164:9
+returns-2 : tie.Need-returns-2
+returns-2 c = boot-unknown _ _ (c .before .before .node-number .ensures) _ _ _ _ (c .before .if1 .left) (c .if2 .taken)
+
+-- src/seen.rt:167:9
+returns-3 : tie.Need-returns-3
+returns-3 c = boot-read (c .before .before .before .before .before .args .judge) _ (c .before .before .before .node-number .ensures) _ _ _ _ (c .before .before .if1 .left) (c .before .if2 .left) (c .if3 .taken)
+
+-- src/seen.rt:169:8
+mul-if4 : tie.Need-mul-if4
+mul-if4 c = search needs
+
+-- src/seen.rt:169:8
+element-copy-out-if4 : tie.Need-element-copy-out-if4
+element-copy-out-if4 c = search needs
+
+-- src/seen.rt:169:26
+sub-if4 : tie.Need-sub-if4
+sub-if4 c = search needs
+
+-- src/seen.rt:170:9
+returns-4 : tie.Need-returns-4
+returns-4 c = boot-misfit (c .before .before .before .before .before .before .before .args .judge) _ (c .before .before .before .before .before .node-number .ensures) _ _ _ _ (c .before .before .before .before .if1 .left) (c .before .before .before .if2 .left) (c .before .before .if3 .left) (c .if4 .taken)
+
+-- src/seen.rt:172:14
+sub-if5 : tie.Need-sub-if5
+sub-if5 c = search needs
+
+-- src/seen.rt:173:9
+returns-5 : tie.Need-returns-5
+returns-5 c = boot-long (c .before .before .before .before .before .before .before .before .args .judge) _ (c .before .before .before .before .before .before .node-number .ensures) _ _ _ _ (c .before .before .before .before .before .if1 .left) (c .before .before .before .before .if2 .left) (c .before .before .before .if3 .left) (c .before .if4 .left) (c .if5 .taken)
+
+-- src/seen.rt:175:8
+is-rotatable-requires : tie.Need-is-rotatable-requires
+is-rotatable-requires c κs = search needs
+
+-- src/seen.rt:154:1
+returns-6 : tie.Need-returns-6
+returns-6 c = boot-good (c .before .before .before .before .before .before .before .before .before .before .args .judge) _ (c .before .before .before .before .before .before .before .before .node-number .ensures) _ _ _ _ (c .before .before .before .before .before .before .before .if1 .left) (c .before .before .before .before .before .before .if2 .left) (c .before .before .before .before .before .if3 .left) (c .before .before .before .if4 .left) (c .before .before .if5 .left) (c .before .is-rotatable .ensures) (c .if6 .taken)
+
+-- src/seen.rt:154:1
+returns-7 : tie.Need-returns-7
+returns-7 c = boot-bent (c .before .before .before .before .before .before .before .before .before .before .args .judge) _ (c .before .before .before .before .before .before .before .before .node-number .ensures) _ _ _ _ (c .before .before .before .before .before .before .before .if1 .left) (c .before .before .before .before .before .before .if2 .left) (c .before .before .before .before .before .if3 .left) (c .before .before .before .if4 .left) (c .before .before .if5 .left) (c .before .is-rotatable .ensures) (c .if6 .left)
+
+pub boot-number-spec : {M : Type 1} → statement M
+boot-number-spec =
+    tie.close
+    (tie.spec
+    node-number-requires
+    returns
+    returns-2
+    returns-3
+    mul-if4
+    element-copy-out-if4
+    sub-if4
+    returns-4
+    sub-if5
+    returns-5
+    is-rotatable-requires
+    returns-6
+    returns-7)

@@ -1,0 +1,26 @@
+use Rattle.network.specs.Seen.{out-unstarted, out-full, out-wire}
+use borrow.Author.Needs.{needs}
+use Rattle.network.proofs.seen.out_number.Statement.{statement}
+use Rattle.network.proofs.seen.out_number.Tie as tie
+use Rattle.network.proofs.seen.out_number.Reads as reads
+use Rattle.network.proofs.seen.out_number.Lts as lts
+use Rattle.network.proofs.seen.wire_number.Reads as wire-number-reads
+
+-- src/seen.rt:199:9
+returns : tie.Need-returns
+returns c = out-unstarted _ (c .before .before .args .k) _ (c .if1 .taken)
+
+-- src/seen.rt:202:9
+returns-2 : tie.Need-returns-2
+returns-2 c = out-full _ (c .before .before .before .before .args .k) _ (c .before .before .if1 .left) (c .if2 .taken)
+
+-- src/seen.rt:205:5
+wire-number-requires : tie.Need-wire-number-requires
+wire-number-requires c κs = search needs
+
+-- src/seen.rt:194:1
+returns-3 : tie.Need-returns-3
+returns-3 c = out-wire _ (c .before .before .before .before .before .before .before .args .k) _ (c .before .before .before .before .before .if1 .left) (c .before .before .before .if2 .left) (c .wire-number .ensures)
+
+pub out-number-spec : {M : Type 1} → statement M
+out-number-spec = tie.close (tie.spec returns returns-2 wire-number-requires returns-3)

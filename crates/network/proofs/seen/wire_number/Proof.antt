@@ -1,0 +1,51 @@
+use Rattle.network.specs.Seen.{wire-constant, wire-unknown, wire-read, wire-bit, wire-other}
+use borrow.Author.Needs.{needs}
+use Rattle.network.proofs.seen.wire_number.Statement.{statement}
+use Rattle.network.proofs.seen.wire_number.Tie as tie
+use Rattle.network.proofs.seen.wire_number.Reads as reads
+use Rattle.network.proofs.seen.wire_number.Lts as lts
+
+-- src/seen.rt:182:20
+enum-known-w : tie.Need-enum-known-w
+enum-known-w c = search needs
+
+-- src/seen.rt:183:9
+enum-told : tie.Need-enum-told
+enum-told c = search needs
+
+-- src/seen.rt:183:9
+returns : tie.Need-returns
+returns c = wire-constant _ _ _ _ (c .enum-told .given .1)
+
+-- src/seen.rt:186:9
+returns-2 : tie.Need-returns-2
+returns-2 c = wire-unknown _ _ _ _ (c .before .before .w .given .1) (c .if1 .taken)
+
+-- src/seen.rt:189:9
+returns-3 : tie.Need-returns-3
+returns-3 c = wire-read (c .before .before .before .before .before .args .judge) _ _ _ (c .before .before .before .w .given .1) (c .before .if1 .left) (c .if2 .taken)
+
+-- src/seen.rt:191:8
+element-copy-out-if3 : tie.Need-element-copy-out-if3
+element-copy-out-if3 c = search needs
+
+-- src/seen.rt:178:1
+returns-4 : tie.Need-returns-4
+returns-4 c = wire-bit (c .before .before .before .before .before .before .before .args .judge) _ _ _ (c .before .before .before .before .before .w .given .1) (c .before .before .before .if1 .left) (c .before .before .if2 .left) (c .if3 .taken)
+
+-- src/seen.rt:178:1
+returns-5 : tie.Need-returns-5
+returns-5 c = wire-other (c .before .before .before .before .before .before .before .args .judge) _ _ _ (c .before .before .before .before .before .w .given .1) (c .before .before .before .if1 .left) (c .before .before .if2 .left) (c .if3 .left)
+
+pub wire-number-spec : {M : Type 1} → statement M
+wire-number-spec =
+    tie.close
+    (tie.spec
+    enum-known-w
+    enum-told
+    returns
+    returns-2
+    returns-3
+    element-copy-out-if3
+    returns-4
+    returns-5)

@@ -1,0 +1,26 @@
+use Rattle.network_text.specs.LineIs.{out-open, out-is}
+use borrow.Author.Needs.{needs}
+use Rattle.network_text.proofs.line.out_line.Statement.{statement}
+use Rattle.network_text.proofs.line.out_line.Tie as tie
+use Rattle.network_text.proofs.line.out_line.Reads as reads
+use Rattle.network_text.proofs.line.out_line.Lts as lts
+use Rattle.network_text.proofs.line.plain.Reads as plain-reads
+
+-- src/line.rt:176:9
+plain-requires : tie.Need-plain-requires
+plain-requires c κs = search needs
+
+-- src/line.rt:176:9
+returns : tie.Need-returns
+returns c = out-open (c .before .before .before .pre) (c .before .if1 .taken) (c .plain .ensures)
+
+-- src/line.rt:178:5
+plain-requires-2 : tie.Need-plain-requires-2
+plain-requires-2 c κs = search needs
+
+-- src/line.rt:171:1
+returns-2 : tie.Need-returns-2
+returns-2 c = out-is (c .before .before .before .pre) (c .before .if1 .left) (c .plain2 .ensures)
+
+pub out-line-spec : {M : Type 1} → statement M
+out-line-spec = tie.close (tie.spec plain-requires returns plain-requires-2 returns-2)
