@@ -1,11 +1,11 @@
 -- A list written over the front of another, whose later elements stay.
-use mathlib.Core.Path.{_≡_, refl, sym, ap, _∙_}
+use mathlib.Core.Path.{_≡_, refl, ap}
 use mathlib.Core.List.{List, [], _∷_, _++_, append-assoc}
-use Prim.Native.Nat.{ℕ, zero, suc, _+_, _-_, _<_, _≤_}
-use native.Mathlib.Nat.{not-suc-le-zero, le-of-suc-le-suc, suc-add}
+use Prim.Native.Nat.{ℕ, zero, suc, _+_, _-_, _≤_}
+use native.Mathlib.Nat.{not-suc-le-zero, le-of-suc-le-suc}
 use native.Mathlib.Omega.{arith}
-use lib.ListN.{length, getD, set, take, drop, length-append, length-drop, take-append-drop}
-use lib.Seq.{drop-drop, take-at, drop-at, drop-append-add}
+use lib.ListN.{length, take, drop, length-append, length-drop}
+use lib.Seq.{drop-drop, take-at, drop-append-add}
 use Rattle.laws.specs.Front.{front}
 
 module _ {ℓ} {A : Type ℓ} where
@@ -31,10 +31,6 @@ module _ {ℓ} {A : Type ℓ} where
   unfolding over
   take-over s d n e = take-at s _ n e
 
-  pub drop-over : (s d : List A) (n : ℕ) → length s ≡ n → drop n (over s d) ≡ drop n d
-  unfolding over
-  drop-over s d n e = drop-at s _ n e ∙ ap (λ k. drop k d) e
-
   -- a loop that has filled as many elements as s has is done
   pub front-over : (s d : List A) (i : ℕ) → length s ≡ i → length s ≤ length d → front s d i ≡ over s d
   unfolding over front
@@ -43,19 +39,3 @@ module _ {ℓ} {A : Type ℓ} where
   front-over (x ∷ s) [] i e h = absurd (not-suc-le-zero h)
   front-over (x ∷ s) (y ∷ d) zero e h = absurd (omega arith)
   front-over (x ∷ s) (y ∷ d) (suc i) e h = ap {B = List A} (λ r. x ∷ r) (front-over s d i (omega arith) (le-of-suc-le-suc h))
-
-  -- s written over d from index i on
-  unfoldable pub at : ℕ → List A → List A → List A
-  at i s d = take i d ++ over s (drop i d)
-
-  pub at-nil : (i : ℕ) (d : List A) → at i [] d ≡ d
-  unfolding at over
-  at-nil i d = take-append-drop i d
-
-  -- one more element before those that are written
-  pub at-back : (j : ℕ) (t d : List A) (x : A) → j < length d → set (at (j + 1) t d) j x ≡ at j (x ∷ t) d
-  unfolding at over
-  at-back zero t [] x h = absurd (not-suc-le-zero h)
-  at-back zero t (y ∷ d) x h = refl
-  at-back (suc j) t [] x h = absurd (not-suc-le-zero h)
-  at-back (suc j) t (y ∷ d) x h = rw (suc-add j 1) (ap {B = List A} (λ r. y ∷ r) (at-back j t d x (le-of-suc-le-suc h)))

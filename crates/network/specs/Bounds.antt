@@ -1,5 +1,5 @@
 -- Bounds and norm of a sum, as the code reckons them.
-use mathlib.Core.Path.{_≡_, refl, sym, ap, _∙_}
+use mathlib.Core.Path.{_≡_, refl, _∙_}
 use mathlib.Core.Bool.{Bool, true, false, _&&_}
 use mathlib.Core.List.{List, [], _∷_, map}
 use Prim.Native.Nat.{ℕ, zero, suc, _+_, _*_, _<_, _≤_}
@@ -10,7 +10,6 @@ use lib.ListN.{getD}
 use lib.Signed.{leZ, ltZ, nonNeg}
 use mir.Syntax.{w64}
 use mir.Val.{SFits, ofZ}
-use Rattle.laws.specs.Test.{if_then_else_}
 use Rattle.laws.specs.Integer.{plus, minus, ltZ-true, ltZ-false, true-leZ, false-leZ, abs-bits, abs-add}
 use Rattle.rules.specs.Network.{Term, below0, above0, leastSum, greatestSum}
 use Rattle.rules.specs.Scale.{norm}

@@ -1,19 +1,19 @@
 -- The counts of a network's nodes with one node more.
-use mathlib.Core.Path.{_≡_, refl, sym, ap, ap₂, _∙_}
+use mathlib.Core.Path.{_≡_, refl, sym, ap, _∙_}
 use mathlib.Core.Bool.{Bool, true, false, _||_, or-false, or-true, or-assoc}
 use mathlib.Core.List.{List, [], _∷_, _++_, append-nil}
-use mathlib.Core.Logic.{_≢_, ⊎-elim}
-use Prim.Native.Nat.{ℕ, zero, suc, _+_, _-_, _<_, _≤_, max}
+use mathlib.Core.Logic.{⊎-elim}
+use Prim.Native.Nat.{ℕ, suc, _+_, _<_, _≤_, max}
 use native.Mathlib.Omega.{arith}
 use borrow.Author.Tests.{eq-eqb, ne-eqb}
 use lib.Dec.{eqb}
 use lib.IntN.{ℤ}
-use lib.ListN.{length, getD, set, replicate, length-set}
+use lib.ListN.{length, getD, set, length-set}
 use lib.Seq.{getD-set-same, getD-set-other, ext-getD}
 use Rattle.laws.specs.Tabulate.{tabulate, tabulate-length, tabulate-at}
 use Rattle.laws.specs.Test.{if_then_else_, if-both, eq-or-ne}
 use Rattle.rules.specs.Circuit.{Name}
-use Rattle.rules.specs.Network.{Term, LutNode, Input, Linear, Bootstrap, isInput, isLinear, isBootstrap, tableLength, nodeNorm, count, largest, bootSources, member, different}
+use Rattle.rules.specs.Network.{Term, LutNode, Input, Linear, Bootstrap, isLinear, isBootstrap, tableLength, nodeNorm, count, largest, bootSources, member, different}
 use Rattle.network.specs.Bounds.{coefNorm}
 use Rattle.network.specs.Tally.{Room, noNodes, withInput, withSum, withBoot}
 use Rattle.network.specs.declared.tally.Tally.{Tally}

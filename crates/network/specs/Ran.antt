@@ -1,26 +1,26 @@
 -- The values that the code keeps are those of the nodes and outputs so far.
 use mathlib.Core.Path.{_≡_, refl, sym, ap, ap₂, subst, _∙_}
-use mathlib.Core.Bool.{Bool, true, false, _||_, true≢false}
-use mathlib.Core.List.{List, [], _∷_, _++_, map}
+use mathlib.Core.Bool.{true, false, _||_, true≢false}
+use mathlib.Core.List.{List, [], _∷_, _++_}
 use mathlib.Core.Logic.{⊎-elim}
 use mathlib.Core.Option.{Option, none, some, Option·map, Option·some-injective, Option·none-ne-some}
-use Prim.Native.Nat.{ℕ, zero, suc, _+_, _-_, _<_, _≤_}
-use native.Mathlib.Nat.{not-suc-le-zero, le-of-suc-le-suc}
+use Prim.Native.Nat.{ℕ, suc, _+_, _<_, _≤_}
+use native.Mathlib.Nat.{not-suc-le-zero}
 use native.Mathlib.Numerals.{add-one}
 use native.Mathlib.Omega.{arith}
-use borrow.Author.Tests.{le-leb, lt-leb, lt-ltb, le-ltb, leb-false}
-use lib.Dec.{T, leb, ltb}
+use borrow.Author.Tests.{le-leb, lt-ltb, le-ltb, leb-false}
+use lib.Dec.{T, leb}
 use lib.IntN.{ℤ, pos, negsuc, _+ℤ_, _*ℤ_}
-use lib.ListN.{length, getD, set, take, drop, length-set, length-take, length-append, List·getD-append}
+use lib.ListN.{length, getD, set, take, length-set, length-take, length-append, List·getD-append}
 use lib.Seq.{take-suc-set, getD-take, getD-at, getD-set-same, getD-set-other}
-use Rattle.laws.specs.Test.{if_then_else_, isSome, lt-or-le, eq-or-ne}
+use Rattle.laws.specs.Test.{isSome, lt-or-le, eq-or-ne}
 use Rattle.rules.specs.declared.Wire.{Wire}
 use Rattle.rules.specs.declared.Wire.the-variants.{Const, Node}
 use Rattle.rules.specs.Circuit.{Name, Output}
 use Rattle.rules.specs.CircuitText.{noNode}
 use Rattle.rules.specs.Network.{Term, LutNode, Input, Linear, Bootstrap, sumFrom, nodeValue, nodeValues, wireValue, outputValues}
 use Rattle.rules.specs.Network as N
-use Rattle.rules.specs.NetworkText.{Net, NetworkLine, NetLine, NodeLine, OutLine, NetPrefix, sources, anyBadSource, unknown, nodeAt, started, settingsOf, withNetworkLine, noNetwork}
+use Rattle.rules.specs.NetworkText.{Net, NetLine, NodeLine, OutLine, NetPrefix, sources, anyBadSource, unknown, nodeAt, started, settingsOf, withNetworkLine, noNetwork}
 use Rattle.rules.specs.Rotation.{rotated, rotatable, centre}
 use Rattle.rules.specs.Rotation as R
 use Rattle.rules.specs.Runs.{allBits}

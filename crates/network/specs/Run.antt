@@ -1,26 +1,23 @@
 -- The network run as an entry: the text in one go, then the bits, the buffer and whether it broke off.
-use mathlib.Core.Path.{_≡_, refl, sym, ap, subst, _∙_}
-use mathlib.Core.Bool.{Bool, true, false, _&&_, not}
-use mathlib.Core.List.{List, [], _∷_}
+use mathlib.Core.Path.{_≡_, refl, sym, ap, _∙_}
+use mathlib.Core.Bool.{Bool, true, false}
+use mathlib.Core.List.{List, []}
 use mathlib.Core.Option.{Option, none, some, Option·map}
-use Prim.Native.Nat.{ℕ, suc, _+_, _-_, _<_, _≤_}
+use Prim.Native.Nat.{ℕ, _+_, _-_, _<_, _≤_}
 use native.Mathlib.Numerals.{add-one}
 use native.Mathlib.Omega.{arith}
 use borrow.Author.Tests.{eq-eqb, ne-eqb, le-leb, lt-leb, lt-ltb, le-ltb}
-use lib.Dec.{leb, ltb, eqb}
 use lib.IntN.{ℤ, pos}
 use lib.ListN.{length, getD, set, take, drop, replicate, length-take, drop-of-length-le}
 use lib.Seq.{drop-cons, getD-take}
 use Rattle.laws.specs.Front.{front, front-step}
 use Rattle.laws.specs.Over.{over, front-over}
 use Rattle.laws.specs.Test.{if_then_else_}
-use Rattle.rules.specs.declared.RunReply.{RunReply}
 use Rattle.rules.specs.declared.RunReply.the-variants.{Ran as Finished, Unreadable, BadBits, ShortBuffer, BrokenOff}
-use Rattle.rules.specs.Form.{Reading, Good, Refused}
+use Rattle.rules.specs.Form.{Good, Refused}
 use Rattle.rules.specs.Network.{Network, isInput, count, nodeValues, outputValues, networkRun}
-use Rattle.rules.specs.NetworkText.{Net, NetworkLine, NetPrefix, networkLine, textConditions, settingsOf, withNetworkLine, noNetwork, readNetwork}
+use Rattle.rules.specs.NetworkText.{Net, NetPrefix, withNetworkLine, noNetwork, readNetwork}
 use Rattle.rules.specs.Runs.{ran, allBits, bitsFor, withValues, runOn, runNetworkOn, runNetwork}
-use Rattle.text.specs.Judged.{lowest}
 use Rattle.text.specs.Line.{LineEnd}
 use Rattle.network_text.specs.Lines.{lineOf}
 use Rattle.network.specs.Ran.{Ran, ran-none}

@@ -1,25 +1,23 @@
 -- The network run, line by line.
-use mathlib.Core.Path.{_≡_, refl, sym, ap, ap₂, subst, _∙_}
-use mathlib.Core.Bool.{Bool, true, false, _||_, not, true≢false}
-use mathlib.Core.List.{List, [], _∷_, _++_}
+use mathlib.Core.Path.{_≡_, refl, sym, ap, subst}
+use mathlib.Core.Bool.{Bool, true, false, true≢false}
+use mathlib.Core.List.{List}
 use mathlib.Core.Option.{Option, none, some, Option·some-injective, Option·none-ne-some}
-use Prim.Native.Nat.{ℕ, suc, _+_, _-_, _<_, _≤_}
+use Prim.Native.Nat.{ℕ, _-_, _<_, _≤_}
 use native.Mathlib.Omega.{arith}
 use borrow.Author.Tests.{leb-false, not-false}
 use lib.Dec.{T, leb}
 use lib.IntN.{ℤ, pos}
 use lib.ListN.{length, getD, take, drop}
 use Rattle.laws.specs.Test.{if_then_else_}
-use Rattle.rules.specs.declared.Wire.{Wire}
 use Rattle.rules.specs.Circuit.{Name, Output}
 use Rattle.rules.specs.Form.{bitsFrom}
 use Rattle.rules.specs.Network.{Term, LutNode, Input, Linear, Bootstrap, isLinear, nodeValue, wireValue}
-use Rattle.rules.specs.NetworkText.{Net, NetworkLine, NetLine, NodeLine, OutLine, NetPrefix, networkLine, textConditions, started, ending, unknown, settingsOf, withNetworkLine}
+use Rattle.rules.specs.NetworkText.{Net, NetworkLine, NetLine, NodeLine, OutLine, NetPrefix, textConditions, started, ending, unknown, settingsOf, withNetworkLine}
 use Rattle.rules.specs.Rotation.{rotated}
 use Rattle.rules.specs.Runs.{allBits}
 use Rattle.text.specs.Judged.{lowest, unmet}
-use Rattle.text.specs.Line.{LineEnd}
-use Rattle.network_text.specs.Lines.{lineIn, lineOf, Within, TablePlace}
+use Rattle.network_text.specs.Lines.{lineIn, Within}
 use Rattle.network_text.specs.Terms.{termsOf}
 use Rattle.network_text.specs.declared.line.Line.{Line}
 use Rattle.network_text.specs.declared.line.Line.the-variants.{Bad, Net as NetRead, In, Lin as Sum, Boot, Out}
@@ -27,7 +25,7 @@ use Rattle.network_text.specs.declared.sum.Lin.{Lin}
 use Rattle.network.specs.Ran.{Ran, same-byte, boot-byte, input-value, linear-value, table-value, ran-net, ran-still, ran-breaks, ran-goes, ran-out, ran-out-still}
 use Rattle.network.specs.Stands.{Stands}
 use Rattle.network.specs.Verdict.{or-left}
-use Rattle.network.specs.Work.{byteOf, bootWork, lineWork, noValues, withValue, withOut, sumBytes}
+use Rattle.network.specs.Work.{byteOf, bootWork, lineWork, withValue, withOut, sumBytes}
 use Rattle.network.specs.declared.seen.Seen.{Seen}
 use Rattle.network.specs.declared.value.Work.{Work}
 

@@ -1,17 +1,16 @@
 -- The lines in turn: what a loop over them holds after each, and what it ends with.
 use mathlib.Core.Path.{_≡_, refl, sym, ap, _∙_}
 use mathlib.Core.Bool.{Bool, true, false}
-use mathlib.Core.List.{List, [], _∷_, _++_}
-use mathlib.Core.Option.{Option, none, some, Option·some-injective, Option·none-ne-some}
-use Prim.Native.Nat.{ℕ, _+_, _-_, _<_, _≤_}
+use mathlib.Core.List.{List}
+use mathlib.Core.Option.{some, Option·some-injective, Option·none-ne-some}
+use Prim.Native.Nat.{ℕ, _+_, _-_, _≤_}
 use native.Mathlib.Omega.{arith}
 use lib.ListN.{length, take, drop}
-use Rattle.rules.specs.declared.AdmitReply.{AdmitReply}
 use Rattle.rules.specs.declared.AdmitReply.the-variants.{Admitted, Refused as NotAdmitted}
 use Rattle.rules.specs.declared.Stats.{Stats}
-use Rattle.rules.specs.Form.{Reading, Good, Refused, bitsFrom}
-use Rattle.rules.specs.Network.{Network, Input, Linear, Bootstrap, stats}
-use Rattle.rules.specs.NetworkText.{NetworkLine, NetLine, NodeLine, OutLine, NetPrefix, networkLine, withNetworkLine, noNetwork, admitReply, admission}
+use Rattle.rules.specs.Form.{Good, Refused, bitsFrom}
+use Rattle.rules.specs.Network.{stats}
+use Rattle.rules.specs.NetworkText.{NetworkLine, NetPrefix, networkLine, withNetworkLine, noNetwork, admitReply, admission}
 use Rattle.text.specs.Judged.{lowest}
 use Rattle.text.specs.Line.{LineEnd}
 use Rattle.network_text.specs.Lines.{lineIn, lineOf, Within, LineRead}

@@ -1,5 +1,5 @@
 -- The values that the code keeps, line by line.
-use mathlib.Core.Path.{_≡_, refl, sym, ap, subst, _∙_}
+use mathlib.Core.Path.{_≡_, refl, subst}
 use mathlib.Core.Bool.{Bool, true, false}
 use mathlib.Core.List.{List, [], _∷_}
 use mathlib.Core.Option.{Option, none, some}
@@ -10,7 +10,7 @@ use lib.Dec.{leb}
 use lib.IntN.{ℤ, pos, negsuc, natAbs, _+ℤ_, _*ℤ_}
 use lib.ListN.{length, getD, set, take, drop, replicate}
 use lib.Signed.{ltZ}
-use Rattle.laws.specs.Integer.{plus, minus, ltZ-true, ltZ-false, abs-add, abs-mul-le}
+use Rattle.laws.specs.Integer.{plus, minus, ltZ-true, ltZ-false, abs-add}
 use Rattle.laws.specs.Test.{if_then_else_}
 use Rattle.rules.specs.declared.Limit.{Limit}
 use Rattle.rules.specs.declared.Wire.{Wire}
@@ -19,7 +19,7 @@ use Rattle.rules.specs.Form.{bitsFrom}
 use Rattle.rules.specs.Network.{Term, wireValue}
 use Rattle.rules.specs.Rotation.{rotated}
 use Rattle.network_text.specs.Lines.{Within, TablePlace}
-use Rattle.network_text.specs.Terms.{Small, termsOf, termsAt, terms-next, terms-end}
+use Rattle.network_text.specs.Terms.{termsOf, termsAt, terms-next, terms-end}
 use Rattle.network_text.specs.declared.line.Line.{Line}
 use Rattle.network_text.specs.declared.line.Line.the-variants.{Bad, Net as NetRead, In, Lin as Sum, Boot, Out}
 use Rattle.network_text.specs.declared.sum.Lin.{Lin}

@@ -1,6 +1,5 @@
 // Bounds and norm of a sum.
 ghost use mathlib.Core.Path.{_≡_};
-ghost use mathlib.Core.List.{map};
 ghost use Prim.Native.Nat.{_*_, _≤_};
 ghost use lib.IntN.{natAbs};
 ghost use Rattle.network_text.specs.Terms.{Small, termsOf};

@@ -1,6 +1,6 @@
 // What is kept of the lines so far, and the number that a further line is refused with.
 ghost use mathlib.Core.Path.{_≡_};
-ghost use Prim.Native.Nat.{_+_, _-_, _<_, _≤_};
+ghost use Prim.Native.Nat.{_+_, _-_, _<_};
 ghost use lib.ListN.{length, take, drop};
 ghost use Rattle.rules.specs.NetworkText.{over};
 ghost use Rattle.text.specs.Forms.{Named};
@@ -8,7 +8,7 @@ ghost use Rattle.text.specs.Judged.{lowest};
 ghost use Rattle.text.specs.Names.{nameBytes};
 ghost use Rattle.network_text.specs.Lines.{TablePlace, Within};
 ghost use Rattle.network_text.specs.Terms.{Small, termsOf};
-ghost use Rattle.network.specs.Seen.{noLines, Sized, Flags, namesOf, repeated, inConditions, nodeConditions, badSource, linConditions, bootConditions, wireConditions, outConditions, seenConditions, withNet, withNode, withName, withOutput, RoomFor, Follows};
+ghost use Rattle.network.specs.Seen.{noLines, Sized, Flags, repeated, inConditions, nodeConditions, badSource, linConditions, bootConditions, wireConditions, outConditions, seenConditions, withNet, withNode, withName, withOutput, RoomFor, Follows};
 use network_text::Lin;
 use network_text::Line;
 use network_text::Read;

@@ -1,26 +1,25 @@
 -- The terms of a sum gathered one by one, as long as they are those of a good sum.
 use mathlib.Core.Path.{_≡_, refl, sym, ap, ap₂, subst, _∙_}
-use mathlib.Core.Bool.{Bool, true, false, _&&_, _||_, not, and-true, and-false, and-assoc, or-true, or-false, or-assoc, true≢false}
+use mathlib.Core.Bool.{Bool, true, false, _&&_, _||_, not, and-false, and-assoc, or-true, or-false, or-assoc, true≢false}
 use mathlib.Core.List.{List, [], _∷_, _++_, append-assoc, append-nil}
 use mathlib.Core.Logic.{⊎-elim}
 use mathlib.Core.Option.{Option, none, some, Option·some-injective, Option·none-ne-some}
-use Prim.Native.Nat.{ℕ, zero, suc, _+_, _-_, _<_, _≤_, min}
+use Prim.Native.Nat.{ℕ, zero, suc, _<_, _≤_, min}
 use native.Mathlib.Nat.{not-suc-le-zero, le-of-suc-le-suc}
 use native.Mathlib.Omega.{arith}
 use borrow.Author.Tests.{eq-eqb, ne-eqb, le-leb, lt-leb}
 use lib.Dec.{T, leb, eqb, leb→le}
-use lib.IntN.{ℤ, pos, natAbs}
-use lib.ListN.{length, getD, take, drop, set, replicate, length-append, length-set, length-drop}
+use lib.IntN.{ℤ, natAbs}
+use lib.ListN.{length, getD, drop, length-append, length-set, length-drop}
 use lib.Seq.{getD-set-same, getD-set-other}
 use mir.Syntax.{w64}
 use mir.Val.{toZ, ofZ}
-use Rattle.laws.specs.Test.{if_then_else_, allb, allb-at, allb-all, and-left, and-right, and-both, is-T, T-is, decide, eq-or-ne, lt-or-le}
-use Rattle.rules.specs.CircuitText.{sameName}
-use Rattle.rules.specs.Form.{Piece, Reader, give, onward, many, valueFrom}
+use Rattle.laws.specs.Test.{if_then_else_, allb, allb-at, allb-all, and-left, and-right, is-T, T-is, decide, eq-or-ne, lt-or-le}
+use Rattle.rules.specs.Form.{Piece, give, onward, many}
 use Rattle.rules.specs.Network.{Term, member}
 use Rattle.rules.specs.NetworkText.{small, goodTerms, goodSum, sources, allDifferent}
 use Rattle.text.specs.Capped.{capped, exact-some, exact-none}
-use Rattle.text.specs.Decimal.{Decimal, same-number}
+use Rattle.text.specs.Decimal.{same-number}
 use Rattle.text.specs.Many.{many-none, many-some}
 use Rattle.text.specs.Number.{digitsValue}
 use Rattle.text.specs.Reads.{found, ends}

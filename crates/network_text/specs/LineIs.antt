@@ -1,32 +1,30 @@
 -- The line that each reading function's answer is, by the tests of the code.
 use mathlib.Core.Path.{_≡_, refl, sym, ap, ap₂, subst, _∙_}
-use mathlib.Core.Bool.{Bool, true, false, _&&_, not, true≢false}
+use mathlib.Core.Bool.{Bool, true, false, _&&_}
 use mathlib.Core.List.{List, [], _∷_}
-use mathlib.Core.Logic.{⊎-elim}
-use mathlib.Core.Option.{Option, none, some, Option·some-injective, Option·none-ne-some}
-use Prim.Native.Nat.{ℕ, zero, suc, _+_, _*_, _-_, _<_, _≤_, min}
+use mathlib.Core.Option.{Option, none, some}
+use Prim.Native.Nat.{ℕ, suc, _*_, _-_, _<_, _≤_, min}
 use native.Mathlib.Omega.{arith}
-use borrow.Author.Tests.{eq-eqb, ne-eqb, le-leb, lt-leb}
-use lib.Dec.{T, leb, eqb, leb→le}
+use borrow.Author.Tests.{ne-eqb, le-leb, lt-leb}
+use lib.Dec.{leb, leb→le}
 use lib.IntN.{pos}
 use lib.ListN.{length, take, drop, length-take, length-drop}
 use Rattle.laws.specs.Test.{if_then_else_, and-left, and-right, is-T}
 use Rattle.rules.specs.declared.Limit.{Limit}
 use Rattle.rules.specs.declared.Wire.{Wire}
 use Rattle.rules.specs.Builder.{tableLimits}
-use Rattle.rules.specs.Circuit.{Name, Output}
-use Rattle.rules.specs.Form.{Piece, exactly, bytes, bitsFrom, inLine, outLine}
+use Rattle.rules.specs.Circuit.{Output}
+use Rattle.rules.specs.Form.{exactly, bytes, bitsFrom, inLine, outLine}
 use Rattle.rules.specs.Network.{LutNode, Input, Linear, Bootstrap}
 use Rattle.rules.specs.NetworkText.{Net, NetworkLine, NetLine, NodeLine, OutLine, netLine, bootLine, networkLine}
 use Rattle.text.specs.Cap.{cap-table}
-use Rattle.text.specs.Capped.{capped, exact-some, exact-none}
+use Rattle.text.specs.Capped.{capped, exact-some}
 use Rattle.text.specs.Forms.{Named, nameFrom, nameTo, capOutput}
 use Rattle.text.specs.declared.NameRead.{NameRead}
 use Rattle.network_text.specs.LineRead.{capNet, capBoot, BitsAt, plainRead, ended, line-net, line-in, line-lin, line-boot, line-out, line-none}
 use Rattle.network_text.specs.Lines.{goodForm, goodLine, lineIn, lineOf, LineRead}
 use Rattle.network_text.specs.Sum.{SumRead, sumOf}
-use Rattle.network_text.specs.Terms.{noTerms, termsOf, small-none}
-use Rattle.network_text.specs.declared.line.Line.{Line}
+use Rattle.network_text.specs.Terms.{termsOf, small-none}
 use Rattle.network_text.specs.declared.line.Line.the-variants.{Bad, Net as NetRead, In, Lin as Sum, Boot, Out}
 use Rattle.network_text.specs.declared.line.Read.{Read}
 use Rattle.network_text.specs.declared.sum.LinRead.{LinRead}

@@ -1,39 +1,32 @@
 -- Each kind of line as it is read, and the line that it is.
 use mathlib.Core.Path.{_≡_, refl, sym, ap, ap₂, subst, _∙_}
-use mathlib.Core.Bool.{Bool, true, false, _&&_, not, true≢false}
+use mathlib.Core.Bool.{Bool, true, false, true≢false}
 use mathlib.Core.List.{List, [], _∷_}
 use mathlib.Core.Logic.{⊎-elim}
 use mathlib.Core.Option.{Option, none, some, Option·some-injective, Option·none-ne-some}
-use Prim.Native.Nat.{ℕ, zero, suc, _+_, _*_, _-_, _<_, _≤_, min}
+use Prim.Native.Nat.{ℕ, suc, _-_, _<_, _≤_, min}
 use native.Mathlib.Omega.{arith}
-use borrow.Author.Tests.{eq-eqb, ne-eqb, le-leb, lt-leb, leb-true}
-use lib.Dec.{T, leb, eqb, leb→le}
+use borrow.Author.Tests.{eq-eqb, ne-eqb, leb-true}
+use lib.Dec.{T, leb, eqb}
 use lib.IntN.{pos}
-use lib.ListN.{length, take, drop, length-take, length-drop}
-use Rattle.laws.specs.Test.{if_then_else_, eq-or-ne, and-left, and-right, and-both, is-T}
+use lib.ListN.{length, take, drop, length-take}
+use Rattle.laws.specs.Test.{if_then_else_, eq-or-ne}
 use Rattle.rules.specs.declared.Limit.{Limit}
-use Rattle.rules.specs.declared.Wire.{Wire}
-use Rattle.rules.specs.Builder.{tableLimits}
 use Rattle.rules.specs.Circuit.{Name, Output}
 use Rattle.rules.specs.Form.{Piece, give, onward, either, only, exactly, bytes, run, runOf, bits, isBits, isBitByte, bitsFrom, inLine, outLine}
 use Rattle.rules.specs.Network.{LutNode, Input, Linear, Bootstrap}
 use Rattle.rules.specs.NetworkText.{Net, NetworkLine, NetLine, NodeLine, OutLine, netLine, linLine, bootLine, networkLine}
 use Rattle.rules.specs.Runs.{allBits}
-use Rattle.text.specs.Cap.{cap-table}
-use Rattle.text.specs.Capped.{capped, capped-none, exact-some, exact-none}
+use Rattle.text.specs.Capped.{capped, capped-none}
 use Rattle.text.specs.Chain.{step, stop, first, second}
-use Rattle.text.specs.Forms.{Named, capOutput}
 use Rattle.text.specs.Reads.{Reads}
-use Rattle.network_text.specs.Lines.{goodForm, goodLine, lineIn, lineOf, Within, LineRead, TablePlace}
 use Rattle.network_text.specs.Term.{spacedTerm}
-use Rattle.network_text.specs.Sum.{linRest, sumLine, SumRead, sumOf}
-use Rattle.network_text.specs.Terms.{Small, noTerms, small-none}
+use Rattle.network_text.specs.Sum.{linRest, sumLine}
+use Rattle.network_text.specs.Terms.{noTerms}
 use Rattle.network_text.specs.declared.line.BootRead.{BootRead}
 use Rattle.network_text.specs.declared.line.Line.{Line}
-use Rattle.network_text.specs.declared.line.Line.the-variants.{Bad, Net as NetRead, In, Lin as Sum, Boot, Out}
 use Rattle.network_text.specs.declared.line.NetRead.{NetRead as NetFound}
 use Rattle.network_text.specs.declared.line.Read.{Read}
-use Rattle.network_text.specs.declared.sum.LinRead.{LinRead}
 
 -- ---- `(net P M NORM)`: P and M are read up to 65536.
 

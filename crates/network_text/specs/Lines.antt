@@ -8,8 +8,8 @@ use lib.ListN.{length, take, drop}
 use Rattle.laws.specs.Test.{if_then_else_}
 use Rattle.rules.specs.Builder.{tableLimits}
 use Rattle.rules.specs.Form.{bitsFrom}
-use Rattle.rules.specs.Network.{Term, LutNode, Input, Linear, Bootstrap}
-use Rattle.rules.specs.NetworkText.{Net, NetworkLine, NetLine, NodeLine, OutLine, networkLine, goodSum}
+use Rattle.rules.specs.Network.{Term, Input, Linear, Bootstrap}
+use Rattle.rules.specs.NetworkText.{NetworkLine, NetLine, NodeLine, OutLine, networkLine, goodSum}
 use Rattle.rules.specs.Runs.{allBits}
 use Rattle.text.specs.Forms.{Named, capOutput}
 use Rattle.network_text.specs.Terms.{termsOf, Small}

@@ -1,8 +1,6 @@
 // One line of a network's text. What is wrong on its own (21) counts as no form: P or M outside its limits, a sum that is no good one,
 // a table of over 32 bits. A node's number is kept up to 65536.
 ghost use mathlib.Core.Path.{_≡_};
-ghost use Prim.Native.Nat.{_≤_};
-ghost use lib.ListN.{length};
 ghost use Rattle.network_text.specs.Lines.{LineRead};
 ghost use Rattle.network_text.specs.LineRead.{ReadsNet, ReadsBoot, plainRead};
 ghost use Rattle.network_text.specs.LineIs.{NetIs, InIs, SumIs, BootIs, OutIs};

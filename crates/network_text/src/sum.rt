@@ -1,9 +1,9 @@
 // `(lin CONST (COEF ID) ..)`: its terms, of which a good sum has 1 to 11.
 ghost use mathlib.Core.Path.{_≡_};
-ghost use mathlib.Core.Bool.{Bool, true, false};
-ghost use Prim.Native.Nat.{ℕ, _+_, _<_, _≤_};
+ghost use mathlib.Core.Bool.{true, false};
+ghost use Prim.Native.Nat.{_+_, _<_, _≤_};
 ghost use lib.IntN.{natAbs};
-ghost use lib.ListN.{length, getD, drop, set};
+ghost use lib.ListN.{length, drop};
 ghost use Rattle.laws.specs.Test.{allb};
 ghost use Rattle.rules.specs.NetworkText.{small};
 ghost use Rattle.network_text.specs.Term.{ReadsTerm};

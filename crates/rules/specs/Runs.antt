@@ -1,6 +1,6 @@
 -- The two runs as entries: a text, a byte for each input, and a buffer for one value an output.
 -- Tested in turn: the text, the bits, the buffer, and of a network whether it breaks off. What is no run keeps the buffer.
-use mathlib.Core.Bool.{Bool, true, false, _&&_, not}
+use mathlib.Core.Bool.{Bool, true, _&&_, not}
 use mathlib.Core.List.{List, [], _∷_}
 use mathlib.Core.Option.{Option, none, some}
 use Prim.Native.Nat.{ℕ}

@@ -8,7 +8,7 @@ use Rattle.rules.specs.declared.Limit.{Limit}
 use Rattle.rules.specs.declared.Limit.the-variants.{Unlimited, AtMost}
 use Rattle.rules.specs.declared.Wire.{Wire}
 use Rattle.rules.specs.declared.Wire.the-variants.{Const, Node}
-use Rattle.rules.specs.Circuit.{Name, Output}
+use Rattle.rules.specs.Circuit.{Output}
 use Rattle.rules.specs.Form.{bytes}
 use Rattle.rules.specs.Network.{Term, LutNode, Input, Linear, Bootstrap, Network}
 

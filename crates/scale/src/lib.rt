@@ -1,7 +1,7 @@
 // Scale arithmetic: the signed divisor that normalises a row of coefficients, exact division by it, the pairs that are tried, and the norm.
 ghost use mathlib.Core.Path.{_≡_};
 ghost use Prim.Native.Nat.{_*_, _≤_, _<_, _^_};
-ghost use lib.IntN.{ℤ, pos, natAbs, _+ℤ_, _*ℤ_};
+ghost use lib.IntN.{pos, natAbs, _+ℤ_, _*ℤ_};
 ghost use lib.Signed.{quotZ};
 ghost use lib.ListN.{length};
 ghost use Rattle.laws.specs.Gcd.{gcd};

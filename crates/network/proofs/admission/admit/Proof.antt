@@ -1,7 +1,6 @@
 use borrow.Author.Needs.{needs}
 use Rattle.network.specs.Step.{Admitting, admit-start, admit-room, admit-refused, admit-next, admit-unstarted, admit-ended}
 use borrow.Author.Tests.{not-true, not-false}
-use native.Mathlib.Omega.{arith}
 use lib.ListN.{length}
 use Prim.Native.Nat.{_-_}
 use mathlib.Core.Path.{refl}

@@ -1,9 +1,9 @@
 use Rattle.network.specs.Bounds.{fit-other, fit-below, fit-is, next-nonNeg}
 use Rattle.laws.specs.Integer.{fits-abs, abs-add}
 use mir.Facts.{toZ-ofZ}
-use mir.Val.{SFits, Fits}
+use mir.Val.{SFits}
 use mir.Syntax.{w64}
-use lib.IntN.{pos, natAbs, _+ℤ_}
+use lib.IntN.{pos, _+ℤ_}
 use native.Mathlib.Omega.{arith}
 use Rattle.network.proofs.bounds.fit.Statement.{statement}
 use Rattle.network.proofs.bounds.fit.Tie as tie

@@ -3,8 +3,8 @@ use mir.Val.{toZ, ofZ}
 use mir.Syntax.{w64}
 use lib.ListN.{getD}
 use lib.IntN.{pos}
-use mathlib.Core.Path.{_≡_, refl, sym, ap, _∙_}
-use Prim.Native.Nat.{ℕ, _+_, _*_, _-_, _<_, _≤_}
+use mathlib.Core.Path.{_≡_, ap}
+use Prim.Native.Nat.{_+_, _*_, _-_, _≤_}
 use borrow.Author.Needs.{needs}
 use native.Mathlib.Omega.{arith}
 use Rattle.network_text.specs.Terms.{termsOf, termsAt, terms-start}

@@ -1,7 +1,7 @@
 use native.Mathlib.Omega.{arith}
 use lib.IntN.{_*ℤ_}
 use mir.Syntax.{w64}
-use mir.Val.{SFits, Fits}
+use mir.Val.{SFits}
 use mir.Facts.{toZ-ofZ}
 use Rattle.laws.specs.Integer.{fits-abs, abs-mul-le, abs-mul, square-nonNeg}
 use Rattle.network.proofs.bounds.square.Statement.{statement}

@@ -1,10 +1,9 @@
-use native.Mathlib.Omega.{arith}
 use borrow.Author.Needs.{needs}
 use Rattle.network.specs.Run.{bits-next, bits-bad, bits-end, bits-count, bits-are}
 use Rattle.rules.specs.Runs.{allBits}
 use lib.ListN.{length, drop}
 use Prim.Native.Nat.{_-_, _≤_}
-use mathlib.Core.Path.{_≡_, refl, sym, _∙_}
+use mathlib.Core.Path.{_≡_, _∙_}
 use Rattle.network.proofs.run.is_bits_for.Statement.{statement}
 use Rattle.network.proofs.run.is_bits_for.Tie as tie
 use Rattle.network.proofs.run.is_bits_for.Reads as reads

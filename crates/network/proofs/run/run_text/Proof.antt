@@ -2,7 +2,7 @@ use borrow.Author.Needs.{needs}
 use Rattle.network.specs.Run.{Running, run-start, run-refused, run-next, run-unstarted, run-ended}
 use borrow.Author.Tests.{not-true, not-false}
 use native.Mathlib.Omega.{arith}
-use lib.ListN.{length, getD}
+use lib.ListN.{length}
 use Prim.Native.Nat.{_-_}
 use mathlib.Core.Path.{refl}
 use Rattle.network.proofs.run.run_text.Statement.{statement}

@@ -2,12 +2,11 @@ use Rattle.network.specs.Run.{write-next, write-done}
 use Rattle.laws.specs.Integer.{read-back}
 use lib.ListN.{getD}
 use lib.IntN.{pos}
-use native.Mathlib.Omega.{arith}
 use borrow.Author.Needs.{needs}
-use Rattle.laws.specs.Front.{front, front-zero, front-step}
-use lib.ListN.{length, take, length-set, length-take}
+use Rattle.laws.specs.Front.{front, front-zero}
+use lib.ListN.{length, take, length-set}
 use Prim.Native.Nat.{_-_, _≤_}
-use mathlib.Core.Path.{_≡_, refl, sym, ap, _∙_}
+use mathlib.Core.Path.{_≡_, refl, sym}
 use Rattle.network.proofs.run.write_values.Statement.{statement}
 use Rattle.network.proofs.run.write_values.Tie as tie
 use Rattle.network.proofs.run.write_values.Reads as reads

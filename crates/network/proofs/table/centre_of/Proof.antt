@@ -1,7 +1,6 @@
 use Rattle.network.specs.Table.{add-size, centre-short, centre-long}
 use Rattle.laws.specs.Integer.{fits-abs, read-back}
-use mathlib.Core.Path.{_≡_}
-use lib.IntN.{pos, natAbs, _+ℤ_}
+use lib.IntN.{natAbs, _+ℤ_}
 use Prim.Native.Nat.{_≤_}
 use mir.Facts.{toZ-ofZ}
 use mir.Val.{SFits}

@@ -1,6 +1,6 @@
 use Rattle.network.specs.Table.{sub-size}
 use Rattle.laws.specs.Integer.{fits-abs, read-back, abs-mul-le}
-use mathlib.Core.Path.{_≡_, ap}
+use mathlib.Core.Path.{ap}
 use Prim.Native.Nat.{_≤_}
 use lib.IntN.{pos, natAbs, _-ℤ_, _*ℤ_}
 use mir.Facts.{toZ-ofZ}

@@ -1,8 +1,7 @@
-use Prim.Native.Nat.{_<_}
 use Rattle.network.specs.Table.{add-size}
 use Rattle.laws.specs.Integer.{fits-abs, quot-fits}
 use lib.Signed.{quotZ}
-use lib.IntN.{pos, natAbs, _+ℤ_}
+use lib.IntN.{pos, _+ℤ_}
 use mir.Facts.{toZ-ofZ}
 use mir.Val.{SFits}
 use mir.Syntax.{w64}

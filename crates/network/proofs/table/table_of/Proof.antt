@@ -3,9 +3,9 @@ use borrow.Author.Needs.{needs}
 use native.Mathlib.Omega.{arith}
 use Rattle.network.specs.Table.{bitsOf, bit-stored, place-length, table-done}
 use Rattle.laws.specs.Front.{front, front-zero, front-step}
-use lib.ListN.{length, getD}
-use Prim.Native.Nat.{ℕ, _+_, _-_, _<_, _≤_}
-use mathlib.Core.Path.{_≡_, refl, sym, ap, _∙_}
+use lib.ListN.{length}
+use Prim.Native.Nat.{_-_, _≤_}
+use mathlib.Core.Path.{_≡_, refl, sym, _∙_}
 use Rattle.network.proofs.table.table_of.Statement.{statement}
 use Rattle.network.proofs.table.table_of.Tie as tie
 use Rattle.network.proofs.table.table_of.Reads as reads

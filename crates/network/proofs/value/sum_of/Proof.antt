@@ -3,13 +3,13 @@ use Rattle.network.specs.Work.{byteOf, sumBytes, bytes-next, bytes-end, 
 use Rattle.network_text.specs.Terms.{termsOf, termsAt}
 use Rattle.laws.specs.Integer.{read-back, fits-abs}
 use mir.Facts.{toZ-ofZ}
-use mir.Val.{SFits, toZ, ofZ}
+use mir.Val.{SFits, toZ}
 use mir.Syntax.{w64}
 use lib.ListN.{getD}
 use lib.IntN.{pos, natAbs, _+ℤ_, _*ℤ_}
 use native.Mathlib.Omega.{arith}
-use Prim.Native.Nat.{_+_, _*_, _-_, _<_, _≤_}
-use mathlib.Core.Path.{_≡_, refl, sym, ap, _∙_}
+use Prim.Native.Nat.{_+_, _*_, _-_, _≤_}
+use mathlib.Core.Path.{_≡_, sym, _∙_}
 use Rattle.network.proofs.value.sum_of.Statement.{statement}
 use Rattle.network.proofs.value.sum_of.Tie as tie
 use Rattle.network.proofs.value.sum_of.Reads as reads

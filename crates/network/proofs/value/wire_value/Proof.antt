@@ -1,6 +1,5 @@
 use Rattle.network.specs.Work.{value-const, value-node, wire-known}
 use Rattle.laws.specs.Integer.{read-back}
-use mathlib.Core.Path.{refl}
 use lib.ListN.{getD}
 use lib.IntN.{pos}
 use native.Mathlib.Omega.{arith}

@@ -1,4 +1,3 @@
-use lib.ListN.{length}
 use Rattle.text.specs.Reads.{passed, endOf, found, ends}
 use Rattle.text.specs.Forms.{capOutput, nameTaken, nameEnd, outTaken, outEnd}
 use Rattle.text.specs.Capped.{exact-none}

@@ -1,10 +1,9 @@
-use native.Mathlib.Omega.{arith}
 use borrow.Author.Needs.{needs}
 use Rattle.network_text.specs.Places.{apart, part-same, part-other, all-apart}
 use Rattle.laws.specs.Test.{allb, allb-none, allb-more, allb-fails}
-use Prim.Native.Nat.{ℕ, _+_, _-_, _<_, _≤_}
+use Prim.Native.Nat.{_-_, _≤_}
 use mathlib.Core.Bool.{true}
-use mathlib.Core.Path.{_≡_, refl, sym, ap, _∙_}
+use mathlib.Core.Path.{_≡_, sym}
 use Rattle.network_text.proofs.sum.is_new.Statement.{statement}
 use Rattle.network_text.proofs.sum.is_new.Tie as tie
 use Rattle.network_text.proofs.sum.is_new.Reads as reads

@@ -1,6 +1,5 @@
 use Rattle.network_text.specs.Sum.{sum-nothing, sum-large, sum-within, sum-spoilt, sum-empty, sum-open, sum-good}
 use borrow.Author.Tests.{not-true, not-false}
-use mathlib.Core.Path.{refl}
 use borrow.Author.Needs.{needs}
 use Rattle.network_text.proofs.sum.read_sum.Statement.{statement}
 use Rattle.network_text.proofs.sum.read_sum.Tie as tie
