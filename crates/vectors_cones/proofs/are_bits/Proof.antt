@@ -1,5 +1,4 @@
 -- `vectors_cones::are_bits` meets its contract: the places passed hold bits.
-use mathlib.Core.Path.{_≡_}
 use Prim.Native.Nat.{ℕ, _-_, _≤_, _<_}
 use native.Mathlib.Omega.{arith}
 use borrow.Author.Needs.{needs}

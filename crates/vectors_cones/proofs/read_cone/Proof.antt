@@ -1,5 +1,4 @@
 -- `vectors_cones::read_cone` is safe: at most 11 sources have at most 2,048 rows.
-use Prim.Native.Nat.{_≤_, _^_}
 use borrow.Author.Needs.{needs}
 use lib.Pow.{pow-mono}
 use Rattle.vectors_cones.proofs.read_cone.Statement.{statement}
