@@ -10,6 +10,7 @@ REPOSITORY = pathlib.Path(__file__).resolve().parent.parent
 TARGET = REPOSITORY / "target" / "oracle"
 ORACLE = TARGET / "release" / "oracle"
 REACH = TARGET / "release" / "reach"
+CONES = TARGET / "release" / "cones"
 
 
 def build():

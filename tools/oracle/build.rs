@@ -1,5 +1,5 @@
-//! Copies the Rust mapper into OUT_DIR with small edits, twice: `plain` for the
-//! oracle, `reach` with counters added. Its place is FBS_MAP_SRC, the directory
+//! Copies the Rust mapper into OUT_DIR with small edits, three times: `plain` for
+//! the oracle, `reach` with counters added, `cones` with an entry to its cones. Its place is FBS_MAP_SRC, the directory
 //! that holds `src/mapper.rs`, or ../../../shared/docs/src from here.
 //! An edit whose text is not found exactly as often as expected stops the build.
 
@@ -214,6 +214,16 @@ const REACH: &[Edit] = &[
     },
 ];
 
+/// An entry to the functions on cones, which are private to their module.
+const CONES: &[Edit] = &[Edit {
+    file: "mapper.rs",
+    expected: "// Remove unused variables and canonicalize a validated cone's linear form.\n",
+    around: &[(
+        "include!(concat!(env!(\"CARGO_MANIFEST_DIR\"), \"/src/replay.rs\"));\n\n",
+        "",
+    )],
+}];
+
 fn edited(file: &str, text: &str, edits: &[Edit]) -> String {
     let mut text = text.to_owned();
     for edit in edits.iter().filter(|edit| edit.file == file) {
@@ -252,7 +262,11 @@ fn main() {
     println!("cargo:rerun-if-changed=build.rs");
     let place = place();
     let out = PathBuf::from(env::var_os("OUT_DIR").unwrap());
-    for (directory, sets) in [("plain", &[PLAIN][..]), ("reach", &[PLAIN, REACH][..])] {
+    for (directory, sets) in [
+        ("plain", &[PLAIN][..]),
+        ("reach", &[PLAIN, REACH][..]),
+        ("cones", &[CONES][..]),
+    ] {
         fs::create_dir_all(out.join(directory)).unwrap();
         for file in FILES {
             let path = place.join("src").join(file);

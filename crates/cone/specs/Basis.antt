@@ -1,7 +1,7 @@
 -- Two cones laid over their sources together, and the tables of their composition.
 use mathlib.Core.Path.{_≡_, refl, ap}
 use mathlib.Core.Bool.{Bool, true, false, not, _||_}
-use mathlib.Core.List.{List, [], _∷_, _++_, map, zipWith}
+use mathlib.Core.List.{List, [], _∷_, _++_, map, zipWith, map-id}
 use mathlib.Core.Logic.{⊎-elim}
 use Prim.Native.Nat.{ℕ, zero, suc, _+_, _≤_, _^_, zero-le}
 use native.Mathlib.Omega.{arith}
@@ -20,7 +20,7 @@ use Rattle.rules.specs.Composition.{unionSupport, gateTruth}
 use Rattle.scale.specs.Limits.{Within}
 use Rattle.cone.specs.declared.compose.Basis.{Basis}
 use Rattle.cone.specs.Span.{total, table-within-total}
-use Rattle.cone.specs.Support.{termsOver, terms-are, isNew, union-is}
+use Rattle.cone.specs.Support.{termsOver, terms-are, isNew, union-is, different-select}
 
 -- A cone's coefficients over a support.
 unfoldable pub coefficientsOver : List ℕ → Cone → List ℤ
@@ -95,25 +95,6 @@ coefficientsOver-total U c d = rw (terms-are c) (terms-total (c .coefficients) (
 
 -- the sources of two cones together are different
 module _ (f : ℕ → Bool) where
-  member-select : (m : ℕ) (l : List ℕ) → member m l ≡ false → member m (select f l) ≡ false
-  unfolding select member
-  member-select m [] h = refl
-  member-select m (n ∷ l) h = by (f n) (neither-left (eqb m n) (member m l) h) (member-select m l (neither-right (eqb m n) (member m l) h))
-    where
-      by : (t : Bool) → eqb m n ≡ false → member m (select f l) ≡ false → member m (if t then n ∷ select f l else select f l) ≡ false
-      by true e r = rw (e, r)
-      by false e r = r
-
-  different-select : (l : List ℕ) → allDifferent l ≡ true → allDifferent (select f l) ≡ true
-  unfolding select allDifferent
-  different-select [] d = refl
-  different-select (n ∷ l) d =
-      by (f n) (not-true (member n l) (both-left (not (member n l)) (allDifferent l) d)) (different-select l (both-right (not (member n l)) (allDifferent l) d))
-    where
-      by : (t : Bool) → member n l ≡ false → allDifferent (select f l) ≡ true → allDifferent (if t then n ∷ select f l else select f l) ≡ true
-      by true m r = rw (member-select n l m, r)
-      by false m r = r
-
   -- where the test fails at a node, the node is left out
   left-out : (m : ℕ) (l : List ℕ) → f m ≡ false → member m (select f l) ≡ false
   unfolding select member
@@ -148,7 +129,7 @@ pub union-different : (left right : List ℕ) → allDifferent left ≡ true →
 unfolding isNew
 union-different left right d e =
     rw union-is
-    (append-different left (select (isNew left) right) d (different-select (isNew left) right e) (λ m k. left-out (isNew left) m right (ap not k)))
+    (append-different left (select (isNew left) right) d (rw (map-id (select (isNew left) right)) at (different-select (λ (n : ℕ). n) (isNew left) right (rw (map-id right) e))) (λ m k. left-out (isNew left) m right (ap not k)))
 
 -- so the values of a cone over a union are within its own limits
 pub over-within : (U : List ℕ) (c : Cone) → allDifferent U ≡ true → total (c .coefficients) ≤ 31 → Within 31 (linearTable (coefficientsOver U c))

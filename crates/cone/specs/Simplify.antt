@@ -1,29 +1,28 @@
 -- A cone without the sources that have no coefficient.
 use mathlib.Core.Path.{_≡_, refl, sym, ap, _∙_}
-use mathlib.Core.Bool.{Bool, true, false, not}
+use mathlib.Core.Bool.{Bool, true, false}
 use mathlib.Core.List.{List, [], _∷_, map, zipWith, append-nil}
 use mathlib.Core.Logic.{⊎-elim}
 use Prim.Native.Nat.{ℕ, suc, _+_, _≤_, _<_, _^_, zero-le}
 use native.Mathlib.Nat.{div-one, add-zero}
 use native.Mathlib.Numerals.{add-one}
 use native.Mathlib.Omega.{arith}
-use borrow.Author.Tests.{ne-eqb, not-true}
-use lib.Dec.{eqb}
+use borrow.Author.Tests.{ne-eqb}
 use lib.IntN.{ℤ, pos, natAbs}
 use lib.ListN.{length, getD, take, drop, drop-of-length-le, List·getD-eq-default}
 use lib.Seq.{drop-cons, ext-getD}
 use Rattle.laws.specs.Select.{select}
 use Rattle.laws.specs.Tabulate.{tabulate-at, tabulate-length}
-use Rattle.laws.specs.Test.{if_then_else_, lt-or-le, neither-left, neither-right, both-left, both-right}
+use Rattle.laws.specs.Test.{if_then_else_, lt-or-le}
 use Rattle.rules.specs.Cone.{Cone, coneBit}
-use Rattle.rules.specs.Network.{Term, member}
+use Rattle.rules.specs.Network.{Term}
 use Rattle.rules.specs.NetworkText.{sources, allDifferent}
 use Rattle.rules.specs.Store.{terms, isUsed}
 use Rattle.rules.specs.Composition.{overRows, simplifyCone}
 use Rattle.cone.specs.declared.simplify.Retained.{Retained}
 use Rattle.cone.specs.Rows.{rowOver, overRows-are, rowOver-own}
 use Rattle.cone.specs.Span.{total}
-use Rattle.cone.specs.Support.{termsOver}
+use Rattle.cone.specs.Support.{termsOver, different-select}
 
 unfoldable pub coefs : List Term → List ℤ
 coefs = map (λ (t : Term). t .coef)
@@ -131,28 +130,14 @@ module _ (cs : List ℤ) (ns : List ℕ) (i : ℕ) (same : length cs ≡ length 
     unused-on e = rw (drop-cons cs i (pos 0) (omega arith), drop-cons ns i 0 h, e, add-one)
 
 -- ---- the used sources are different too, and their coefficients are no larger
-module _ (f : Term → Bool) where
-  member-select : (n : ℕ) (ts : List Term) → member n (sources ts) ≡ false → member n (sources (select f ts)) ≡ false
-  unfolding select sources member
-  member-select n [] h = refl
-  member-select n (t ∷ ts) h =
-      by (f t) (neither-left (eqb n (t .node)) (member n (sources ts)) h) (member-select n ts (neither-right (eqb n (t .node)) (member n (sources ts)) h))
-    where
-      by : (u : Bool) → eqb n (t .node) ≡ false → member n (sources (select f ts)) ≡ false → member n (sources (if u then t ∷ select f ts else select f ts)) ≡ false
-      by true e r = rw (e, r)
-      by false e r = r
+sources-are : (ts : List Term) → sources ts ≡ map (λ (t : Term). t .node) ts
+unfolding sources
+sources-are [] = refl
+sources-are (t ∷ ts) = ap {B = List ℕ} (λ l. t .node ∷ l) (sources-are ts)
 
-  pub different-select : (ts : List Term) → allDifferent (sources ts) ≡ true → allDifferent (sources (select f ts)) ≡ true
-  unfolding select sources allDifferent
-  different-select [] h = refl
-  different-select (t ∷ ts) h =
-      by (f t) (not-true (member (t .node) (sources ts)) (both-left (not (member (t .node) (sources ts))) (allDifferent (sources ts)) h))
-      (different-select ts (both-right (not (member (t .node) (sources ts))) (allDifferent (sources ts)) h))
-    where
-      by : (u : Bool) → member (t .node) (sources ts) ≡ false → allDifferent (sources (select f ts)) ≡ true
-          → allDifferent (sources (if u then t ∷ select f ts else select f ts)) ≡ true
-      by true m r = rw (member-select (t .node) ts m, r)
-      by false m r = r
+module _ (f : Term → Bool) where
+  pub different-sources : (ts : List Term) → allDifferent (sources ts) ≡ true → allDifferent (sources (select f ts)) ≡ true
+  different-sources ts d = rw (sources-are (select f ts)) (different-select (λ (t : Term). t .node) f ts (rw (sources-are ts) at d))
 
   pub total-select : (ts : List Term) → total (coefs (select f ts)) ≤ total (coefs ts)
   unfolding select coefs total

@@ -1,20 +1,21 @@
 -- Sources: where one stands, and those of two cones together.
 use mathlib.Core.Path.{_≡_, refl, sym}
 use mathlib.Core.Bool.{Bool, true, false, not}
-use mathlib.Core.List.{List, [], _∷_, _++_, zipWith}
+use mathlib.Core.List.{List, [], _∷_, _++_, map, zipWith}
 use mathlib.Core.Logic.{⊎-elim}
 use Prim.Native.Nat.{ℕ, suc, _+_, _≤_, _<_}
 use native.Mathlib.Nat.{not-suc-le-zero, le-of-suc-le-suc}
 use native.Mathlib.Numerals.{add-one}
 use native.Mathlib.Omega.{arith}
-use borrow.Author.Tests.{eq-eqb, ne-eqb}
+use borrow.Author.Tests.{eq-eqb, ne-eqb, not-true}
 use lib.Dec.{eqb}
 use lib.IntN.{ℤ, pos}
 use lib.ListN.{length, getD, drop, drop-of-length-le}
 use lib.Seq.{drop-cons}
 use Rattle.laws.specs.Select.{select}
-use Rattle.laws.specs.Test.{if_then_else_, if-both, eq-or-ne}
+use Rattle.laws.specs.Test.{if_then_else_, if-both, eq-or-ne, neither-left, neither-right, both-left, both-right}
 use Rattle.rules.specs.Network.{member, Term}
+use Rattle.rules.specs.NetworkText.{allDifferent}
 use Rattle.rules.specs.Cone.{Cone}
 use Rattle.rules.specs.Store.{terms, coefficientOf}
 use Rattle.rules.specs.Composition.{unionSupport}
@@ -90,6 +91,30 @@ module _ (left right : List ℕ) (i : ℕ) (h : i < length right) where
 pub new-end : (left right : List ℕ) (i : ℕ) → length right ≤ i → select (isNew left) (drop i right) ≡ []
 unfolding select
 new-end left right i h = rw (drop-of-length-le right {i = i} h)
+
+-- ---- elements that have different nodes, of which a test keeps some
+module _ {A : Type 0} (node : A → ℕ) (f : A → Bool) where
+  member-select : (n : ℕ) (l : List A) → member n (map node l) ≡ false → member n (map node (select f l)) ≡ false
+  unfolding select member
+  member-select n [] h = refl
+  member-select n (x ∷ l) h =
+      by (f x) (neither-left (eqb n (node x)) (member n (map node l)) h) (member-select n l (neither-right (eqb n (node x)) (member n (map node l)) h))
+    where
+      by : (t : Bool) → eqb n (node x) ≡ false → member n (map node (select f l)) ≡ false → member n (map node (if t then x ∷ select f l else select f l)) ≡ false
+      by true e r = rw (e, r)
+      by false e r = r
+
+  pub different-select : (l : List A) → allDifferent (map node l) ≡ true → allDifferent (map node (select f l)) ≡ true
+  unfolding select allDifferent
+  different-select [] d = refl
+  different-select (x ∷ l) d =
+      by (f x) (not-true (member (node x) (map node l)) (both-left (not (member (node x) (map node l))) (allDifferent (map node l)) d))
+      (different-select l (both-right (not (member (node x) (map node l))) (allDifferent (map node l)) d))
+    where
+      by : (t : Bool) → member (node x) (map node l) ≡ false → allDifferent (map node (select f l)) ≡ true
+          → allDifferent (map node (if t then x ∷ select f l else select f l)) ≡ true
+      by true m r = rw (member-select (node x) l m, r)
+      by false m r = r
 
 -- ---- coefficients
 

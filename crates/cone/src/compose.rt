@@ -8,7 +8,8 @@ use crate::table::values_of;
 ghost use mathlib.Core.Path.{_≡_};
 ghost use mathlib.Core.List.{map};
 ghost use Prim.Native.Nat.{_+_, _≤_, _<_, _^_};
-ghost use lib.ListN.{length, take};
+ghost use lib.IntN.{pos};
+ghost use lib.ListN.{length, take, replicate};
 ghost use Rattle.laws.specs.Over.{over};
 ghost use Rattle.rules.specs.Composition.{unionSupport, gateTruth};
 ghost use Rattle.rules.specs.Store.{coefficientOf};
@@ -104,4 +105,23 @@ pub fn cone_composition_tables(
     values_of(l, n, xs);
     values_of(r, n, ys);
     composed_truth(left, right, &support[..n], gate, truth);
+}
+
+// The tables of a composition: the first 2^n rows over the union; 0 past them.
+pub struct Tables {
+    pub xs: [i32; 2048],
+    pub ys: [i32; 2048],
+    pub truth: [u8; 2048],
+}
+
+// The tables of an attempt, which it owns: each is cleared once and lent to be filled.
+pub fn compose(left: Cone, right: Cone, basis: Basis, gate: [u8; 4]) -> Tables
+    requires { ⌜ IsCone left × (IsCone right × IsBasis (coneOf left) (coneOf right) basis) ⌝ }
+    ensures { λ r. ⌜ Composed (coneOf left) (coneOf right) gate (replicate 2048 (pos 0)) (replicate 2048 (pos 0)) (replicate 2048 0) (r .xs) (r .ys) (r .truth) ⌝ }
+{
+    let mut xs = [0i32; 2048];
+    let mut ys = [0i32; 2048];
+    let mut truth = [0u8; 2048];
+    cone_composition_tables(left, right, basis, gate, &mut xs, &mut ys, &mut truth);
+    Tables { xs, ys, truth }
 }

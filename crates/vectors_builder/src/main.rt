@@ -3,71 +3,11 @@
 // For each case it writes the reply's number and count and the buffer, whose bytes were letters before.
 use libc::STDIN_FILENO;
 use libc::STDOUT_FILENO;
+use vectors::Token;
+use vectors::at_most;
+use vectors::next_token;
+use vectors::skip;
 ghost use Prim.Native.Nat.{_≤_};
-
-struct Token {
-    value: u64,
-    negative: bool,
-    next: usize,
-}
-
-fn is_digit(b: u8) -> bool {
-    48 <= b && b <= 57
-}
-
-// Where the next digit or minus stands, or the text's end.
-fn skip(text: &[u8], from: usize) -> usize {
-    let mut i = from;
-    while i < text.len() {
-        let b = text[i];
-        if is_digit(b) || b == b'-' {
-            return i;
-        }
-        i += 1;
-    }
-    i
-}
-
-// One digit more, which is the byte modulo 16; where that would not fit, the value stays.
-fn with_digit(value: u64, b: u8) -> u64 {
-    if value < 1000000000000000000 {
-        10 * value + ((b % 16) as u64)
-    } else {
-        value
-    }
-}
-
-fn digits(text: &[u8], from: usize, negative: bool) -> Token {
-    let mut value = 0;
-    let mut i = from;
-    while i < text.len() {
-        let b = text[i];
-        if !is_digit(b) {
-            return Token {
-                value,
-                negative,
-                next: i,
-            };
-        }
-        value = with_digit(value, b);
-        i += 1;
-    }
-    Token {
-        value,
-        negative,
-        next: i,
-    }
-}
-
-fn next_token(text: &[u8], from: usize) -> Token {
-    let at = skip(text, from);
-    if at < text.len() {
-        if text[at] == b'-' {
-            return digits(text, at + 1, true);
-        }
-    }
-    digits(text, at, false)
-}
 
 fn signed(n: Token) -> i32 {
     if 2147483647 < n.value {
@@ -81,17 +21,6 @@ fn signed(n: Token) -> i32 {
 
 fn byte(n: Token) -> u8 {
     if n.value < 256 { n.value as u8 } else { 255 }
-}
-
-// A number at most `most`.
-fn at_most(n: Token, most: usize) -> usize
-    ensures { λ r. ⌜ r ≤ most ⌝ }
-{
-    if n.value < (most as u64) {
-        n.value as usize
-    } else {
-        most
-    }
 }
 
 fn take_values(text: &[u8], from: usize, values: &mut [i32]) -> usize {

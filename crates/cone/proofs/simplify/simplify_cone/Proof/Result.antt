@@ -18,7 +18,7 @@ use Rattle.cone.specs.declared.simplify.Retained.{Retained}
 use Rattle.cone.specs.Span.{total}
 use Rattle.cone.specs.Support.{termsOver}
 use Rattle.cone.specs.View.{coneOf, IsCone, is-cone, narrow-total, view-sources, view-coefs, rows-fit}
-use Rattle.cone.specs.Simplify.{coefs, IsRetained, truthOver, truthOver-bits, select-le, terms-length, sources-of, coefs-of, different-select, total-select, simplified, simplified-same}
+use Rattle.cone.specs.Simplify.{coefs, IsRetained, truthOver, truthOver-bits, select-le, terms-length, sources-of, coefs-of, different-sources, total-select, simplified, simplified-same}
 
 -- the terms that are used
 abbrev pub usedOf : rules.Cone → List Term
@@ -65,7 +65,7 @@ module _ (k : Cone) (is : IsCone k) (ls : length (k .support) ≡ 11) (lc : leng
     pub rebuilt : IsCone built × (coneOf built ≡ simplifyCone (coneOf k))
     rebuilt = (
       is-cone built seen view few
-          (different-select isUsed (termsOver (coneOf k .coefficients) (coneOf k .support)) (rw (sources-of (coneOf k .coefficients) (coneOf k .support) long) (is .different)))
+          (different-sources isUsed (termsOver (coneOf k .coefficients) (coneOf k .support)) (rw (sources-of (coneOf k .coefficients) (coneOf k .support) long) (is .different)))
           (omega (arith, total-select isUsed (termsOver (coneOf k .coefficients) (coneOf k .support)), ap total (coefs-of (coneOf k .coefficients) (coneOf k .support) long), narrow-total k is))
           (truthOver-bits (sources (usedOf (coneOf k))) (coneOf k) (is .bits)),
       view ∙ sym (simplified (coneOf k)),

@@ -1,9 +1,9 @@
--- `vectors_builder::skip` is safe and ends. The measure is what is left of the text.
+-- `vectors::skip` is safe and ends. The measure is what is left of the text.
 use Prim.Native.Nat.{_-_}
 use borrow.Author.Needs.{needs}
 use lib.ListN.{length}
-use Rattle.vectors_builder.proofs.skip.Statement.{statement}
-use Rattle.vectors_builder.proofs.skip.Tie as tie
+use Rattle.vectors.proofs.skip.Statement.{statement}
+use Rattle.vectors.proofs.skip.Tie as tie
 
 abbrev Inv-loop : tie.InvT-loop
 Inv-loop text from i₀ i = Unit {0}

@@ -1,9 +1,9 @@
--- `vectors_builder::digits` is safe and ends. The measure is what is left of the text.
+-- `vectors::digits` is safe and ends. The measure is what is left of the text.
 use Prim.Native.Nat.{_-_}
 use borrow.Author.Needs.{needs}
 use lib.ListN.{length}
-use Rattle.vectors_builder.proofs.digits.Statement.{statement}
-use Rattle.vectors_builder.proofs.digits.Tie as tie
+use Rattle.vectors.proofs.digits.Statement.{statement}
+use Rattle.vectors.proofs.digits.Tie as tie
 
 abbrev Inv-loop : tie.InvT-loop
 Inv-loop text from negative value₀ i₀ value i = Unit {0}

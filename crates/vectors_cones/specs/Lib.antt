@@ -1,0 +1,2 @@
+-- Laws of the tests that a stored cone has to pass.
+pub mod Tested

@@ -1,0 +1,500 @@
+// Replays composing and simplifying on the cones of standard input, a line each: P, M and NORM (0 for no limit), two cones and a gate's four answers.
+// A cone is the number of its sources, the sources, their coefficients and its truths.
+use cone::Cone;
+use cone::compose::Basis;
+use cone::valid::Validity;
+use libc::STDIN_FILENO;
+use libc::STDOUT_FILENO;
+use rules::Limit;
+use rules::Policy;
+use rules::Settings;
+use vectors::Token;
+use vectors::at_most;
+use vectors::next_token;
+use vectors::skip;
+ghost use mathlib.Core.Path.{_≡_};
+ghost use mathlib.Core.Bool.{true};
+ghost use Prim.Native.Nat.{ℕ, _≤_, _<_};
+ghost use lib.ListN.{length, getD};
+ghost use Rattle.rules.specs.Cone.{linearTable};
+ghost use Rattle.rules.specs.Composition.{unionSupport};
+ghost use Rattle.rules.specs.NetworkText.{allDifferent};
+ghost use Rattle.rules.specs.Span.{span};
+ghost use Rattle.scale.specs.Limits.{Within};
+ghost use Rattle.cone.specs.View.{coneOf, IsCone};
+
+// ---- reading
+
+// The sources of a cone, and where the text goes on.
+struct Nodes {
+    nodes: [usize; 11],
+    next: usize,
+}
+
+fn read_nodes(text: &[u8], from: usize, n: usize) -> Nodes
+    requires { ⌜ n ≤ 11 ⌝ }
+{
+    let mut nodes = [0usize; 11];
+    let mut at = from;
+    let mut i = 0;
+    while i < n {
+        let t = next_token(text, at);
+        nodes[i] = t.value as usize;
+        at = t.next;
+        i += 1;
+    }
+    Nodes { nodes, next: at }
+}
+
+// A coefficient; 1000 for all that are larger.
+fn signed(n: Token) -> i64 {
+    if 1000 < n.value {
+        return 1000;
+    }
+    if n.negative {
+        return 0 - (n.value as i64);
+    }
+    n.value as i64
+}
+
+struct Coefs {
+    coefs: [i64; 11],
+    next: usize,
+}
+
+fn read_coefs(text: &[u8], from: usize, n: usize) -> Coefs
+    requires { ⌜ n ≤ 11 ⌝ }
+{
+    let mut coefs = [0i64; 11];
+    let mut at = from;
+    let mut i = 0;
+    while i < n {
+        let t = next_token(text, at);
+        coefs[i] = signed(t);
+        at = t.next;
+        i += 1;
+    }
+    Coefs { coefs, next: at }
+}
+
+// The bit that stands there; 0 behind the text.
+fn bit_at(text: &[u8], at: usize) -> u8 {
+    if at < text.len() { text[at] % 2 } else { 0 }
+}
+
+// One byte on.
+fn behind(text: &[u8], at: usize) -> usize {
+    if at < text.len() { at + 1 } else { at }
+}
+
+struct Truth {
+    bits: [u8; 2048],
+    next: usize,
+}
+
+fn read_truth(text: &[u8], from: usize, rows: usize) -> Truth
+    requires { ⌜ rows ≤ 2048 ⌝ }
+{
+    let mut bits = [0u8; 2048];
+    let mut at = skip(text, from);
+    let mut i = 0;
+    while i < rows {
+        bits[i] = bit_at(text, at);
+        at = behind(text, at);
+        i += 1;
+    }
+    Truth { bits, next: at }
+}
+
+struct Got {
+    cone: Cone,
+    next: usize,
+}
+
+fn read_cone(text: &[u8], from: usize) -> Got {
+    let t = next_token(text, from);
+    let n = at_most(t, 11);
+    let s = read_nodes(text, t.next, n);
+    let c = read_coefs(text, s.next, n);
+    let b = read_truth(text, c.next, cone::table::rows_of(n));
+    let support = s.nodes;
+    let coefs = c.coefs;
+    let truth = b.bits;
+    Got {
+        cone: Cone {
+            n,
+            support,
+            coefs,
+            truth,
+        },
+        next: b.next,
+    }
+}
+
+// ---- whether what was read is a cone
+
+fn are_different(nodes: &[usize]) -> bool
+    ensures { λ r. ⌜ (r ≡ true → allDifferent (now (nodes .entry)) ≡ true) ⌝ }
+{
+    let mut i = 0;
+    while i < nodes.len() {
+        if cone::support::position(nodes, nodes[i]) != i {
+            return false;
+        }
+        i += 1;
+    }
+    true
+}
+
+fn are_small(coefs: &[i64]) -> bool
+    ensures { λ r. ⌜ (r ≡ true → Within 31 (now (coefs .entry))) ⌝ }
+{
+    let mut i = 0;
+    while i < coefs.len() {
+        let c = coefs[i];
+        if c < -31 {
+            return false;
+        }
+        if 31 < c {
+            return false;
+        }
+        i += 1;
+    }
+    true
+}
+
+fn are_bits(truth: &[u8]) -> bool
+    ensures { λ r. ⌜ (r ≡ true → ((i : ℕ) → getD (now (truth .entry)) i 0 < 2)) ⌝ }
+{
+    let mut i = 0;
+    while i < truth.len() {
+        if 1 < truth[i] {
+            return false;
+        }
+        i += 1;
+    }
+    true
+}
+
+fn is_narrow(coefs: &[i64]) -> bool
+    requires { ⌜ length (now coefs) ≤ 11 ⌝ }
+    ensures { λ r. ⌜ (r ≡ true → span (linearTable (now (coefs .entry))) ≤ 32) ⌝ }
+{
+    if !are_small(coefs) {
+        return false;
+    }
+    cone::table::linear_span(coefs) <= 32
+}
+
+fn is_cone(cone: Cone) -> bool
+    ensures { λ r. ⌜ (r ≡ true → IsCone cone) ⌝ }
+{
+    let n = cone.n;
+    if 11 < n {
+        return false;
+    }
+    let support = cone.support;
+    let coefs = cone.coefs;
+    let truth = cone.truth;
+    let rows = cone::table::rows_of(n);
+    if !are_different(&support[..n]) {
+        return false;
+    }
+    if !is_narrow(&coefs[..n]) {
+        return false;
+    }
+    are_bits(&truth[..rows])
+}
+
+// ---- writing
+
+fn space() {
+    io::write_all(STDOUT_FILENO, b" ");
+}
+
+fn show_number(n: usize) {
+    io::print_decimal(STDOUT_FILENO, n as u64);
+    space();
+}
+
+fn show_signed(x: i64) {
+    if x < -1000 {
+        io::write_all(STDOUT_FILENO, b"? ");
+        return;
+    }
+    if x < 0 {
+        io::write_all(STDOUT_FILENO, b"-");
+    }
+    show_number(scale::magnitude(x));
+}
+
+// A value within -31..31 as a letter: P for 0.
+fn letter(value: i32) -> u8 {
+    let m = scale::magnitude(value as i64);
+    if 31 < m {
+        return b'?';
+    }
+    let k = m as u8;
+    if value < 0 { 80 - k } else { 80 + k }
+}
+
+fn show_values(values: [i32; 2048], rows: usize)
+    requires { ⌜ rows ≤ 2048 ⌝ }
+{
+    let mut out = [0u8; 2048];
+    let mut i = 0;
+    while i < rows {
+        out[i] = letter(values[i]);
+        i += 1;
+    }
+    io::write_all(STDOUT_FILENO, &out[..rows]);
+    space();
+}
+
+fn digit(b: u8) -> u8 {
+    if b < 10 { 48 + b } else { b'?' }
+}
+
+fn show_truth(truth: [u8; 2048], rows: usize)
+    requires { ⌜ rows ≤ 2048 ⌝ }
+{
+    let mut out = [0u8; 2048];
+    let mut i = 0;
+    while i < rows {
+        out[i] = digit(truth[i]);
+        i += 1;
+    }
+    io::write_all(STDOUT_FILENO, &out[..rows]);
+    space();
+}
+
+// Each source with its coefficient.
+fn show_terms(support: [usize; 11], coefs: [i64; 11], n: usize)
+    requires { ⌜ n ≤ 11 ⌝ }
+{
+    let mut i = 0;
+    while i < n {
+        show_number(support[i]);
+        show_signed(coefs[i]);
+        i += 1;
+    }
+}
+
+// Each source of a basis with both coefficients.
+fn show_basis(basis: Basis)
+    requires { ⌜ basis .n ≤ 11 ⌝ }
+{
+    show_number(basis.n);
+    let mut i = 0;
+    while i < basis.n {
+        show_number(basis.support[i]);
+        show_signed(basis.left[i]);
+        show_signed(basis.right[i]);
+        i += 1;
+    }
+}
+
+// ---- running
+
+fn divisor_of(cone: Cone) -> i64
+    requires { ⌜ IsCone cone ⌝ }
+{
+    let n = cone.n;
+    let coefs = cone.coefs;
+    scale::coefficient_normalization_divisor(&coefs[..n])
+}
+
+// Span, norm and divisor.
+fn show_measures(cone: Cone)
+    requires { ⌜ IsCone cone ⌝ }
+{
+    show_number(cone.span());
+    io::print_decimal(STDOUT_FILENO, cone.norm2());
+    space();
+    show_signed(divisor_of(cone));
+}
+
+// The coefficients divided by their divisor, as the mapper's are before it simplifies.
+fn normalised(cone: Cone) -> Cone
+    requires { ⌜ IsCone cone ⌝ }
+{
+    let d = divisor_of(cone);
+    if d == 0 {
+        return cone;
+    }
+    let n = cone.n;
+    let support = cone.support;
+    let mut coefs = cone.coefs;
+    let truth = cone.truth;
+    scale::divide_all(&mut coefs[..n], d);
+    Cone {
+        n,
+        support,
+        coefs,
+        truth,
+    }
+}
+
+fn number_of(v: Validity) -> u64 {
+    match v {
+        Validity::Valid => 0,
+        Validity::OverNorm => 8,
+        Validity::Invalid => 10,
+    }
+}
+
+// A cone, and what validate_cone says of it.
+fn show_judged(s: Settings, cone: Cone)
+    requires { ⌜ IsCone cone ⌝ }
+{
+    let n = cone.n;
+    let support = cone.support;
+    let coefs = cone.coefs;
+    let truth = cone.truth;
+    show_number(n);
+    show_terms(support, coefs, n);
+    show_truth(truth, cone::table::rows_of(n));
+    io::print_decimal(
+        STDOUT_FILENO,
+        number_of(cone::valid::validate_cone(s, cone)),
+    );
+}
+
+fn no_cone() {
+    io::write_all(STDOUT_FILENO, b"no cone");
+}
+
+// The cone normalised and without unused sources.
+fn show_simplified(s: Settings, cone: Cone) {
+    if !is_cone(cone) {
+        no_cone();
+        return;
+    }
+    let c = normalised(cone);
+    if !is_cone(c) {
+        no_cone();
+        return;
+    }
+    show_judged(s, cone::simplify::simplify_cone(c));
+}
+
+// The gate's truth over the union, with the left coefficients and with the right ones.
+fn show_merged(s: Settings, basis: Basis, truth: [u8; 2048]) {
+    let n = basis.n;
+    let support = basis.support;
+    let left = basis.left;
+    let right = basis.right;
+    let lefts = Cone {
+        n,
+        support,
+        coefs: left,
+        truth,
+    };
+    let rights = Cone {
+        n,
+        support,
+        coefs: right,
+        truth,
+    };
+    show_simplified(s, lefts);
+    space();
+    show_simplified(s, rights);
+}
+
+// The union with both rows of coefficients, the three tables, and four cones simplified.
+fn run(s: Settings, left: Cone, right: Cone, gate: [u8; 4])
+    requires { ⌜ IsCone left × (IsCone right × (length (unionSupport (coneOf left .support) (coneOf right .support)) ≤ 11)) ⌝ }
+{
+    let basis = cone::compose::basis_of(left, right);
+    let t = cone::compose::compose(left, right, basis, gate);
+    let xs = t.xs;
+    let ys = t.ys;
+    let truth = t.truth;
+    let rows = cone::table::rows_of(basis.n);
+    show_basis(basis);
+    show_values(xs, rows);
+    show_values(ys, rows);
+    show_truth(truth, rows);
+    show_simplified(s, left);
+    space();
+    show_simplified(s, right);
+    space();
+    show_merged(s, basis, truth);
+}
+
+fn union_size(left: Cone, right: Cone) -> usize
+    requires { ⌜ IsCone left × IsCone right ⌝ }
+    ensures { λ r. ⌜ r ≡ length (unionSupport (coneOf left .support) (coneOf right .support)) ⌝ }
+{
+    let ln = left.n;
+    let ls = left.support;
+    let rn = right.n;
+    let rs = right.support;
+    cone::support::union_support_size(&ls[..ln], &rs[..rn])
+}
+
+fn run_tested(s: Settings, left: Cone, right: Cone, gate: [u8; 4]) {
+    if !is_cone(left) {
+        no_cone();
+        return;
+    }
+    if !is_cone(right) {
+        no_cone();
+        return;
+    }
+    if 11 < union_size(left, right) {
+        no_cone();
+        return;
+    }
+    show_measures(left);
+    show_measures(right);
+    run(s, left, right, gate);
+}
+
+fn limit_of(n: usize) -> Limit {
+    if n == 0 {
+        return Limit::Unlimited;
+    }
+    Limit::AtMost(n)
+}
+
+// One case from a place of the text, and where the next one starts.
+fn replay(text: &[u8], from: usize) -> usize {
+    let p = next_token(text, from);
+    let m = next_token(text, p.next);
+    let k = next_token(text, m.next);
+    let left = read_cone(text, k.next);
+    let right = read_cone(text, left.next);
+    let gate = read_truth(text, right.next, 4);
+    let g = gate.bits;
+    let s = Settings {
+        p: p.value as usize,
+        m: m.value as usize,
+        t: 10,
+        norm: limit_of(k.value as usize),
+        policy: Policy::Span,
+        many: false,
+    };
+    run_tested(s, left.cone, right.cone, [g[0], g[1], g[2], g[3]]);
+    io::write_all(STDOUT_FILENO, b"\n");
+    skip(text, gate.next)
+}
+
+// A proved loop has to end, so the cases are counted down from a number that no file uses up.
+fn replay_all(text: &[u8]) {
+    let mut at = skip(text, 0);
+    let mut turns: usize = 100000;
+    while turns > 0 {
+        if text.len() <= at {
+            return;
+        }
+        at = replay(text, at);
+        turns -= 1;
+    }
+}
+
+fn main() {
+    let mut text = io::large_buffer();
+    let n = io::read_full(STDIN_FILENO, &mut text);
+    replay_all(&text[..n]);
+}
