@@ -64,7 +64,7 @@ unfolding withSettings
 with-settings n c none e = absurd (zero≢one (cc))
 with-settings n c (some s) e = (_, refl)
 
-circuits-regular : Regular circuits ended 1 7
+pub circuits-regular : Regular circuits ended 1 7
 unfolding circuits ended nothing withSettings
 circuits-regular =
     record {

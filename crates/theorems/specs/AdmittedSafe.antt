@@ -148,12 +148,12 @@ module _ (n : Net) (bits : List ℕ) (good : T (allBits bits)) (ns : List LutNod
 -- ---- The run.
 
 -- of the nodes ns after these values, where all are the nodes from the start
-record Run (P : ℕ) (bits : List ℕ) (all : List LutNode) (values : List ℤ) (ns : List LutNode) : Type 0 where
-  final : List ℤ
-  run : nodeValues P bits values ns ≡ some final
-  bounded : Bounded all final
-  kept : (i : ℕ) → i < length values → getD final i (pos 0) ≡ getD values i (pos 0)
-  boots : (k i : ℕ) (table : List ℕ) → length values ≤ k → nodeAt all k ≡ Bootstrap i table
+pub record Run (P : ℕ) (bits : List ℕ) (all : List LutNode) (values : List ℤ) (ns : List LutNode) : Type 0 where
+  pub final : List ℤ
+  pub run : nodeValues P bits values ns ≡ some final
+  pub bounded : Bounded all final
+  pub kept : (i : ℕ) → i < length values → getD final i (pos 0) ≡ getD values i (pos 0)
+  pub boots : (k i : ℕ) (table : List ℕ) → length values ≤ k → nodeAt all k ≡ Bootstrap i table
       → (i < k) × Lookup P table (getD final i (pos 0)) (getD final k (pos 0))
 
 no-node : (ns : List LutNode) (k i : ℕ) (table : List ℕ) → length ns ≤ k → nodeAt ns k ≡ Bootstrap i table → ⊥
@@ -208,7 +208,7 @@ module _ (n : Net) (bits : List ℕ) (good : T (allBits bits)) (all : List LutNo
           let l = v .boot i table (sym (node k h) ∙ g) in
           (omega arith, rw (old i (l .0), new k h) (l .1))
 
-  ran-all : (ns : List LutNode) (values : List ℤ) (xs : List LutNode) → ns ++ xs ≡ all → NodesPass n ns xs → Bounded ns values
+  pub ran-all : (ns : List LutNode) (values : List ℤ) (xs : List LutNode) → ns ++ xs ≡ all → NodesPass n ns xs → Bounded ns values
       → Run (n .p) bits all values xs
   unfolding NodesPass
   ran-all ns values [] e p b = ran-none ns values e b
@@ -264,10 +264,10 @@ norms-within n before (x ∷ ns) p (suc k) limit c ts e f = norms-within n (befo
 
 -- ---- A text.
 
-no-values : Bounded [] []
+pub no-values : Bounded [] []
 no-values = record { long = refl; least = λ i h. absurd (omega arith); greatest = λ i h. absurd (omega arith) }
 
-safe-on : (w : Network) (bits : List ℕ) → Admissible w → T (allBits bits) → Safe w bits
+pub safe-on : (w : Network) (bits : List ℕ) → Admissible w → T (allBits bits) → Safe w bits
 unfolding networkRun netOf
 safe-on w bits a good =
     let r = ran-all (netOf w) bits good (w .nodes) [] [] (w .nodes) refl (a .nodes) no-values in
@@ -282,7 +282,7 @@ safe-on w bits a good =
     }
 
 -- an admitted text is read by a run
-admitted-read : (text : List ℕ) (w : Network) → readAdmitted text ≡ Good w → readNetwork text ≡ Good w
+pub admitted-read : (text : List ℕ) (w : Network) → readAdmitted text ≡ Good w → readNetwork text ≡ Good w
 unfolding admissions readAdmitted readNetwork
 admitted-read text w e = fewer admissions networkEnded textConditions admission-text 1 noNetwork (lines text) w e
 

@@ -68,7 +68,7 @@ bit-between (pos (suc zero)) h k = inr refl
 bit-between (pos (suc (suc a))) h k = absurd (omega (arith, ints))
 bit-between (negsuc a) h k = absurd (omega (arith, ints))
 
-bit-node : (x : LutNode) (v : ℤ) → isLinear x ≡ false → leastOf x ≤ℤ v → v ≤ℤ greatestOf x → ZeroOrOne v
+pub bit-node : (x : LutNode) (v : ℤ) → isLinear x ≡ false → leastOf x ≤ℤ v → v ≤ℤ greatestOf x → ZeroOrOne v
 unfolding isLinear leastOf greatestOf
 bit-node (Input a) v e h k = bit-between v h k
 bit-node (Linear c ts) v e h k = absurd (zero≢one (cc))

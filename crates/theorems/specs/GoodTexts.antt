@@ -21,7 +21,7 @@ judged-good {A} i (c ∷ cs) next a e = by (c .met) refl e (judged-good i cs nex
 
 module _ {S L A : Type 0} (K : Kind S L) (ended : ℕ → S → Reading A) where
   -- the first line of a good text, and what is read after it
-  first-line : (n : ℕ) (c : S) (s : List ℕ) (ls : List (List ℕ)) (a : A) → reading K ended n c (s ∷ ls) ≡ Good a
+  pub first-line : (n : ℕ) (c : S) (s : List ℕ) (ls : List (List ℕ)) (a : A) → reading K ended n c (s ∷ ls) ≡ Good a
       → (l : L) × (K .form s ≡ some l) × NoneMet (K .conditions c l) × (reading K ended (n + 1) (K .withLine n c l) ls ≡ Good a)
   unfolding readLines onLine
   first-line n c s ls a e = by (K .form s) refl e
