@@ -1,6 +1,7 @@
 -- What is proved of the mapper's definition.
-pub mod Invariant
+pub mod Uncapped
 pub mod Statements
+pub mod Invariant
 pub mod Decimals
 pub mod Pieces
 pub mod Plain
@@ -24,7 +25,6 @@ pub mod ConeFound
 pub mod ConeStanding
 pub mod ConeComposes
 pub mod ConeUnary
-pub mod CapUnmet
 pub mod Growth
 pub mod Meaning
 pub mod Sided
@@ -32,8 +32,11 @@ pub mod SoundCircuit
 pub mod Gates
 pub mod Start
 pub mod Ends
-pub mod Positive
+pub mod Refusals
+pub mod Whole
+pub mod CapUnmet
 pub mod Agrees
+pub mod Proved
 pub mod Interning
 pub mod RunValues
 pub mod SumOrder
@@ -42,4 +45,3 @@ pub mod SumNode
 pub mod Realigned
 pub mod Bootstrapping
 pub mod Wiring
-pub mod MapperAgrees

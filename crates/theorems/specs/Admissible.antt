@@ -113,7 +113,7 @@ at-end (some n) i ns os w s e = subst Admissible (good-same _ w e) (record { lim
 pub admitted-admissible : (text : List ℕ) (w : Network) → readAdmitted text ≡ Good w → Admissible w
 unfolding admissions readAdmitted networkEnded noNetwork PassedSoFar Passed
 admitted-admissible text w e =
-    let r = kept admissions networkEnded PassedSoFar kept-so 1 noNetwork (lines text) w (refl, refl) e in
+    let r = kept admissions networkEnded (λ i c. PassedSoFar c) kept-so 1 noNetwork (lines text) w (refl, refl) e in
     at-end (r .1 .net) (r .0) (r .1 .nodes) (r .1 .outputs) w (r .2) (r .3)
   where
     kept-so : (i : ℕ) (c : NetPrefix) (s : List ℕ) (l : NetworkLine) → networkLine s ≡ some l → NoneMet (admissionConditions c l) → PassedSoFar c

@@ -33,8 +33,8 @@ module _ {S L A : Type 0} (K : Kind S L) (ended : ℕ → S → Reading A) where
       by (some l) f e = let r = judged-good n (K .conditions c l) _ a e in (l, f, r .0, r .1)
 
   -- what holds at the start and is kept by each line that meets no condition holds at the end
-  pub kept : (I : S → Type 0) → ((n : ℕ) (c : S) (s : List ℕ) (l : L) → K .form s ≡ some l → NoneMet (K .conditions c l) → I c → I (K .withLine n c l))
-      → (n : ℕ) (c : S) (ls : List (List ℕ)) (a : A) → I c → reading K ended n c ls ≡ Good a → (m : ℕ) × (d : S) × I d × (ended m d ≡ Good a)
+  pub kept : (I : ℕ → S → Type 0) → ((n : ℕ) (c : S) (s : List ℕ) (l : L) → K .form s ≡ some l → NoneMet (K .conditions c l) → I n c → I (n + 1) (K .withLine n c l))
+      → (n : ℕ) (c : S) (ls : List (List ℕ)) (a : A) → I n c → reading K ended n c ls ≡ Good a → (m : ℕ) × (d : S) × I m d × (ended m d ≡ Good a)
   unfolding readLines
   kept I step n c [] a i e = (n, c, i, e)
   kept I step n c (s ∷ ls) a i e =
