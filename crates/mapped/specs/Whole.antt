@@ -1,34 +1,33 @@
 -- Every answer of the mapper is one of five, and what is mapped is known by its nodes and outputs before pruning.
-use mathlib.Core.Path.{_≡_, refl, sym, ap, subst, _∙_}
+use mathlib.Core.Path.{_≡_, refl, subst}
 use mathlib.Core.Bool.{Bool, true, false, not, _&&_}
-use mathlib.Core.List.{List, [], _∷_, map}
+use mathlib.Core.List.{List, []}
+use mathlib.Core.Logic.{⊎-elim}
 use Prim.Native.Nat.{ℕ, _+_, _≤_, _<_}
 use native.Mathlib.Omega.{arith}
 use borrow.Author.Tests.{lt-ltb, le-ltb, not-true}
-use lib.Dec.{ltb, eqb}
+use lib.Dec.{eqb}
 use lib.ListN.{length}
-use Rattle.laws.specs.Over.{over}
-use Rattle.laws.specs.Test.{if_then_else_, and-true-left, and-true-right, lt-or-le, zero≢one}
-use mathlib.Core.Logic.{⊎-elim}
+use Rattle.laws.specs.Test.{if_then_else_, lt-or-le, zero≢one, both-left, both-right}
 use Rattle.rules.specs.declared.Settings.{Settings}
 use Rattle.rules.specs.Builder.{tableLimits}
 use Rattle.rules.specs.Circuit.{Circuit, gateValues}
 use Rattle.rules.specs.CircuitText.{inLimits, ended, readCircuit}
-use Rattle.rules.specs.Cone.{Result, ok, err, withinNorm}
+use Rattle.rules.specs.Cone.{ok, withinNorm}
 use Rattle.rules.specs.Form.{Reading, Good, Refused}
-use Rattle.rules.specs.Mapper.{State, Outputs, atLine, andThen, isBasic, mapGates, mapNext, mapOutputs, usedSettings, pruned, checked, start, finish, mapWith, mapCircuit, answerWith, mapper}
+use Rattle.rules.specs.Mapper.{State, Outputs, atLine, andThen, isBasic, mapGates, mapOutputs, usedSettings, pruned, checked, start, finish, mapWith, mapCircuit, answerWith, mapper}
 use Rattle.rules.specs.Network.{Network, isLinear, count, nodeNorm, largest}
-use Rattle.rules.specs.Outcome.{outcome, written, refused}
+use Rattle.rules.specs.Outcome.{outcome, refused}
 use Rattle.rules.specs.Writing.{networkText}
 use Rattle.theorems.specs.AdmissionExact.{circuits, circuits-regular, circuit-exact}
 use Rattle.theorems.specs.Readings.{holds-from, holds-within}
-use Rattle.mapped.specs.Ends.{SameOutputs, Mapping, all-outputs, all-mapped}
+use Rattle.mapped.specs.Ends.{SameOutputs, all-outputs, all-mapped}
 use Rattle.mapped.specs.Gates.{Known, good-same, good-then, gates-known}
 use Rattle.mapped.specs.Invariant.{Store, netFor}
 use Rattle.mapped.specs.SoundCircuit.{Sound, read-sound, gate-sound, SoundGates}
 use Rattle.mapped.specs.Start.{start-known}
 use Rattle.mapped.specs.Statements.{MapsTo, Whole, is-written, is-unreadable, is-refused, is-over, is-too-long}
-use Rattle.mapped.specs.Refusals.{Late, next-late, RefusedGate, gates-refused}
+use Rattle.mapped.specs.Refusals.{Late, next-late, gates-refused}
 
 -- ---- The settings that are used.
 
@@ -44,7 +43,7 @@ used-limits s e = by (isBasic (s .policy))
   where
     by : (b : Bool)
         → inLimits (if b then record { p = 2; m = if eqb (s .m) (s .p) then 2 else 4; t = s .t; norm = s .norm; policy = s .policy; many = s .many } else s) ≡ true
-    by true = rw (basic-limits (eqb (s .m) (s .p))) (and-true-right (tableLimits (s .p) (s .m)) _ e)
+    by true = rw (basic-limits (eqb (s .m) (s .p))) (both-right (tableLimits (s .p) (s .m)) _ e)
     by false = e
 
 -- ---- The gates and the outputs of a circuit.
@@ -188,8 +187,8 @@ module _ (text buffer : List ℕ) where
 
         by : (b : Bool) → (isBasic (s .policy) && not (withinNorm s (largest nodeNorm (pruned s done .nodes)))) ≡ b → Whole text buffer
         by true t =
-            is-over c st done read e q (and-true-left (isBasic (s .policy)) _ t)
-            (not-true (withinNorm s (largest nodeNorm (pruned s done .nodes))) (and-true-right (isBasic (s .policy)) _ t)) (refusal 8 0 (rw (read, e, q, t) refl))
+            is-over c st done read e q (both-left (isBasic (s .policy)) _ t)
+            (not-true (withinNorm s (largest nodeNorm (pruned s done .nodes))) (both-right (isBasic (s .policy)) _ t)) (refusal 8 0 (rw (read, e, q, t) refl))
         by false t = network-whole (pruned s done) (rw (read, e, q, t) refl)
 
     circuit-whole : (r : Reading State) → mapGates (usedSettings (c .settings)) (c .outputs) (start c) (c .gates) ≡ r → Whole text buffer

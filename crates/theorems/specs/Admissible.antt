@@ -10,7 +10,7 @@ use lib.Dec.{T, leb}
 use lib.IntN.{ℤ, pos, _+ℤ_}
 use lib.ListN.{length}
 use Rattle.laws.specs.Integer.{eqZ, eqZ-true}
-use Rattle.laws.specs.Test.{or-false-left, and-true-left, and-true-right, is-T, zero≢one}
+use Rattle.laws.specs.Test.{is-T, zero≢one, neither-left, both-left, both-right}
 use Rattle.rules.specs.declared.Wire.{Wire}
 use Rattle.rules.specs.Circuit.{Output}
 use Rattle.rules.specs.CircuitText.{noNode}
@@ -76,7 +76,7 @@ nil (x ∷ l) h = absurd (omega arith)
 -- a node line comes before the outputs
 no-outputs : (w : NetPrefix) (x : LutNode) → NoneMet (admissionConditions w (NodeLine x)) → w .outputs ≡ []
 unfolding NoneMet admissionConditions textConditions ending
-no-outputs w (Input a) m = nil (w .outputs) (leb-false 1 (length (w .outputs)) (or-false-left _ _ (m .1 .0)))
+no-outputs w (Input a) m = nil (w .outputs) (leb-false 1 (length (w .outputs)) (neither-left _ _ (m .1 .0)))
 no-outputs w (Linear c ts) m = nil (w .outputs) (leb-false 1 (length (w .outputs)) (m .1 .0))
 no-outputs w (Bootstrap i table) m = nil (w .outputs) (leb-false 1 (length (w .outputs)) (m .1 .0))
 
@@ -142,8 +142,8 @@ unfolding Passes NoneMet admissionConditions textConditions safetyConditions set
 boot-passes n ns i table p =
     record {
       earlier = leb-false (length ns) i (p .0 .1 .1 .1 .1 .0);
-      least = eqZ-true _ _ (and-true-left low high (and-true-left (low && high) short fits));
-      greatest = eqZ-true _ _ (and-true-right low high (and-true-left (low && high) short fits));
+      least = eqZ-true _ _ (both-left low high (both-left (low && high) short fits));
+      greatest = eqZ-true _ _ (both-right low high (both-left (low && high) short fits));
       turns = is-T (rotatable (n .p) table) (not-false (rotatable (n .p) table) (p .0 .1 .1 .1 .1 .1 .1 .0));
       bits = p .1;
     }

@@ -14,7 +14,7 @@ use lib.Seq.{getD-at}
 use lib.Signed.{_≤ℤ_, leZ}
 use Rattle.laws.specs.Integer.{plus, minus, add-parts, ints}
 use Rattle.laws.specs.Over.{over}
-use Rattle.laws.specs.Test.{and-left, and-right, and-true-left, and-true-right, is-T, T-is, lt-or-le, zero≢one}
+use Rattle.laws.specs.Test.{and-left, and-right, is-T, T-is, lt-or-le, zero≢one, both-left, both-right}
 use Rattle.rules.specs.declared.AdmitReply.the-variants.{Admitted}
 use Rattle.rules.specs.declared.Limit.{Limit}
 use Rattle.rules.specs.declared.Limit.the-variants.{Unlimited, AtMost}
@@ -233,8 +233,8 @@ module _ (ns : List LutNode) (values : List ℤ) (b : Bounded ns values) where
       let l = leb-false (length ns) i (p .earlier) in
       let e = not-false (isBit (nodeAt ns i)) (p .isBit) in
       bit-between (getD values i (pos 0))
-      (≤ℤ-trans _ _ _ (leZ-yes _ _ (and-true-left low high e)) (b .least i l))
-      (≤ℤ-trans _ _ _ (b .greatest i l) (leZ-yes _ _ (and-true-right low high e)))
+      (≤ℤ-trans _ _ _ (leZ-yes _ _ (both-left low high e)) (b .least i l))
+      (≤ℤ-trans _ _ _ (b .greatest i l) (leZ-yes _ _ (both-right low high e)))
     where
       low : Bool
       low = leZ (pos 0) (leastOf (nodeAt ns i))
