@@ -180,6 +180,10 @@ eqZ-true x y e =
 -- the rules that `omega` is handed beside `arith`: it then reads hypotheses of ℤ's order and equations, and proves such goals
 pub ruleset ints = (of-le, le-of, of-lt, lt-of, of-eq, eq-of, ltZ-true, ltZ-false, leZ-true, leZ-false)
 
+pub eqZ-of : (x y : ℤ) → x ≡ y → eqZ x y ≡ true
+unfolding eqZ
+eqZ-of x y e = rw (true-leZ x y (omega (arith, ints)), true-leZ y x (omega (arith, ints)))
+
 -- absolute values: what a bound is stated by, since `omega` reads it
 pub abs-mul : (x y : ℤ) → natAbs (x *ℤ y) ≡ natAbs x * natAbs y
 abs-mul x y = abs-parts (x *ℤ y) ∙ simp (plus-mul, minus-mul, abs-parts) (omega arith)

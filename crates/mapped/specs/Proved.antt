@@ -4,6 +4,7 @@ use mathlib.Core.Bool.{Bool, true, false}
 use mathlib.Core.List.{List}
 use Prim.Native.Nat.{ℕ, _≤_, _<_}
 use native.Mathlib.Omega.{arith}
+use borrow.Author.Tests.{lt-ltb}
 use lib.Dec.{ltb}
 use lib.ListN.{length, take, drop}
 use Rattle.laws.specs.Over.{over, take-over, drop-over}
@@ -17,8 +18,7 @@ use Rattle.rules.specs.Writing.{networkText}
 use Rattle.mapped.specs.Agrees.{Delivered, delivered, text-agrees}
 use Rattle.mapped.specs.SoundCircuit.{read-sound}
 use Rattle.mapped.specs.Statements.{MapsTo, MappedAgrees, MapperAgrees, MappedFits, RefusedKeeps, LaterKept, EarlierBytes, Whole, is-written, is-unreadable, is-refused, is-over, is-too-long, MapperWhole}
-use Rattle.mapped.specs.Whole.{Comes, comes, whole}
-use borrow.Author.Tests.{lt-ltb}
+use Rattle.mapped.specs.Whole.{comes, whole}
 
 abbrev number : Outcome → ℕ
 number o = o .answer .number

@@ -1,25 +1,25 @@
 -- What the gates can be refused with: 8, 9 or 10, at the line of the first that is refused.
-use mathlib.Core.Bool.{not, _&&_, true, false≢true}
+use mathlib.Core.Bool.{not, true, false≢true}
 use mathlib.Core.List.{List, [], _∷_, map, _++_}
 use mathlib.Core.Option.{Option, none, some, Option·map}
-use Prim.Native.Nat.{ℕ, _+_, _<_, _≤_, suc}
+use mathlib.Core.Path.{_≡_, refl, ap, _∙_}
+use Prim.Native.Nat.{ℕ, _+_, _≤_, suc}
 use native.Mathlib.Omega.{arith}
+use borrow.Author.Tests.{ne-eqb}
 use lib.Dec.{leb, ltb}
 use lib.ListN.{length, getD}
 use Rattle.laws.specs.Test.{if-both, zero≢one}
 use Rattle.rules.specs.declared.Settings.{Settings}
-use Rattle.rules.specs.Circuit.{Gate, Output, Circuit}
-use Rattle.rules.specs.CircuitText.{CircuitLine, FbsLine, InLine, GateLine, OutLine, Prefix, circuitLine, conditions, withLine, ended, withSettings, nothing, readCircuit, matching}
+use Rattle.rules.specs.Circuit.{Gate, Output}
+use Rattle.rules.specs.CircuitText.{matching}
 use Rattle.rules.specs.Composition.{unionSupport, gateTruth, allEqual, compose, findCandidate, mergeCones}
 use Rattle.rules.specs.Cone.{Cone, Result, ok, err, _>>=_, norm2, isLutValid, withinNorm, validateCone, bootstrapTable, Candidate}
-use Rattle.rules.specs.Form.{Condition, Reading, Good, Refused, judged, onLine, readLines, lines}
-use Rattle.rules.specs.Mapper.{Mapped, unchanged, mapUnaryGate, Sides, sides, switchInputs, bootstrapLeft, bootstrapRight, largerFirst, overLimit, limitSecond, limitSources, attempt, mapped, orElse, thirdAttempt, secondAttempt, mapBinaryGate, isConstant, mapGate, State, coneAt, isBasic, isForced, forced, mapNext, atLine, andThen, mapGates, outputSignal, Outputs, mapOutputs, checked, start, finish, mapWith, usedSettings, mapCircuit}
-use Rattle.rules.specs.Network.{LutNode, Network, nodeNorm, largest}
+use Rattle.rules.specs.Form.{Good, Refused}
+use Rattle.rules.specs.Mapper.{Mapped, unchanged, mapUnaryGate, Sides, sides, switchInputs, bootstrapLeft, bootstrapRight, largerFirst, overLimit, limitSecond, limitSources, attempt, mapped, orElse, thirdAttempt, secondAttempt, mapBinaryGate, isConstant, mapGate, State, coneAt, isForced, forced, mapNext, atLine, andThen, mapGates}
+use Rattle.rules.specs.Network.{LutNode}
 use Rattle.rules.specs.Store.{realigned, bootstrapped, bootstrapCone}
-use mathlib.Core.Path.{_≡_, refl, ap, _∙_}
 use Rattle.rules.specs.declared.Wire.{Wire}
 use Rattle.theorems.specs.Readings.{refused-same}
-use borrow.Author.Tests.{ne-eqb}
 
 -- A refusal, if it is one, is 8, 9 or 10.
 unfoldable pub Late : {A : Type 0} → Result A → Type 0

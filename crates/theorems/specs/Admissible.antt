@@ -49,7 +49,7 @@ pub record Admissible (w : Network) : Type 0 where
 
 -- ---- One more line.
 
-nodes-snoc : (n : Net) (before xs : List LutNode) (x : LutNode) → NodesPass n before xs → Passes n (before ++ xs) [] (NodeLine x)
+pub nodes-snoc : (n : Net) (before xs : List LutNode) (x : LutNode) → NodesPass n before xs → Passes n (before ++ xs) [] (NodeLine x)
     → NodesPass n before (xs ++ (x ∷ []))
 unfolding NodesPass
 nodes-snoc n before [] x p q = (rw append-nil at q, tt)

@@ -35,6 +35,7 @@ use Rattle.theorems.specs.Bounds.{ZeroOrOne, Bounded, bit-between, sum-b
 use Rattle.theorems.specs.LineBits.{WireBit}
 use Rattle.theorems.specs.GoodTexts.{fewer}
 use Rattle.theorems.specs.RotationRule.{rotation-rule}
+use Rattle.theorems.specs.Bits.{bit-at}
 
 -- ---- The statement.
 
@@ -77,14 +78,8 @@ unfolding plus minus
 inside-table (pos v) g n h k e = (v, refl, omega (arith, ints, add-parts g (pos 1)))
 inside-table (negsuc v) g n h k e = absurd (omega (arith, ints))
 
-bit-of : (table : List ℕ) (i : ℕ) → T (allBits table) → getD table i 0 ≤ 1
-unfolding allBits
-bit-of [] i t = omega arith
-bit-of (b ∷ table) zero t = leb→le b 1 (and-left (leb b 1) (allBits table) t)
-bit-of (b ∷ table) (suc i) t = bit-of table i (and-right (leb b 1) (allBits table) t)
-
 module _ (n : Net) (ns : List LutNode) (values : List ℤ) (b : Bounded ns values) where
-  looked-up : (i : ℕ) (table : List ℕ) → BootPasses n ns i table
+  pub looked-up : (i : ℕ) (table : List ℕ) → BootPasses n ns i table
       → (v : ℕ) × (getD values i (pos 0) ≡ pos v) × (v < length table) × (rotated (n .p) table (getD values i (pos 0)) ≡ some (pos (getD table v 0)))
   looked-up i table p =
       let r = rotation-rule (n .p) table in
@@ -94,11 +89,11 @@ module _ (n : Net) (ns : List LutNode) (values : List ℤ) (b : Bounded ns value
 
 -- ---- A node.
 
-bit-least : (b : ℕ) → pos 0 ≤ℤ pos b
+pub bit-least : (b : ℕ) → pos 0 ≤ℤ pos b
 unfolding plus minus
 bit-least b = omega (arith, ints)
 
-bit-greatest : (b : ℕ) → b ≤ 1 → pos b ≤ℤ pos 1
+pub bit-greatest : (b : ℕ) → b ≤ 1 → pos b ≤ℤ pos 1
 unfolding plus minus
 bit-greatest b h = omega (arith, ints)
 
@@ -118,7 +113,7 @@ module _ (n : Net) (bits : List ℕ) (good : T (allBits bits)) (ns : List LutNod
         value = pos (getD bits (length values) 0);
         is = refl;
         least = bit-least (getD bits (length values) 0);
-        greatest = bit-greatest (getD bits (length values) 0) (bit-of bits (length values) good);
+        greatest = bit-greatest (getD bits (length values) 0) (bit-at bits (length values) good);
         boot = λ i table e. absurd (zero≢one (cc));
       }
   valued (Linear c ts) p =
@@ -141,7 +136,7 @@ module _ (n : Net) (bits : List ℕ) (good : T (allBits bits)) (ns : List LutNod
         value = pos (getD table (v .0) 0);
         is = v .3;
         least = bit-least (getD table (v .0) 0);
-        greatest = bit-greatest (getD table (v .0) 0) (bit-of table (v .0) (h .bits));
+        greatest = bit-greatest (getD table (v .0) 0) (bit-at table (v .0) (h .bits));
         boot = λ j t e. subst₂ (λ j t. (j < length values) × Lookup (n .p) t (getD values j (pos 0)) (pos (getD table (v .0) 0))) (cc) (cc) (k, r);
       }
 

@@ -74,6 +74,11 @@ bit-node (Input a) v e h k = bit-between v h k
 bit-node (Linear c ts) v e h k = absurd (zero≢one (cc))
 bit-node (Bootstrap i table) v e h k = bit-between v h k
 
+-- A node that is no sum is a bit.
+pub source-bit : (nodes : List LutNode) (values : List ℤ) (n : ℕ) → Bounded nodes values → n < length nodes → isLinear (nodeAt nodes n) ≡ false
+    → ZeroOrOne (getD values n (pos 0))
+source-bit nodes values n b l e = bit-node (nodeAt nodes n) (getD values n (pos 0)) e (b .least n l) (b .greatest n l)
+
 module _ (ns : List LutNode) (values : List ℤ) (b : Bounded ns values) where
   -- a `lin` stands on `in` and `boot` nodes
   source-bits : (ts : List Term) → anyBadSource ns (sources ts) ≡ false → SourceBits values ts

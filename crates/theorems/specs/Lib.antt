@@ -1,4 +1,5 @@
 -- What is proved of the rules alone.
+pub mod Bits
 pub mod RotationRule
 pub mod Completions
 pub mod Spans

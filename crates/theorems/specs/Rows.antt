@@ -50,15 +50,15 @@ module _ (known t : List ℕ) (k b : ℕ) (within : k < length known) where
       }
 
   completes-set : Completes (set known k b) t → b ≤ 1 → (getD known k 0 ≢ 2 → getD known k 0 ≡ b) → Completes known t × (getD t k 0 ≡ b)
-  completes-set c h f = (record { long = c .long ∙ length-set known k b; bits = λ i l. c .bits i (rw length-set l); keeps = keeps }, at)
+  completes-set c h f = (record { long = c .long ∙ length-set known k b; bits = λ i l. c .bits i (rw length-set l); keeps = still }, at)
     where
       at : getD t k 0 ≡ b
       at =
           let same = getD-set-same known k b 0 within in
           c .keeps k (rw length-set within) (λ z. let q : b ≡ 2 = sym same ∙ z in omega arith) ∙ same
 
-      keeps : (i : ℕ) → i < length known → getD known i 0 ≢ 2 → getD t i 0 ≡ getD known i 0
-      keeps i l n =
+      still : (i : ℕ) (l : i < length known) (n : getD known i 0 ≢ 2) → getD t i 0 ≡ getD known i 0
+      still i l n =
           ⊎-elim
           (λ (s : i ≡ k). rw s (at ∙ sym (f (λ z. n (ap (λ j. getD known j 0) s ∙ z)))))
           (λ (s : i ≢ k). let same = getD-set-other known k i b 0 s in c .keeps i (rw length-set l) (λ z. n (sym same ∙ z)) ∙ same)
