@@ -2,9 +2,6 @@
 pub mod Uncapped
 pub mod Statements
 pub mod Invariant
-pub mod Decimals
-pub mod Pieces
-pub mod Plain
 pub mod WrittenLines
 pub mod ReadBack
 pub mod Short
@@ -14,13 +11,8 @@ pub mod Renumbered
 pub mod PrunedPasses
 pub mod PrunedRuns
 pub mod Prune
-pub mod ConeRows
-pub mod ConeTruth
-pub mod ConeUnion
 pub mod ConeGate
-pub mod ConeWeights
 pub mod ConeSimplify
-pub mod ConeNormal
 pub mod ConeFound
 pub mod ConeStanding
 pub mod ConeComposes
@@ -28,7 +20,6 @@ pub mod ConeUnary
 pub mod Growth
 pub mod Meaning
 pub mod Sided
-pub mod SoundCircuit
 pub mod Gates
 pub mod Start
 pub mod Ends
@@ -40,7 +31,6 @@ pub mod Proved
 pub mod Interning
 pub mod RunValues
 pub mod SumOrder
-pub mod LinearTable
 pub mod SumNode
 pub mod Realigned
 pub mod Bootstrapping

@@ -15,8 +15,8 @@ use Rattle.rules.specs.Mapper.{andThen, mapCircuit, answerWith, mapper}
 use Rattle.rules.specs.Network.{Network}
 use Rattle.rules.specs.Outcome.{Answer, Outcome, outcome, written, refused}
 use Rattle.rules.specs.Writing.{networkText}
+use Rattle.theorems.specs.SoundCircuits.{read-sound}
 use Rattle.mapped.specs.Agrees.{Delivered, delivered, text-agrees}
-use Rattle.mapped.specs.SoundCircuit.{read-sound}
 use Rattle.mapped.specs.Statements.{MapsTo, MappedAgrees, MapperAgrees, MappedFits, RefusedKeeps, LaterKept, EarlierBytes, Whole, is-written, is-unreadable, is-refused, is-over, is-too-long, MapperWhole}
 use Rattle.mapped.specs.Whole.{comes, whole}
 

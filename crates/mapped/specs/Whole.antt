@@ -21,10 +21,11 @@ use Rattle.rules.specs.Outcome.{outcome, refused}
 use Rattle.rules.specs.Writing.{networkText}
 use Rattle.theorems.specs.AdmissionExact.{circuits, circuits-regular, circuit-exact}
 use Rattle.theorems.specs.Readings.{holds-from, holds-within}
+use Rattle.theorems.specs.SoundCircuits.{Sound, read-sound, gate-sound, SoundGates}
+use Rattle.theorems.specs.Results.{good-same, good-then, reading-then}
 use Rattle.mapped.specs.Ends.{SameOutputs, all-outputs, all-mapped}
-use Rattle.mapped.specs.Gates.{Known, good-same, good-then, gates-known}
+use Rattle.mapped.specs.Gates.{Known, gates-known}
 use Rattle.mapped.specs.Invariant.{Store, netFor}
-use Rattle.mapped.specs.SoundCircuit.{Sound, read-sound, gate-sound, SoundGates}
 use Rattle.mapped.specs.Start.{start-known}
 use Rattle.mapped.specs.Statements.{MapsTo, Whole, is-written, is-unreadable, is-refused, is-over, is-too-long}
 use Rattle.mapped.specs.Refusals.{Late, next-late, gates-refused}
@@ -103,11 +104,6 @@ module _ (c : Circuit) (sound : Sound c) where
       record { store = r .store; most = omega arith; sums = omega arith; same = r .same }
 
 -- ---- A circuit that is mapped.
-
-reading-then : {A B : Type 0} (r : Reading A) (next : A → Reading B) (b : B) → andThen r next ≡ Good b → (a : A) × (r ≡ Good a) × (next a ≡ Good b)
-unfolding andThen
-reading-then (Good a) next b e = (a, refl, e)
-reading-then (Refused k line) next b e = absurd (zero≢one (cc))
 
 checked-same : (s : Settings) (v w : Network) → checked s v ≡ Good w → v ≡ w
 unfolding checked

@@ -15,7 +15,7 @@ use Rattle.rules.specs.declared.Wire.{Wire}
 use Rattle.rules.specs.Circuit.{Output}
 use Rattle.rules.specs.CircuitText.{noNode}
 use Rattle.rules.specs.Builder.{tableLimits}
-use Rattle.rules.specs.Form.{Reading, Good, lines}
+use Rattle.rules.specs.Form.{Good, lines}
 use Rattle.rules.specs.Network.{Term, LutNode, Input, Linear, Bootstrap, Network, leastOf, greatestOf, nodeNorm}
 use Rattle.rules.specs.NetworkText.{Net, NetworkLine, NetLine, NodeLine, OutLine, NetPrefix, sources, unknown, nodeAt, anyBadSource, started, ending, settingsOf, over, fitsTable, noBit, networkLine, textConditions, safetyConditions, admissionConditions, withNetworkLine, withNet, networkEnded, noNetwork, readAdmitted}
 use Rattle.rules.specs.Rotation.{rotatable}
@@ -24,6 +24,7 @@ use Rattle.theorems.specs.Readings.{NoneMet}
 use Rattle.theorems.specs.AdmissionExact.{admissions}
 use Rattle.theorems.specs.GoodTexts.{kept}
 use Rattle.theorems.specs.LineBits.{WireBit, NodeBits, LineBits, line-bits}
+use Rattle.theorems.specs.Results.{good-same}
 
 -- A line after a `net` line, nodes and outputs: it meets none of 21 to 26, and its bits are bits.
 unfoldable pub Passes : Net → List LutNode → List Output → NetworkLine → Type 0
@@ -100,9 +101,6 @@ with-line (some n) ns os i (NodeLine x) m b s = with-node n ns os x m b s
 with-line (some n) ns os i (OutLine o) m b s = (s .0, s .1, outputs-snoc n ns [] os o (s .2) (m, b))
 
 -- ---- At the text's end.
-
-good-same : (v w : Network) → _≡_ {A = Reading Network} (Good v) (Good w) → v ≡ w
-good-same v w e = cc
 
 at-end : (o : Option Net) (i : ℕ) (ns : List LutNode) (os : List Output) (w : Network) → Passed o ns os
     → withNet i (record { net = o; nodes = ns; outputs = os }) o ≡ Good w → Admissible w

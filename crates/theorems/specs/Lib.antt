@@ -1,5 +1,4 @@
 -- What is proved of the rules alone.
-pub mod Bits
 pub mod RotationRule
 pub mod Completions
 pub mod Spans
@@ -10,8 +9,24 @@ pub mod Refusals
 pub mod Readings
 pub mod GoodTexts
 pub mod LineBits
+pub mod Bits
+pub mod Results
+pub mod Names
+pub mod Members
+pub mod Terms
 pub mod Bounds
 pub mod Admissible
 pub mod AdmissibleLines
 pub mod AdmissionExact
 pub mod AdmittedSafe
+pub mod SoundCircuits
+pub mod Normalised
+pub mod Unions
+pub mod ConeRows
+pub mod ConeTruths
+pub mod ConeValues
+pub mod LinearTables
+pub mod Interned
+pub mod Decimals
+pub mod Pieces
+pub mod PlainPieces
