@@ -13,7 +13,6 @@ use lib.Dec.{T, eqb, eqb-refl, ltb, ltb→lt, nltb→le}
 use lib.ListN.{length, getD}
 
 infixr 1 if_then_else_
-
 -- one of two, by a test
 abbrev pub if_then_else_ {ℓ} : {A : Type ℓ} → Bool → A → A → A
 if true then a else b = a

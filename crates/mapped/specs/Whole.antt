@@ -23,12 +23,12 @@ use Rattle.theorems.specs.AdmissionExact.{circuits, circuits-regular, circuit-e
 use Rattle.theorems.specs.Readings.{holds-from, holds-within}
 use Rattle.theorems.specs.SoundCircuits.{Sound, read-sound, gate-sound, SoundGates}
 use Rattle.theorems.specs.Results.{good-same, good-then, reading-then}
-use Rattle.mapped.specs.Ends.{SameOutputs, all-outputs, all-mapped}
+use Rattle.mapped.specs.Outputs.{SameOutputs, all-outputs, all-mapped}
 use Rattle.mapped.specs.Gates.{Known, gates-known}
-use Rattle.mapped.specs.Invariant.{Store, netFor}
-use Rattle.mapped.specs.Start.{start-known}
+use Rattle.mapped.specs.GateStart.{start-known}
 use Rattle.mapped.specs.Statements.{MapsTo, Whole, is-written, is-unreadable, is-refused, is-over, is-too-long}
-use Rattle.mapped.specs.Refusals.{Late, next-late, gates-refused}
+use Rattle.mapped.specs.GateRefusals.{Late, next-late, gates-refused}
+use Rattle.mapped.specs.Store.{netFor, Store}
 
 -- ---- The settings that are used.
 

@@ -16,6 +16,7 @@ use Rattle.rules.specs.Store.{sameTerms, sameNode, numberOf, intern}
 use Rattle.rules.specs.CircuitText.{sameName}
 use Rattle.rules.specs.NetworkText.{nodeAt}
 use Rattle.theorems.specs.Names.{name-self, name-is}
+use Rattle.theorems.specs.Counts.{count-snoc}
 
 terms-self : (ts : List Term) → sameTerms ts ts ≡ true
 unfolding sameTerms
@@ -96,11 +97,6 @@ interned x nodes = ⊎-elim (λ h. old h) (λ h. new h) (lt-or-le (numberOf x no
         let e : intern x nodes ≡ nodes ++ (x ∷ []) = rw (le-ltb (numberOf x nodes) (length nodes) h) in
         let l = number-snoc x nodes in
         record { inside = rw e l; at = rw e (number-at x (nodes ++ (x ∷ [])) l); is = inr e }
-
-pub count-snoc : (f : LutNode → Bool) (ns : List LutNode) (x : LutNode) → count f (ns ++ (x ∷ [])) ≡ count f ns + (if f x then 1 else 0)
-unfolding count
-count-snoc f [] x = omega arith
-count-snoc f (n ∷ ns) x = omega (arith, count-snoc f ns x)
 
 pub interned-most : (x : LutNode) (nodes : List LutNode) → length (intern x nodes) ≤ length nodes + 1
 interned-most x nodes =

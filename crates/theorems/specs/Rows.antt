@@ -64,7 +64,7 @@ module _ (known t : List ℕ) (k b : ℕ) (within : k < length known) where
           (λ (s : i ≢ k). let same = getD-set-other known k i b 0 s in c .keeps i (rw length-set l) (λ z. n (sym same ∙ z)) ∙ same)
           (eq-or-ne i k)
 
-set-entries : (known : List ℕ) (k b : ℕ) → b ≤ 1 → Entries known → Entries (set known k b)
+pub set-entries : (known : List ℕ) (k b : ℕ) → b ≤ 1 → Entries known → Entries (set known k b)
 set-entries known k b h e =
     record {
       at = λ i. ⊎-elim

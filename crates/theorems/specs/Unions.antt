@@ -13,9 +13,7 @@ use Rattle.laws.specs.Test.{eq-or-ne, decide, both-left, both-right}
 use Rattle.rules.specs.Composition.{unionSupport}
 use Rattle.rules.specs.Network.{member}
 use Rattle.rules.specs.NetworkText.{allDifferent}
-use Rattle.theorems.specs.Members.{Among, member-either, member-left, member-right, among-of, kept, selected-member, left-out, different-select, append-different}
-
--- ---- Members of two lists together, and of those that a test keeps.
+use Rattle.theorems.specs.Members.{Among, member-either, member-left, member-right, among-of, select-member, selected-member, select-none, different-select, append-different}
 
 -- ---- The union.
 
@@ -29,7 +27,7 @@ union-right left right =
     among-of right _
     (λ n h. ⊎-elim
     (λ (e : member n left ≡ true). member-left n left (select (λ m. not (member m left)) right) e)
-    (λ (e : member n left ≡ false). member-right n left (select (λ m. not (member m left)) right) (kept (λ m. not (member m left)) n right h (ap not e)))
+    (λ (e : member n left ≡ false). member-right n left (select (λ m. not (member m left)) right) (select-member (λ m. not (member m left)) n right h (ap not e)))
     (decide (member n left)))
 
 pub union-among : (left right : List ℕ) → Among (unionSupport left right) (left ++ right)
@@ -46,7 +44,7 @@ unfolding unionSupport
 union-different left right d e =
     append-different left (select (λ m. not (member m left)) right) d
     (rw map-id at (different-select (λ (n : ℕ). n) (λ m. not (member m left)) right (rw map-id e)))
-    (λ m k. left-out (λ m. not (member m left)) m right (ap not k))
+    (λ m k. select-none (λ m. not (member m left)) m right (ap not k))
 
 -- ---- How many.
 
