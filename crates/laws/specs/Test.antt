@@ -127,10 +127,6 @@ pub both-right : (a b : Bool) → (a && b) ≡ true → b ≡ true
 both-right true b h = h
 both-right false b h = absurd (subst T (sym h) tt)
 
-pub or-by-left : (a b : Bool) → a ≡ true → (a || b) ≡ true
-or-by-left true b e = refl
-or-by-left false b e = absurd (true≢false (sym e))
-
 pub or-by-right : (a b : Bool) → b ≡ true → (a || b) ≡ true
 or-by-right true b e = refl
 or-by-right false b e = e

@@ -4,7 +4,7 @@ use mathlib.Core.Bool.{Bool, true, false}
 use mathlib.Core.List.{List}
 use Prim.Native.Nat.{ℕ, _≤_, _<_}
 use native.Mathlib.Omega.{arith}
-use borrow.Author.Tests.{lt-ltb}
+use borrow.Author.Tests.{lt-ltb, le-ltb}
 use lib.Dec.{ltb}
 use lib.ListN.{length, take, drop}
 use Rattle.laws.specs.Over.{over, take-over, drop-over}
@@ -17,8 +17,9 @@ use Rattle.rules.specs.Outcome.{Answer, Outcome, outcome, written, refused}
 use Rattle.rules.specs.Writing.{networkText}
 use Rattle.theorems.specs.SoundCircuits.{read-sound}
 use Rattle.mapped.specs.Agrees.{Delivered, delivered, text-agrees}
-use Rattle.mapped.specs.Statements.{MapsTo, MappedAgrees, MapperAgrees, MappedFits, RefusedKeeps, LaterKept, EarlierBytes, Whole, is-written, is-unreadable, is-refused, is-over, is-too-long, MapperWhole}
+use Rattle.mapped.specs.Statements.{MapsTo, MappedAgrees, MapperAgrees, MappedFits, RefusedKeeps, LaterKept, EarlierBytes, Whole, is-written, is-unreadable, is-refused, is-over, is-too-long, MapperWhole, CapUnmet}
 use Rattle.mapped.specs.Whole.{comes, whole}
+use Rattle.mapped.specs.Cap.{attempts, mapper-same}
 
 abbrev number : Outcome → ℕ
 number o = o .answer .number
@@ -72,6 +73,9 @@ mapped-fits text =
       never-11 = λ buffer l e. let z = eleven text buffer e in let k = z .2 in let s = mapped-delivered text (z .0) (z .1) .short in omega arith;
     }
 
+pub cap-unmet : (text : List ℕ) → CapUnmet text
+cap-unmet text = record { attempts = attempts text; idle = mapper-same text }
+
 pub refused-keeps : RefusedKeeps
 refused-keeps text buffer h = by (whole text buffer)
   where
@@ -114,5 +118,9 @@ unfolding mapper answerWith
 mapper-whole text buffer =
     record {
       one-of = whole text buffer;
+      zero = (
+        λ e. let a = answered text buffer e in (a .0, a .1, a .2),
+        λ z. rw (z .1, le-ltb (length buffer) (length (networkText (z .0))) (z .2)) refl,
+      );
       eleven = (eleven text buffer, λ z. rw (z .1, lt-ltb (length buffer) (length (networkText (z .0))) (z .2)) refl);
     }

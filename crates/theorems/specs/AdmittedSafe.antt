@@ -7,14 +7,14 @@ use mathlib.Core.Option.{some, Option·map}
 use Prim.Native.Nat.{ℕ, zero, suc, _<_, _≤_}
 use native.Mathlib.Omega.{arith}
 use borrow.Author.Tests.{le-ltb, leb-false, ltb-false, not-false}
-use lib.Dec.{T, leb, eqb, leb→le}
+use lib.Dec.{T, eqb}
 use lib.IntN.{ℤ, pos, negsuc, _+ℤ_}
 use lib.ListN.{length-map, length, getD, length-append, List·getD-append, List·getD-eq-default}
 use lib.Seq.{getD-at}
 use lib.Signed.{_≤ℤ_, leZ}
 use Rattle.laws.specs.Integer.{plus, minus, add-parts, ints}
 use Rattle.laws.specs.Over.{over}
-use Rattle.laws.specs.Test.{and-left, and-right, is-T, T-is, lt-or-le, zero≢one, both-left, both-right}
+use Rattle.laws.specs.Test.{and-right, is-T, T-is, lt-or-le, zero≢one, both-left, both-right}
 use Rattle.rules.specs.declared.AdmitReply.the-variants.{Admitted}
 use Rattle.rules.specs.declared.Limit.{Limit}
 use Rattle.rules.specs.declared.Limit.the-variants.{Unlimited, AtMost}

@@ -8,7 +8,7 @@ use native.Mathlib.Omega.{arith}
 use borrow.Author.Tests.{eq-eqb, eqb-true}
 use lib.Dec.{eqb}
 use lib.ListN.{length}
-use Rattle.laws.specs.Test.{zero≢one, both-left, both-right, is-T, decide}
+use Rattle.laws.specs.Test.{zero≢one, both-left, both-right, decide}
 use Rattle.rules.specs.CircuitText.{sameName}
 use Rattle.rules.specs.Circuit.{Name}
 use Rattle.rules.specs.Network.{LutNode, Input, Linear, Bootstrap, isInput, count}
