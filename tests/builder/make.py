@@ -12,7 +12,14 @@ import pathlib
 import random
 import sys
 
-FILES = pathlib.Path(__file__).resolve().parents[2] / "crates" / "vectors_builder"
+sys.dont_write_bytecode = True
+
+REPOSITORY = pathlib.Path(__file__).resolve().parents[2]
+FILES = REPOSITORY / "crates" / "vectors_builder"
+sys.path.insert(1, str(REPOSITORY / "tools"))
+
+import stored
+
 MIN, MAX = -(2**31), 2**31 - 1
 
 
@@ -168,9 +175,8 @@ def files():
 def main():
     made, count, seen = files()
     if sys.argv[1:] == ["--check"]:
-        same = all((FILES / name).read_text() == text for name, text in made.items())
-        print("same" if same else "differs")
-        sys.exit(0 if same else 1)
+        stored.check({FILES / name: text.encode() for name, text in made.items()})
+        return
     for name, text in made.items():
         (FILES / name).write_text(text)
     print(count, "cases:", dict(sorted(seen.items())))

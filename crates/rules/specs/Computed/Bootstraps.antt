@@ -30,6 +30,10 @@ cases =
     ("(fbs 4 8 1 none span many)\n(in a)\n(in b)\n(gate g 0001 (n 0) (n 1))\n(gate h 1110 (n 2) (n 2))\n(out y (n 3))\n" ⇒ network "(net 4 8 none)\n(in a)\n(in b)\n(lin 0 (1 0) (1 1))\n(boot 2 001)\n(lin 1 (-1 3))\n(out y (n 4))\n") ∷
     -- a norm limit of 3 bootstraps a sum of three before the fourth joins
     ("(fbs 8 16 10 3 span one)\n(in a)\n(in b)\n(in c)\n(in d)\n(gate g 0001 (n 0) (n 1))\n(gate h 0001 (n 4) (n 2))\n(gate i 0001 (n 5) (n 3))\n(out y (n 6))\n" ⇒ network "(net 8 16 3)\n(in a)\n(in b)\n(in c)\n(in d)\n(lin 0 (1 0) (1 1) (1 2))\n(boot 4 0001)\n(lin 0 (1 5) (1 3))\n(boot 6 001)\n(out y (n 7))\n") ∷
+    -- the third attempt: a later gate finds the second side bootstrapped
+    ("(fbs 6 9 10 none naive many)\n(in a)\n(in b)\n(in c)\n(gate g 1101 (n 2) (n 0))\n(gate h 1101 (n 1) (n 0))\n(gate i 1001 (n 4) (n 3))\n(gate j 1110 (n 3) (n 3))\n(out y (n 6))\n" ⇒ network "(net 6 9 none)\n(in a)\n(in c)\n(lin 0 (1 0) (2 1))\n(boot 2 1101)\n(lin 1 (-1 3))\n(out y (n 4))\n") ∷
+    -- basic at T = 1: the sides are switched
+    ("(fbs 16 26 1 none basic many)\n(in a)\n(in b)\n(gate g 0100 (n 0) (n 1))\n(out y (n 2))\n" ⇒ network "(net 2 4 none)\n(in a)\n(in b)\n(lin 1 (-1 0) (1 1))\n(boot 2 001)\n(out y (n 3))\n") ∷
     []
 
 pub computed : map mapped cases ≡ map expected cases

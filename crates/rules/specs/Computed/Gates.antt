@@ -28,6 +28,8 @@ cases =
     ("(fbs 5 5 10 none span many)\n(in a)\n(in b)\n(in c)\n(gate g 0001 (n 0) (n 1))\n(gate h 0111 (n 0) (n 1))\n(gate i 0001 (n 2) (n 4))\n(gate j 0111 (n 3) (n 5))\n(out y (n 6))\n" ⇒ network "(net 5 5 none)\n(in a)\n(in b)\n(in c)\n(lin 0 (1 0) (1 1) (1 2))\n(boot 3 0011)\n(out y (n 4))\n") ∷
     -- an input and a gate that nothing needs, between others
     ("(fbs 2 4 10 none span one)\n(in a)\n(in b)\n(in c)\n(gate g 0110 (n 0) (n 1))\n(gate h 0001 (n 0) (n 2))\n(out y (n 4))\n" ⇒ network "(net 2 4 none)\n(in a)\n(in c)\n(lin 0 (1 0) (1 1))\n(boot 2 001)\n(out y (n 3))\n") ∷
+    -- a gate that is always 1
+    ("(fbs 4 4 10 none span many)\n(in a)\n(gate g 1001 (n 0) (n 0))\n(out y (n 1))\n" ⇒ network "(net 4 4 none)\n(out y (k 1))\n") ∷
     []
 
 pub computed : map mapped cases ≡ map expected cases

@@ -36,6 +36,8 @@ cases =
     ("(fbs 4 8 10 none span one)\n(gate g 10 (n 0))\n" ⇒ refusal 6 2) ∷
     -- 7: two wires and two bits
     ("(fbs 4 8 10 none span one)\n(in a)\n(in b)\n(gate g 10 (n 0) (n 1))\n" ⇒ refusal 7 4) ∷
+    -- Basic's last check asks for norms, not for the number of nodes
+    ("(fbs 8 15 10 2 basic many)\n(in a)\n(in b)\n(gate g 1110 (k 1) (n 0))\n(out y (n 2))\n(out z (n 1))\n" ⇒ network "(net 2 4 2)\n(in a)\n(in b)\n(lin 1 (-1 0))\n(out y (n 2))\n(out z (n 1))\n") ∷
     []
 
 pub computed : map mapped cases ≡ map expected cases

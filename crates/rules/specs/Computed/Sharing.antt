@@ -28,6 +28,14 @@ cases =
     ("(fbs 5 5 3 none span many)\n(in a)\n(in b)\n(in c)\n(in d)\n(gate g 0001 (n 1) (n 2))\n(gate h 0111 (n 0) (n 4))\n(gate i 0001 (n 5) (n 3))\n(gate j 0001 (n 0) (n 4))\n(gate k 0001 (n 0) (n 1))\n(gate l 0111 (n 0) (n 1))\n(gate m 0001 (n 2) (n 9))\n(gate n 0111 (n 8) (n 10))\n(out x (n 7))\n(out y (n 11))\n(out z (n 7))\n" ⇒ network "(net 5 5 none)\n(in a)\n(in b)\n(in c)\n(lin 0 (2 0) (1 1) (1 2))\n(boot 3 00001)\n(lin 0 (1 0) (1 1) (1 2))\n(boot 5 0011)\n(boot 5 0001)\n(out x (n 4))\n(out y (n 6))\n(out z (n 7))\n") ∷
     -- a NOT named twice is one sum, and an output's name may repeat
     ("(fbs 4 8 10 none span many)\n(in a)\n(gate g 10 (n 0))\n(out y (n 1))\n(out y (n 1))\n(out z (n 0))\n" ⇒ network "(net 4 8 none)\n(in a)\n(lin 1 (-1 0))\n(out y (n 1))\n(out y (n 1))\n(out z (n 0))\n") ∷
+    -- many: a form of as many sources, but not of the same, is not taken
+    ("(fbs 4 8 1 none naive many)\n(in a)\n(in b)\n(in c)\n(gate g 1011 (n 1) (n 0))\n(gate h 0011 (n 0) (n 2))\n(gate i 0110 (n 3) (n 4))\n(out y (n 5))\n" ⇒ network "(net 4 8 none)\n(in a)\n(in b)\n(in c)\n(lin 0 (2 0) (1 1))\n(boot 3 1101)\n(lin 0 (1 0) (2 2))\n(boot 5 0101)\n(lin 0 (1 4) (2 6))\n(boot 7 0110)\n(out y (n 8))\n") ∷
+    -- many: of two forms the one of less span, though its norm is larger
+    ("(fbs 8 16 10 none span many)\n(in a)\n(in b)\n(in c)\n(gate g 0010 (n 0) (n 2))\n(gate h 0111 (n 3) (n 1))\n(gate i 0111 (n 1) (n 2))\n(gate j 0111 (n 4) (n 5))\n(gate k 0110 (n 2) (n 1))\n(gate l 1011 (n 3) (n 7))\n(gate m 0110 (n 8) (n 0))\n(gate n 0110 (n 1) (n 2))\n(gate o 0001 (n 1) (n 0))\n(gate p 0100 (n 10) (n 11))\n(out x (n 6))\n(out y (n 9))\n(out z (n 12))\n" ⇒ network "(net 8 16 none)\n(in a)\n(in b)\n(in c)\n(lin 0 (1 0) (4 1) (1 2))\n(boot 3 0110111)\n(lin 3 (2 0) (2 1) (-3 2))\n(boot 5 00110000)\n(boot 3 0000001)\n(out x (n 4))\n(out y (n 6))\n(out z (n 7))\n") ∷
+    -- many: of two forms of one span the one of less norm, though the other was bootstrapped first
+    ("(fbs 5 10 10 none span many)\n(in a)\n(in b)\n(in c)\n(gate g 0010 (n 2) (n 1))\n(gate h 0001 (n 2) (n 0))\n(gate i 0110 (n 3) (n 4))\n(gate j 0001 (n 1) (n 2))\n(gate k 0010 (n 5) (n 6))\n(gate l 0110 (n 0) (n 1))\n(gate m 1101 (n 8) (n 4))\n(gate n 1001 (n 0) (n 1))\n(gate o 1001 (n 1) (n 2))\n(gate p 0010 (n 10) (n 11))\n(out x (n 7))\n(out y (n 9))\n(out z (n 12))\n" ⇒ network "(net 5 10 none)\n(in a)\n(in b)\n(in c)\n(lin 1 (-1 0) (4 1) (1 2))\n(boot 3 0010000)\n(lin 5 (1 0) (-3 1) (-2 2))\n(boot 5 0101110)\n(boot 5 0001000)\n(out x (n 4))\n(out y (n 6))\n(out z (n 7))\n") ∷
+    -- many: a sum that is bootstrapped already is found beside a source whose coefficient is 0
+    ("(fbs 4 7 3 none span many)\n(in a)\n(in b)\n(in c)\n(in d)\n(gate g 1000 (n 0) (n 1))\n(gate h 1001 (n 3) (n 2))\n(gate i 1011 (n 4) (n 5))\n(gate j 0100 (n 0) (n 1))\n(gate k 0010 (n 2) (n 7))\n(gate l 0001 (n 3) (n 8))\n(gate m 0010 (n 0) (n 1))\n(gate n 1110 (n 10) (n 2))\n(gate o 1001 (n 0) (n 1))\n(gate p 0001 (n 11) (n 12))\n(out y (n 13))\n" ⇒ network "(net 4 7 none)\n(in a)\n(in b)\n(lin 0 (1 0) (1 1))\n(boot 2 101)\n(out y (n 3))\n") ∷
     []
 
 pub computed : map mapped cases ≡ map expected cases
