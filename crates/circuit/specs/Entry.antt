@@ -8,11 +8,11 @@ use native.Mathlib.Omega.{arith}
 use borrow.Author.Tests.{ne-eqb, lt-ltb, le-ltb}
 use lib.ListN.{length}
 use Rattle.laws.specs.Over.{over}
-use Rattle.rules.specs.declared.RunReply.the-variants.{Ran, Unreadable, BadBits, ShortBuffer}
 use Rattle.rules.specs.Circuit as C
 use Rattle.rules.specs.CircuitText.{readCircuit}
 use Rattle.rules.specs.Form as F
-use Rattle.rules.specs.Runs.{ran, bitsFor, runOn, withValues, runCircuit, runCircuitOn}
+use Rattle.rules.specs.Outcome.{written, refused}
+use Rattle.rules.specs.Runs.{Numbered, NotBits, NoRoom, ran, bitsFor, runOn, withValues, runCircuit, runCircuitOn}
 use Rattle.text.specs.Gives.{Each}
 use Rattle.circuit.specs.declared.Circuit.{Circuit}
 use Rattle.circuit.specs.declared.Reading.{Reading}
@@ -33,7 +33,7 @@ unfolding C.circuitRun circuitOf outputBits
 run-is c bits = refl
 
 module _ (text bits buffer : List ℕ) (r : Reading) (e : readingOf r ≡ readCircuit text) where
-  pub run-unreadable : (r .number ≡ 0 → ⊥) → ran (Unreadable (r .number) (r .line)) buffer ≡ runCircuit text bits buffer
+  pub run-unreadable : (r .number ≡ 0 → ⊥) → ran (Numbered (refused (r .number) (r .line))) buffer ≡ runCircuit text bits buffer
   unfolding runCircuit runCircuitOn readingOf
   run-unreadable h = rw (← e, ne-eqb (r .number) 0 h)
 
@@ -48,7 +48,7 @@ module _ (text bits buffer : List ℕ) (r : Reading) (e : readingOf r ≡ readCi
     on-circuit = rw (good, inputs-length z, outputs-length z)
 
     module _ (b : Bool) (f : b ≡ bitsFor (r .circuit .inputs) bits) where
-      pub run-bad-bits : not b ≡ true → ran BadBits buffer ≡ runCircuit text bits buffer
+      pub run-bad-bits : not b ≡ true → ran NotBits buffer ≡ runCircuit text bits buffer
       unfolding runOn
       run-bad-bits k = sym (on-circuit ∙ rw (ap not (sym f) ∙ k))
 
@@ -70,12 +70,12 @@ module _ (text bits buffer : List ℕ) (r : Reading) (e : readingOf r ≡ readCi
         outputs-ready =
             outputs-more _ 128 (outputsOf (r .circuit)) (omega (arith, inputs-length z, gates-length z, z .inputs, z .«gate_count»)) (read-sound text _ good .outputsSound)
 
-        pub run-short : length buffer < r .circuit .«out_count» → ran ShortBuffer buffer ≡ runCircuit text bits buffer
+        pub run-short : length buffer < r .circuit .«out_count» → ran NoRoom buffer ≡ runCircuit text bits buffer
         unfolding runOn
         run-short l = sym (on-circuit ∙ rw (given, lt-ltb (length buffer) (r .circuit .«out_count») l))
 
         pub run-ran : (all out : List ℕ) → r .circuit .«out_count» ≤ length buffer → all ≡ padded (C.gateValues bits (gatesOf (r .circuit)))
-            → out ≡ over (outputBits all (outputsOf (r .circuit))) buffer → ran (Ran (r .circuit .«out_count»)) out ≡ runCircuit text bits buffer
+            → out ≡ over (outputBits all (outputsOf (r .circuit))) buffer → ran (Numbered (written (r .circuit .«out_count»))) out ≡ runCircuit text bits buffer
         unfolding runOn withValues
         run-ran all out l a o =
             let os = outputsOf (r .circuit) in
@@ -84,4 +84,4 @@ module _ (text bits buffer : List ℕ) (r : Reading) (e : readingOf r ≡ readCi
             sym
             (on-circuit
             ∙ rw (given, le-ltb (length buffer) (r .circuit .«out_count») l, run-is (r .circuit) bits)
-            (ap₂ (λ n x. ran (Ran n) x) (output-count (r .circuit) values z) (sym (o ∙ ap (λ x. over x buffer) q))))
+            (ap₂ (λ n x. ran (Numbered (written n)) x) (output-count (r .circuit) values z) (sym (o ∙ ap (λ x. over x buffer) q))))

@@ -8,7 +8,7 @@ ghost use lib.ListN.{length, take, drop};
 ghost use Rattle.laws.specs.Over.{over};
 ghost use Rattle.rules.specs.CircuitText.{noNode, policy, tables, fbsLine, gateLine, circuitLine, readCircuit};
 ghost use Rattle.rules.specs.Form.{_when_};
-ghost use Rattle.rules.specs.Runs.{allBits, bitsFor, ran, runCircuit};
+ghost use Rattle.rules.specs.Runs.{allBits, bitsFor, ran, runReply, runCircuit};
 ghost use Rattle.rules.specs.Circuit.{wireBit, gateBit, gateValues};
 ghost use Rattle.text.specs.Capped.{capped};
 ghost use Rattle.text.specs.Forms.{Named};
@@ -751,7 +751,7 @@ fn are_bits_for(n: usize, bits: &[u8]) -> bool
 
 // The circuit that a text describes, run on a bit for each input.
 pub fn run_circuit(text: &[u8], bits: &[u8], values: &mut [u8]) -> RunReply
-    ensures { λ r. ⌜ ran r (now (values .exit)) ≡ runCircuit (now (text .entry)) (now (bits .entry)) (now (values .entry)) ⌝ }
+    ensures { λ r. ⌜ ran (runReply r) (now (values .exit)) ≡ runCircuit (now (text .entry)) (now (bits .entry)) (now (values .entry)) ⌝ }
 {
     let reading = read(text);
     if reading.number != 0 {

@@ -13,7 +13,7 @@ use lib.Dec.{T, leb}
 use lib.IntN.{ℤ, pos, negsuc, _+ℤ_, _*ℤ_}
 use lib.ListN.{length, getD, set, take, length-set, length-take, length-append, List·getD-append}
 use lib.Seq.{take-suc-set, getD-take, getD-at, getD-set-same, getD-set-other}
-use Rattle.laws.specs.Test.{isSome, lt-or-le, eq-or-ne}
+use Rattle.laws.specs.Test.{isSome, lt-or-le, eq-or-ne, neither-left, neither-right}
 use Rattle.rules.specs.declared.Wire.{Wire}
 use Rattle.rules.specs.declared.Wire.the-variants.{Const, Node}
 use Rattle.rules.specs.Circuit.{Name, Output}
@@ -26,7 +26,6 @@ use Rattle.rules.specs.Rotation as R
 use Rattle.rules.specs.Runs.{allBits}
 use Rattle.theorems.specs.RotationRule.{rotation-rule}
 use Rattle.network.specs.Table.{bits-small}
-use Rattle.network.specs.Verdict.{or-left, or-right}
 use Rattle.network.specs.Work.{byteOf, sumBytes, noValues, withValue, withOut}
 use Rattle.network.specs.declared.value.Work.{Work}
 
@@ -93,10 +92,10 @@ module _ {ns : List LutNode} {values : List ℤ} (b : Bytes ns values) where
   unfolding sumBytes sumFrom anyBadSource sources unknown
   sum-is c [] e = refl
   sum-is c (t ∷ ts) e =
-      let a = or-left (leb (length ns) (t .node) || N.isLinear (nodeAt ns (t .node))) (anyBadSource ns (sources ts)) e in
-      let r = or-right (leb (length ns) (t .node) || N.isLinear (nodeAt ns (t .node))) (anyBadSource ns (sources ts)) e in
-      let h : t .node < length ns = leb-false (length ns) (t .node) (or-left (leb (length ns) (t .node)) (N.isLinear (nodeAt ns (t .node))) a) in
-      let l = or-right (leb (length ns) (t .node)) (N.isLinear (nodeAt ns (t .node))) a in
+      let a = neither-left (leb (length ns) (t .node) || N.isLinear (nodeAt ns (t .node))) (anyBadSource ns (sources ts)) e in
+      let r = neither-right (leb (length ns) (t .node) || N.isLinear (nodeAt ns (t .node))) (anyBadSource ns (sources ts)) e in
+      let h : t .node < length ns = leb-false (length ns) (t .node) (neither-left (leb (length ns) (t .node)) (N.isLinear (nodeAt ns (t .node))) a) in
+      let l = neither-right (leb (length ns) (t .node)) (N.isLinear (nodeAt ns (t .node))) a in
       rw (b .byte (t .node) h l, front-value (t .node) h) (sum-is (c +ℤ (t .coef *ℤ getD values (t .node) (pos 0))) ts r)
 
   -- one node more, with its value

@@ -13,11 +13,11 @@ use lib.Seq.{drop-cons, getD-take}
 use Rattle.laws.specs.Front.{front, front-step}
 use Rattle.laws.specs.Over.{over, front-over}
 use Rattle.laws.specs.Test.{if_then_else_}
-use Rattle.rules.specs.declared.RunReply.the-variants.{Ran as Finished, Unreadable, BadBits, ShortBuffer, BrokenOff}
 use Rattle.rules.specs.Form.{Good, Refused}
 use Rattle.rules.specs.Network.{Network, isInput, count, nodeValues, outputValues, networkRun}
 use Rattle.rules.specs.NetworkText.{Net, NetPrefix, withNetworkLine, noNetwork, readNetwork}
-use Rattle.rules.specs.Runs.{ran, allBits, bitsFor, withValues, runOn, runNetworkOn, runNetwork}
+use Rattle.rules.specs.Outcome.{written, refused}
+use Rattle.rules.specs.Runs.{Numbered, NotBits, NoRoom, BreakOff, ran, allBits, bitsFor, withValues, runOn, runNetworkOn, runNetwork}
 use Rattle.text.specs.Line.{LineEnd}
 use Rattle.network_text.specs.Lines.{lineOf}
 use Rattle.network.specs.Ran.{Ran, ran-none}
@@ -146,7 +146,7 @@ module _ (n : ℕ) (bits : List ℕ) where
 -- ---- The entry.
 
 module _ {text bits : List ℕ} {r : Run} (buffer : List ℤ) (t : TextRun text bits r) where
-  pub entry-refused : (r .number ≡ 0 → ⊥) → ran (Unreadable (r .number) (r .line)) buffer ≡ runNetwork text bits buffer
+  pub entry-refused : (r .number ≡ 0 → ⊥) → ran (Numbered (refused (r .number) (r .line))) buffer ≡ runNetwork text bits buffer
   unfolding runNetwork runNetworkOn
   entry-refused z = rw (t .refused z)
 
@@ -161,12 +161,12 @@ module _ {text bits : List ℕ} {r : Run} (buffer : List ℤ) (t : TextRun text 
     unfolding runNetwork runNetworkOn
     opened = ap (λ o. runNetworkOn o bits buffer) (good .reading)
 
-    pub entry-bits : b ≡ false → ran BadBits buffer ≡ runNetwork text bits buffer
+    pub entry-bits : b ≡ false → ran NotBits buffer ≡ runNetwork text bits buffer
     unfolding runOn
     entry-bits f = sym (opened ∙ rw (sym judged ∙ f))
 
     module _ (f : b ≡ true) where
-      pub entry-short : length buffer < r .outputs → ran ShortBuffer buffer ≡ runNetwork text bits buffer
+      pub entry-short : length buffer < r .outputs → ran NoRoom buffer ≡ runNetwork text bits buffer
       unfolding runOn
       entry-short h = sym (opened ∙ rw (sym judged ∙ f, lt-ltb (length buffer) (length (good .net .outputs)) (omega (arith, good .outputs))))
 
@@ -174,12 +174,12 @@ module _ {text bits : List ℕ} {r : Run} (buffer : List ℤ) (t : TextRun text 
         enough : length (good .net .outputs) ≤ length buffer
         enough = omega (arith, good .outputs)
 
-        pub entry-broken : r .broken ≡ true → ran BrokenOff buffer ≡ runNetwork text bits buffer
+        pub entry-broken : r .broken ≡ true → ran BreakOff buffer ≡ runNetwork text bits buffer
         unfolding runOn withValues
         entry-broken k = sym (opened ∙ rw (sym judged ∙ f, le-ltb (length buffer) (length (good .net .outputs)) enough, good .broken k))
 
         pub entry-ran : (after : List ℤ) → r .broken ≡ false → after ≡ over (take (r .outputs) (r .outs)) buffer
-            → ran (Finished (r .outputs)) after ≡ runNetwork text bits buffer
+            → ran (Numbered (written (r .outputs))) after ≡ runNetwork text bits buffer
         unfolding runOn withValues
         entry-ran after k e =
             let n : length (take (r .outputs) (r .outs)) ≡ r .outputs = let q = good .room k in let w = good .few in simp length-take (omega arith) in

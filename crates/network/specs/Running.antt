@@ -9,7 +9,7 @@ use borrow.Author.Tests.{leb-false, not-false}
 use lib.Dec.{T, leb}
 use lib.IntN.{ℤ, pos}
 use lib.ListN.{length, getD, take, drop}
-use Rattle.laws.specs.Test.{if_then_else_}
+use Rattle.laws.specs.Test.{if_then_else_, neither-left}
 use Rattle.rules.specs.Circuit.{Name, Output}
 use Rattle.rules.specs.Form.{bitsFrom}
 use Rattle.rules.specs.Network.{Term, LutNode, Input, Linear, Bootstrap, isLinear, nodeValue, wireValue}
@@ -24,7 +24,6 @@ use Rattle.network_text.specs.declared.line.Line.the-variants.{Bad, Net as NetR
 use Rattle.network_text.specs.declared.sum.Lin.{Lin}
 use Rattle.network.specs.Ran.{Ran, same-byte, boot-byte, input-value, linear-value, table-value, ran-net, ran-still, ran-breaks, ran-goes, ran-out, ran-out-still}
 use Rattle.network.specs.Stands.{Stands}
-use Rattle.network.specs.Verdict.{or-left}
 use Rattle.network.specs.Work.{byteOf, bootWork, lineWork, withValue, withOut, sumBytes}
 use Rattle.network.specs.declared.seen.Seen.{Seen}
 use Rattle.network.specs.declared.value.Work.{Work}
@@ -52,7 +51,7 @@ module _ (bits : List ℕ) (small : (i : ℕ) → getD bits i 0 ≤ 255) {k : Se
         let b = unmet _ _ (omega arith) (a .1) in
         let c = leb-false 32 (length (w .nodes)) (unmet _ _ (omega arith) (b .1) .0) in
         rw (s .count)
-        (ran-node (Input name) (not-false _ (a .0)) (or-left (leb 1 (length (w .outputs))) _ (b .0)) (omega arith) (some (pos (getD bits (length (w .nodes)) 0))) (u .broken) refl
+        (ran-node (Input name) (not-false _ (a .0)) (neither-left (leb 1 (length (w .outputs))) _ (b .0)) (omega arith) (some (pos (getD bits (length (w .nodes)) 0))) (u .broken) refl
         (λ f. input-value (r .whole f .bytes) (settingsOf (w .net) .p) bits name)
         (λ y q _. subst (λ x. byteOf x ≡ x) (Option·some-injective _ _ q) (same-byte (getD bits (length (w .nodes)) 0) (small (length (w .nodes))))))
 

@@ -15,7 +15,7 @@ use lib.ListN.{length, getD, set, take, drop, length-set, length-append, List·g
 use lib.Seq.{getD-set-same, getD-set-other, getD-at, take-suc-set}
 use lib.Signed.{leZ}
 use Rattle.laws.specs.Integer.{eqZ, plus, minus, add-parts, false-leZ}
-use Rattle.laws.specs.Test.{if-both, isSome, lt-or-le, eq-or-ne}
+use Rattle.laws.specs.Test.{if-both, isSome, lt-or-le, eq-or-ne, neither-left, neither-right}
 use Rattle.rules.specs.declared.Limit.{Limit}
 use Rattle.rules.specs.declared.Wire.{Wire}
 use Rattle.rules.specs.declared.Wire.the-variants.{Const, Node}
@@ -40,7 +40,7 @@ use Rattle.network.specs.Count.{count-more}
 use Rattle.network.specs.Seen.{noLines, Sized, namesOf, repeated, inConditions, nodeConditions, badSource, linConditions, bootConditions, notBit, wireConditions, outConditions, seenConditions, withNet, withNode, withName, withOutput, RoomFor, Follows}
 use Rattle.network.specs.Table.{table-length}
 use Rattle.network.specs.Tally.{Takes}
-use Rattle.network.specs.Verdict.{refusal, goodRefusal, laterConditions, safety, good-refusal, good-same, or-left, or-right}
+use Rattle.network.specs.Verdict.{refusal, goodRefusal, laterConditions, safety, good-refusal, good-same}
 use Rattle.network.specs.Work.{KnownWire, Ready}
 use Rattle.network.specs.declared.seen.Seen.{Seen}
 
@@ -298,7 +298,7 @@ line-room judge k l Bad v z e = tt
 line-room judge k l (NetRead p m n) v z e = tt
 line-room judge k l (In a t) v z e =
     let order = unmet _ _ (omega arith) (unmet _ _ (omega arith) e .1) in
-    let same = eqb-true (k .inputs) (k .count) (not-false _ (or-right (leb 1 (k .outputs)) _ (order .0))) in
+    let same = eqb-true (k .inputs) (k .count) (not-false _ (neither-right (leb 1 (k .outputs)) _ (order .0))) in
     let few = leb-false 32 (k .count) (unmet _ _ (omega arith) (order .1) .0) in
     (omega arith, omega arith)
 line-room judge k l Sum v z e = leb-false 672 (k .count) (unmet _ _ (omega arith) (unmet _ _ (omega arith) (unmet _ _ (omega arith) e .1) .1) .0)
@@ -312,8 +312,8 @@ sources-known linear count v zero i e b j h g = absurd (omega arith)
 sources-known linear count v (suc m) i e b j h g =
     let q = terms-next v i (omega arith) in
     let c : ((leb count (getD (v .sources) i 0) || getD linear (getD (v .sources) i 0) false) || badSource linear count (termsAt v (i + 1))) ≡ false = ap (badSource linear count) (sym q) ∙ b in
-    ⊎-elim (λ (d : j ≡ i). rw d (leb-false count (getD (v .sources) i 0) (or-left _ _ (or-left _ (badSource linear count (termsAt v (i + 1))) c))))
-    (λ (d : j ≡ i → ⊥). sources-known linear count v m (i + 1) (omega arith) (or-right (leb count (getD (v .sources) i 0) || getD linear (getD (v .sources) i 0) false) _ c) j (omega arith) g)
+    ⊎-elim (λ (d : j ≡ i). rw d (leb-false count (getD (v .sources) i 0) (neither-left _ _ (neither-left _ (badSource linear count (termsAt v (i + 1))) c))))
+    (λ (d : j ≡ i → ⊥). sources-known linear count v m (i + 1) (omega arith) (neither-right (leb count (getD (v .sources) i 0) || getD linear (getD (v .sources) i 0) false) _ c) j (omega arith) g)
     (eq-or-ne j i)
 
 wire-known : (count : ℕ) (u : Wire) → count ≤ 672 → noNode count u ≡ false → KnownWire u

@@ -6,11 +6,10 @@ use mathlib.Core.Option.{some, Option·some-injective, Option·none-ne-some}
 use Prim.Native.Nat.{ℕ, _+_, _-_, _≤_}
 use native.Mathlib.Omega.{arith}
 use lib.ListN.{length, take, drop}
-use Rattle.rules.specs.declared.AdmitReply.the-variants.{Admitted, Refused as NotAdmitted}
 use Rattle.rules.specs.declared.Stats.{Stats}
 use Rattle.rules.specs.Form.{Good, Refused, bitsFrom}
 use Rattle.rules.specs.Network.{stats}
-use Rattle.rules.specs.NetworkText.{NetworkLine, NetPrefix, networkLine, withNetworkLine, noNetwork, admitReply, admission}
+use Rattle.rules.specs.NetworkText.{NetworkLine, NetPrefix, networkLine, withNetworkLine, noNetwork, admitted, rejected, admissionOf, admission}
 use Rattle.text.specs.Judged.{lowest}
 use Rattle.text.specs.Line.{LineEnd}
 use Rattle.network_text.specs.Lines.{lineIn, lineOf, Within, LineRead}
@@ -123,9 +122,9 @@ module _ {text : List ℕ} {k : Seen} {t : Tally} {line at : ℕ} (h : Admitting
   admit-room = let s = h .lines .stands in rw (h .tally) (tally-room (h .said .nodes) (omega (arith, s .count, s .sized .count)))
 
   module _ {e : ℕ} {r : Step} (d : LineEnd text at e) (q : AdmitStep k t (take (e - at) (drop at text)) r) where
-    pub admit-refused : (r .number ≡ 0 → ⊥) → NotAdmitted (r .number) line ≡ admission text
-    unfolding admission admitReply
-    admit-refused z = sym (ap admitReply (network-admitted text ∙ lines-refused (h .lines) d (q .step) z))
+    pub admit-refused : (r .number ≡ 0 → ⊥) → rejected (r .number) line ≡ admission text
+    unfolding admission admissionOf
+    admit-refused z = sym (ap admissionOf (network-admitted text ∙ lines-refused (h .lines) d (q .step) z))
 
     pub admit-next : {m : ℕ} → r .number ≡ 0 → m ≡ line + 1 → Admitting text (r .seen) (r .tally) m e
     unfolding lineOf
@@ -142,12 +141,12 @@ module _ {text : List ℕ} {k : Seen} {t : Tally} {line at : ℕ} (h : Admitting
         })
 
   module _ (e : length text ≤ at) where
-    pub admit-unstarted : k .started ≡ false → NotAdmitted 21 line ≡ admission text
-    unfolding admission admitReply
-    admit-unstarted f = sym (ap admitReply (network-admitted text ∙ lines-unstarted (h .lines) e f))
+    pub admit-unstarted : k .started ≡ false → rejected 21 line ≡ admission text
+    unfolding admission admissionOf
+    admit-unstarted f = sym (ap admissionOf (network-admitted text ∙ lines-unstarted (h .lines) e f))
 
-    pub admit-ended : {x : Stats} → k .started ≡ true → x ≡ statsFrom k t → Admitted x ≡ admission text
-    unfolding admission admitReply statsFrom stats tallyOf
+    pub admit-ended : {x : Stats} → k .started ≡ true → x ≡ statsFrom k t → admitted x ≡ admission text
+    unfolding admission admissionOf statsFrom stats tallyOf
     admit-ended f g =
         let s = h .lines .stands in
-        ap Admitted (g ∙ rw (h .tally, s .inputs, s .outputs)) ∙ sym (ap admitReply (network-admitted text ∙ lines-ended (h .lines) e f))
+        ap admitted (g ∙ rw (h .tally, s .inputs, s .outputs)) ∙ sym (ap admissionOf (network-admitted text ∙ lines-ended (h .lines) e f))

@@ -22,6 +22,7 @@ use Rattle.laws.specs.Test.{if_then_else_, if-both, isSome, allb, and-left, and
 use Rattle.rules.specs.Form.{bitsFrom}
 use Rattle.rules.specs.Rotation.{pairSum, sameSum, centre, rotatable, coefficient, rotatedBy, rotated}
 use Rattle.rules.specs.Runs.{allBits}
+use Rattle.text.specs.Name.{bits-length}
 use Rattle.network_text.specs.Lines.{TablePlace}
 use Rattle.network.specs.declared.table.Value.{Value}
 use Rattle.network.specs.declared.table.Value.the-variants.{At, Broken}
@@ -38,11 +39,6 @@ unfolding bitsFrom
 bits-at [] i = refl
 bits-at (b ∷ w) zero = refl
 bits-at (b ∷ w) (suc i) = bits-at w i
-
-bits-length : (w : List ℕ) → length (bitsFrom w) ≡ length w
-unfolding bitsFrom
-bits-length [] = refl
-bits-length (b ∷ w) = ap suc (bits-length w)
 
 pub bits-small : (bs : List ℕ) (i : ℕ) → T (allBits bs) → getD bs i 0 ≤ 1
 unfolding allBits

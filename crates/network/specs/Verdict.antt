@@ -1,6 +1,6 @@
 -- The number that a line is refused with, and what of a line that was read decides it.
 use mathlib.Core.Path.{_≡_, refl, sym, ap, _∙_}
-use mathlib.Core.Bool.{Bool, true, false, _||_, not, true≢false}
+use mathlib.Core.Bool.{Bool, true, false, _||_, not}
 use mathlib.Core.List.{List, [], _∷_, _++_, append-nil}
 use mathlib.Core.Logic.{⊎-elim}
 use mathlib.Core.Option.{Option, none, some}
@@ -10,7 +10,7 @@ use borrow.Author.Tests.{le-leb, lt-leb, lt-ltb, le-ltb, leb-false, not-false}
 use lib.Dec.{leb, ltb}
 use lib.IntN.{ℤ}
 use lib.ListN.{length, take, drop}
-use Rattle.laws.specs.Test.{if_then_else_, lt-or-le}
+use Rattle.laws.specs.Test.{if_then_else_, lt-or-le, neither-left, neither-right}
 use Rattle.rules.specs.declared.Wire.{Wire}
 use Rattle.rules.specs.declared.Wire.the-variants.{Const, Node}
 use Rattle.rules.specs.Builder.{tableLimits}
@@ -115,14 +115,6 @@ conditions-are false w l = sym (append-nil (textConditions w l))
 
 -- ---- A node's number up to 65536 says whether it is a node, and which.
 
-pub or-left : (a b : Bool) → (a || b) ≡ false → a ≡ false
-or-left true b e = e
-or-left false b e = refl
-
-pub or-right : (a b : Bool) → (a || b) ≡ false → b ≡ false
-or-right true b e = absurd (true≢false e)
-or-right false b e = e
-
 module _ (ns : List LutNode) (h : length ns ≤ 65536) where
   -- a node or not: its number is exact, or past all of them
   exact-or-unknown : (Q : ℕ → ℕ → Type 0) (i : ℕ) → (min 65536 i ≡ i → Q i i) → (unknown ns i ≡ true → unknown ns (min 65536 i) ≡ true → Q (min 65536 i) i) → Q (min 65536 i) i
@@ -142,9 +134,9 @@ module _ (ns : List LutNode) (h : length ns ≤ 65536) where
   unfolding anyBadSource sources capTerms capTerm unknown
   same-sources [] e = refl
   same-sources (t ∷ ts) e =
-      let a = or-left _ (anyBadSource ns (sources ts)) e in
-      let b = or-right (unknown ns (t .node) || isLinear (nodeAt ns (t .node))) _ e in
-      let k : t .node < length ns = leb-false (length ns) (t .node) (or-left _ (isLinear (nodeAt ns (t .node))) a) in
+      let a = neither-left _ (anyBadSource ns (sources ts)) e in
+      let b = neither-right (unknown ns (t .node) || isLinear (nodeAt ns (t .node))) _ e in
+      let k : t .node < length ns = leb-false (length ns) (t .node) (neither-left _ (isLinear (nodeAt ns (t .node))) a) in
       rw (cap-small (t .node) (omega arith), same-sources ts b)
 
   same-node : (i : ℕ) → unknown ns i ≡ false → min 65536 i ≡ i

@@ -1,6 +1,6 @@
 // Admission.
 ghost use mathlib.Core.Path.{_≡_};
-ghost use Rattle.rules.specs.NetworkText.{admission};
+ghost use Rattle.rules.specs.NetworkText.{admission, admitReply};
 ghost use Rattle.network.specs.Step.{Standing, AdmitStep, statsFrom};
 ghost use Rattle.network.specs.Tally.{Room};
 use crate::seen::Seen;
@@ -54,7 +54,7 @@ fn stats_of(k: Seen, t: Tally) -> Stats
 
 // The statistics of a network whose lines meet none of 21 to 26, or the number and the line of the first that does.
 pub fn admit(text: &[u8]) -> AdmitReply
-    ensures { λ r. ⌜ r ≡ admission (now (text .entry)) ⌝ }
+    ensures { λ r. ⌜ admitReply r ≡ admission (now (text .entry)) ⌝ }
 {
     let mut k = crate::seen::no_lines();
     let mut t = crate::tally::no_nodes();

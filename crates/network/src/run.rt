@@ -3,7 +3,7 @@ ghost use mathlib.Core.Path.{_≡_};
 ghost use Prim.Native.Nat.{_≤_};
 ghost use lib.ListN.{length, take};
 ghost use Rattle.laws.specs.Over.{over};
-ghost use Rattle.rules.specs.Runs.{ran, bitsFor, runNetwork};
+ghost use Rattle.rules.specs.Runs.{runReply, ran, bitsFor, runNetwork};
 ghost use Rattle.network.specs.Step.{Standing};
 ghost use Rattle.network.specs.Run.{RunStep, unreadableRun, readableRun, TextRun};
 use crate::seen::Seen;
@@ -133,7 +133,7 @@ fn write_values(outs: &[i64; 32], n: usize, values: &mut [i64])
 // The outputs' values for a bit of each input, one an output, later places kept. Tested in turn: the text (21 and 22), the bits, the buffer,
 // and whether a boot breaks off; what is no run keeps the buffer.
 pub fn run_network(text: &[u8], bits: &[u8], values: &mut [i64]) -> RunReply
-    ensures { λ r. ⌜ ran r (now (values .exit)) ≡ runNetwork (now (text .entry)) (now (bits .entry)) (now (values .entry)) ⌝ }
+    ensures { λ r. ⌜ ran (runReply r) (now (values .exit)) ≡ runNetwork (now (text .entry)) (now (bits .entry)) (now (values .entry)) ⌝ }
 {
     let r = run_text(text, bits);
     if r.number != 0 {

@@ -1,9 +1,9 @@
 -- The line that each reading function's answer is, by the tests of the code.
 use mathlib.Core.Path.{_≡_, refl, sym, ap, ap₂, subst, _∙_}
 use mathlib.Core.Bool.{Bool, true, false, _&&_}
-use mathlib.Core.List.{List, [], _∷_}
+use mathlib.Core.List.{List}
 use mathlib.Core.Option.{Option, none, some}
-use Prim.Native.Nat.{ℕ, suc, _*_, _-_, _<_, _≤_, min}
+use Prim.Native.Nat.{ℕ, _*_, _-_, _<_, _≤_, min}
 use native.Mathlib.Omega.{arith}
 use borrow.Author.Tests.{ne-eqb, le-leb, lt-leb}
 use lib.Dec.{leb, leb→le}
@@ -20,6 +20,7 @@ use Rattle.rules.specs.NetworkText.{Net, NetworkLine, NetLine, NodeLine, OutLin
 use Rattle.text.specs.Cap.{cap-table}
 use Rattle.text.specs.Capped.{capped, exact-some}
 use Rattle.text.specs.Forms.{Named, nameFrom, nameTo, capOutput}
+use Rattle.text.specs.Name.{bits-length}
 use Rattle.text.specs.declared.NameRead.{NameRead}
 use Rattle.network_text.specs.LineRead.{capNet, capBoot, BitsAt, plainRead, ended, line-net, line-in, line-lin, line-boot, line-out, line-none}
 use Rattle.network_text.specs.Lines.{goodForm, goodLine, lineIn, lineOf, LineRead}
@@ -163,11 +164,6 @@ module _ {l : List ℕ} {at : ℕ} (h : SumIs l at) {s : LinRead} (k : SumRead l
 
 -- ---- `boot`
 
-bits-long : (w : List ℕ) → length (bitsFrom w) ≡ length w
-unfolding bitsFrom
-bits-long [] = refl
-bits-long (b ∷ w) = ap suc (bits-long w)
-
 good-boot : (w : LutNode) (i : ℕ) (table : List ℕ) (k : ℕ) → Bootstrap i table ≡ capBoot w → length table ≡ k
     → goodForm (NodeLine w) ≡ (if leb k 32 then some (NodeLine (Bootstrap i table)) else none)
 unfolding capBoot goodForm
@@ -186,7 +182,7 @@ module _ {l : List ℕ} {i a e end : ℕ} (h : BootIs l i a e end) where
 
   -- the node that is meant, with the same bits
   meant : goodForm (NodeLine (boot .0)) ≡ (if leb (e - a) 32 then some (NodeLine (Bootstrap i (bitsFrom (take (e - a) (drop a l))))) else none)
-  meant = let x = boot in let p = h .place in good-boot (x .0) i (bitsFrom (take (e - a) (drop a l))) (e - a) (x .2) (bits-long (take (e - a) (drop a l)) ∙ simp (length-take, length-drop) (omega (arith, p .inside)))
+  meant = let x = boot in let p = h .place in good-boot (x .0) i (bitsFrom (take (e - a) (drop a l))) (e - a) (x .2) (bits-length (take (e - a) (drop a l)) ∙ simp (length-take, length-drop) (omega (arith, p .inside)))
 
   known : end ≡ length l → goodLine (networkLine l) ≡ (if leb (e - a) 32 then some (NodeLine (Bootstrap i (bitsFrom (take (e - a) (drop a l))))) else none)
   unfolding goodLine

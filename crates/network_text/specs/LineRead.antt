@@ -4,7 +4,7 @@ use mathlib.Core.Bool.{Bool, true, false, true≢false}
 use mathlib.Core.List.{List, [], _∷_}
 use mathlib.Core.Logic.{⊎-elim}
 use mathlib.Core.Option.{Option, none, some, Option·some-injective, Option·none-ne-some}
-use Prim.Native.Nat.{ℕ, suc, _-_, _<_, _≤_, min}
+use Prim.Native.Nat.{ℕ, _-_, _<_, _≤_, min}
 use native.Mathlib.Omega.{arith}
 use borrow.Author.Tests.{eq-eqb, ne-eqb, leb-true}
 use lib.Dec.{T, leb, eqb}
@@ -19,6 +19,7 @@ use Rattle.rules.specs.NetworkText.{Net, NetworkLine, NetLine, NodeLine, OutLin
 use Rattle.rules.specs.Runs.{allBits}
 use Rattle.text.specs.Capped.{capped, capped-none}
 use Rattle.text.specs.Chain.{step, stop, first, second}
+use Rattle.text.specs.Name.{bits-length}
 use Rattle.text.specs.Reads.{Reads}
 use Rattle.network_text.specs.Term.{spacedTerm}
 use Rattle.network_text.specs.Sum.{linRest, sumLine}
@@ -94,11 +95,6 @@ all-bits (b ∷ s) =
     (λ (n : b ≡ 48 → ⊥).
     ⊎-elim (λ (e : b ≡ 49). rw (ne-eqb b 48 n, eq-eqb b 49 e, e) (all-bits s)) (λ (m : b ≡ 49 → ⊥). rw (ne-eqb b 48 n, ne-eqb b 49 m) tt) (eq-or-ne b 49))
     (eq-or-ne b 48)
-
-bits-length : (w : List ℕ) → length (bitsFrom w) ≡ length w
-unfolding bitsFrom
-bits-length [] = refl
-bits-length (b ∷ w) = ap suc (bits-length w)
 
 pub bits-at : (l : List ℕ) (a e : ℕ) → e ≤ length l → bits (drop a l) ≡ some (record { value = bitsFrom (take (e - a) (drop a l)); rest = drop e l }) → BitsAt l a e
 unfolding bits runOf isBits onward

@@ -10,10 +10,10 @@ use lib.Signed.{leZ}
 use Rattle.laws.specs.Integer.{eqZ}
 use Rattle.laws.specs.Test.{isSome}
 use Rattle.rules.specs.declared.AdmitReply.{AdmitReply}
-use Rattle.rules.specs.declared.AdmitReply.the-variants.{Admitted}
-use Rattle.rules.specs.declared.AdmitReply.the-variants as Admit
+use Rattle.rules.specs.declared.AdmitReply.the-variants as Reply
 use Rattle.rules.specs.declared.Limit.{Limit}
 use Rattle.rules.specs.declared.Limit.the-variants.{Unlimited, AtMost}
+use Rattle.rules.specs.declared.Stats.{Stats}
 use Rattle.rules.specs.declared.Wire.{Wire}
 use Rattle.rules.specs.declared.Wire.the-variants.{Const, Node}
 use Rattle.rules.specs.Builder.{tableLimits}
@@ -230,10 +230,26 @@ readNetwork text = readLines networkLine 21 textConditions withNetworkLine netwo
 unfoldable pub readAdmitted : List ℕ → Reading Network
 readAdmitted text = readLines networkLine 21 admissionConditions withNetworkLine networkEnded 1 noNetwork (lines text)
 
--- Admission's reply: the statistics, or the number and the line.
-unfoldable pub admitReply : Reading Network → AdmitReply
-admitReply (Good w) = Admitted (stats w)
-admitReply (Refused k i) = Admit.Refused k i
+-- What admission answers. Accepted: number 0 and the statistics. Refused: a number and a line.
+pub record Admission : Type 0 where
+  pub number : ℕ
+  pub line : ℕ
+  pub stats : Option Stats
 
-unfoldable pub admission : List ℕ → AdmitReply
-admission text = admitReply (readAdmitted text)
+abbrev pub admitted : Stats → Admission
+admitted s = record { number = 0; line = 0; stats = some s }
+
+abbrev pub rejected : ℕ → ℕ → Admission
+rejected k i = record { number = k; line = i; stats = none }
+
+unfoldable pub admissionOf : Reading Network → Admission
+admissionOf (Good w) = admitted (stats w)
+admissionOf (Refused k i) = rejected k i
+
+unfoldable pub admission : List ℕ → Admission
+admission text = admissionOf (readAdmitted text)
+
+-- Document 01's number and values for each reply.
+abbrev pub admitReply : AdmitReply → Admission
+admitReply (Reply.Admitted s) = admitted s
+admitReply (Reply.Refused k i) = rejected k i

@@ -1,24 +1,22 @@
 -- Texts are refused exactly when a listed condition holds (document 01, "Refused with").
-use mathlib.Core.Path.{_≡_, refl, ap}
+use mathlib.Core.Path.{_≡_, refl, sym, ap, ap₂}
 use mathlib.Core.Bool.{true}
 use mathlib.Core.List.{List, [], _∷_, _++_}
 use mathlib.Core.Logic.{_↔_, Iff·trans}
-use mathlib.Core.Option.{Option, none, some}
+use mathlib.Core.Option.{Option, none, some, Option·some-injective, Option·none-ne-some}
 use Prim.Native.Nat.{ℕ, _≤_}
 use native.Mathlib.Omega.{arith}
 use borrow.Author.Tests.{not-false}
 use Rattle.laws.specs.Test.{isSome, zero≢one, neither-left}
-use Rattle.rules.specs.declared.AdmitReply.the-variants.{Admitted}
 use Rattle.rules.specs.declared.Settings.{Settings}
 use Rattle.rules.specs.declared.Stats.{Stats}
 use Rattle.rules.specs.Circuit.{Circuit}
 use Rattle.rules.specs.Form.{Condition, Reading, Good, Refused}
 use Rattle.rules.specs.CircuitText.{CircuitLine, FbsLine, InLine, GateLine, OutLine, Prefix, circuitLine, conditions, withLine, ended, withSettings, nothing, readCircuit}
 use Rattle.rules.specs.Network.{Input, Linear, Bootstrap, Network, stats}
-use Rattle.rules.specs.NetworkText.{Net, NetworkLine, NetLine, NodeLine, NetPrefix, started, networkLine, textConditions, safetyConditions, admissionConditions, withNetworkLine, withNet, networkEnded, noNetwork, readNetwork, readAdmitted, admitReply, admission}
+use Rattle.rules.specs.NetworkText.{Net, NetworkLine, NetLine, NodeLine, NetPrefix, started, networkLine, textConditions, safetyConditions, admissionConditions, withNetworkLine, withNet, networkEnded, noNetwork, readNetwork, readAdmitted, Admission, admitted, rejected, admissionOf, admission}
 use Rattle.theorems.specs.Refusals.{Kind, Holds, First, Exact}
 use Rattle.theorems.specs.Readings.{LowestFirst, NoneMet, Regular, exact, holds-within}
-use Rattle.rules.specs.declared.AdmitReply.the-variants as Admit
 use Rattle.rules.specs.NetworkText as NetworkText
 
 -- ---- The statement.
@@ -38,8 +36,8 @@ admissions = record { form = networkLine; noForm = 21; conditions = admissionCon
 -- Admission refuses a text exactly when a listed condition holds, by the first line where one does and its lowest number there.
 -- The listed conditions are 21 to 26.
 pub record AdmissionExact (text : List ℕ) : Type 0 where
-  pub refused : (k i : ℕ) → (admission text ≡ Admit.Refused k i) ↔ First (Holds admissions text) k i
-  pub admitted : ((s : Stats) × (admission text ≡ Admitted s)) ↔ ((k i : ℕ) → Holds admissions text k i → ⊥)
+  pub refused : (k i : ℕ) → (admission text ≡ rejected k i) ↔ First (Holds admissions text) k i
+  pub admitted : ((s : Stats) × (admission text ≡ admitted s)) ↔ ((k i : ℕ) → Holds admissions text k i → ⊥)
   pub listed : (k i : ℕ) → Holds admissions text k i → (21 ≤ k) × (k ≤ 26)
 
 -- ---- Circuit texts.
@@ -161,25 +159,26 @@ admitted-exact text = exact admissions networkEnded 21 26 admissions-regular tex
 
 -- ---- Admission's reply.
 
-reply-refused : (r : Reading Network) (k i : ℕ) → (admitReply r ≡ Admit.Refused k i) ↔ (r ≡ Refused k i)
-unfolding admitReply
-reply-refused (Good w) k i = (λ e. cc, λ e. cc)
-reply-refused (Refused j h) k i = (λ e. cc, λ e. cc)
+reply-refused : (r : Reading Network) (k i : ℕ) → (admissionOf r ≡ rejected k i) ↔ (r ≡ Refused k i)
+unfolding admissionOf
+reply-refused (Good w) k i = (λ e. absurd (Option·none-ne-some _ (sym (ap (λ (a : Admission). a .stats) e))), λ e. absurd (zero≢one (cc)))
+reply-refused (Refused j h) k i =
+    (λ e. ap₂ Refused (ap (λ (a : Admission). a .number) e) (ap (λ (a : Admission). a .line) e), λ e. ap admissionOf e)
 
-reply-admitted : (r : Reading Network) (s : Stats) → admitReply r ≡ Admitted s → (w : Network) × (r ≡ Good w) × (s ≡ stats w)
-unfolding admitReply
-reply-admitted (Good w) s e = (w, refl, cc)
-reply-admitted (Refused k i) s e = absurd (zero≢one (cc))
+reply-admitted : (r : Reading Network) (s : Stats) → admissionOf r ≡ admitted s → (w : Network) × (r ≡ Good w) × (s ≡ stats w)
+unfolding admissionOf
+reply-admitted (Good w) s e = (w, refl, sym (Option·some-injective _ _ (ap (λ (a : Admission). a .stats) e)))
+reply-admitted (Refused k i) s e = absurd (Option·none-ne-some _ (ap (λ (a : Admission). a .stats) e))
 
 -- Admission's statistics are recounted from the nodes of the network that it reads.
-pub statistics-recounted : (text : List ℕ) (s : Stats) → admission text ≡ Admitted s → (w : Network) × (readAdmitted text ≡ Good w) × (s ≡ stats w)
+pub statistics-recounted : (text : List ℕ) (s : Stats) → admission text ≡ admitted s → (w : Network) × (readAdmitted text ≡ Good w) × (s ≡ stats w)
 unfolding admission
 statistics-recounted text s e = reply-admitted (readAdmitted text) s e
 
-admitted-good : (text : List ℕ) → ((s : Stats) × (admission text ≡ Admitted s)) ↔ ((w : Network) × (readAdmitted text ≡ Good w))
-unfolding admission admitReply
+admitted-good : (text : List ℕ) → ((s : Stats) × (admission text ≡ admitted s)) ↔ ((w : Network) × (readAdmitted text ≡ Good w))
+unfolding admission admissionOf
 admitted-good text =
-    (λ a. let c = statistics-recounted text (a .0) (a .1) in (c .0, c .1), λ a. (stats (a .0), ap admitReply (a .1)))
+    (λ a. let c = statistics-recounted text (a .0) (a .1) in (c .0, c .1), λ a. (stats (a .0), ap admissionOf (a .1)))
 
 pub admission-exact : (text : List ℕ) → AdmissionExact text
 unfolding admission

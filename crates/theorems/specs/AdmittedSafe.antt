@@ -15,10 +15,8 @@ use lib.Signed.{_≤ℤ_, leZ}
 use Rattle.laws.specs.Integer.{plus, minus, add-parts, ints}
 use Rattle.laws.specs.Over.{over}
 use Rattle.laws.specs.Test.{and-right, is-T, T-is, lt-or-le, zero≢one, both-left, both-right}
-use Rattle.rules.specs.declared.AdmitReply.the-variants.{Admitted}
 use Rattle.rules.specs.declared.Limit.{Limit}
 use Rattle.rules.specs.declared.Limit.the-variants.{Unlimited, AtMost}
-use Rattle.rules.specs.declared.RunReply.the-variants.{Ran}
 use Rattle.rules.specs.declared.Stats.{Stats}
 use Rattle.rules.specs.declared.Wire.{Wire}
 use Rattle.rules.specs.declared.Wire.the-variants.{Const, Node}
@@ -26,9 +24,10 @@ use Rattle.rules.specs.Circuit.{Output}
 use Rattle.rules.specs.CircuitText.{noNode}
 use Rattle.rules.specs.Form.{Good, lines}
 use Rattle.rules.specs.Network.{Term, LutNode, Input, Linear, Bootstrap, Network, isInput, count, stats, leastOf, greatestOf, nodeNorm, nodeValue, withValue, nodeValues, wireValue, outputValues, networkRun, sumFrom}
-use Rattle.rules.specs.NetworkText.{Net, NodeLine, nodeAt, isBit, noBit, over as overLimit, textConditions, networkEnded, noNetwork, readNetwork, readAdmitted, admission}
+use Rattle.rules.specs.NetworkText.{Net, NodeLine, nodeAt, isBit, noBit, over as overLimit, textConditions, networkEnded, noNetwork, readNetwork, readAdmitted, admitted, admission}
+use Rattle.rules.specs.Outcome.{written}
 use Rattle.rules.specs.Rotation.{Rotatable, rotated}
-use Rattle.rules.specs.Runs.{ran, allBits, bitsFor, withValues, runOn, runNetworkOn, runNetwork}
+use Rattle.rules.specs.Runs.{Numbered, ran, allBits, bitsFor, withValues, runOn, runNetworkOn, runNetwork}
 use Rattle.theorems.specs.AdmissionExact.{admissions, admission-text, statistics-recounted}
 use Rattle.theorems.specs.Admissible.{Passes, NodesPass, OutputsPass, netOf, Admissible, lin-passes, BootPasses, boot-passes, OutPasses, out-passes, admitted-admissible}
 use Rattle.theorems.specs.Bounds.{ZeroOrOne, Bounded, bit-between, sum-bounded, bounded-snoc}
@@ -69,7 +68,7 @@ pub record AdmittedSafe (text : List ℕ) (s : Stats) : Type 0 where
   pub safe : (bits : List ℕ) → T (bitsFor (count isInput (network .nodes)) bits) → Safe network bits
   pub runs : (bits : List ℕ) (buffer : List ℤ) (b : T (bitsFor (count isInput (network .nodes)) bits)) → length (network .outputs) ≤ length buffer
       → runNetwork text bits buffer
-      ≡ ran (Ran (length (network .outputs))) (over (outputValues (network .outputs) (safe bits b .values)) buffer)
+      ≡ ran (Numbered (written (length (network .outputs)))) (over (outputValues (network .outputs) (safe bits b .values)) buffer)
 
 -- ---- A `boot`.
 
@@ -283,13 +282,13 @@ admitted-read text w e = fewer admissions networkEnded textConditions admission-
 
 entry-runs : (text bits : List ℕ) (buffer : List ℤ) (w : Network) (values : List ℤ) → readNetwork text ≡ Good w
     → networkRun w bits ≡ some (outputValues (w .outputs) values) → T (bitsFor (count isInput (w .nodes)) bits) → length (w .outputs) ≤ length buffer
-    → runNetwork text bits buffer ≡ ran (Ran (length (w .outputs))) (over (outputValues (w .outputs) values) buffer)
+    → runNetwork text bits buffer ≡ ran (Numbered (written (length (w .outputs)))) (over (outputValues (w .outputs) values) buffer)
 unfolding runNetwork runNetworkOn runOn withValues outputValues
 entry-runs text bits buffer w values e f b l =
     rw (e, T-is (bitsFor (count isInput (w .nodes)) bits) b, le-ltb (length buffer) (length (w .outputs)) l, f)
-    (ap (λ n. ran (Ran n) (over (outputValues (w .outputs) values) buffer)) (length-map (w .outputs) (λ o. wireValue values (o .wire))))
+    (ap (λ n. ran (Numbered (written n)) (over (outputValues (w .outputs) values) buffer)) (length-map (w .outputs) (λ o. wireValue values (o .wire))))
 
-pub admitted-safe : (text : List ℕ) (s : Stats) → admission text ≡ Admitted s → AdmittedSafe text s
+pub admitted-safe : (text : List ℕ) (s : Stats) → admission text ≡ admitted s → AdmittedSafe text s
 unfolding bitsFor
 admitted-safe text s e =
     record {

@@ -1,36 +1,60 @@
 -- Document 01's ★ cases ("Reckoned by hand"): one table, one proof over it.
 use mathlib.Core.Path.{_≡_, refl}
+use mathlib.Core.Bool.{false}
 use mathlib.Core.List.{List, [], _∷_, map}
 use Prim.Native.Nat.{ℕ}
 use Prim.Native.String.{String}
-use lib.Dec.{eqb}
-use lib.IntN.{pos}
-use lib.ListN.{take, replicate}
-use Rattle.laws.specs.Test.{if_then_else_}
+use lib.IntN.{ℤ, pos, negsuc}
+use lib.ListN.{length, replicate}
+use Rattle.laws.specs.Over.{over}
+use Rattle.rules.specs.declared.Limit.the-variants.{Unlimited}
+use Rattle.rules.specs.declared.Policy.the-variants.{Span}
+use Rattle.rules.specs.declared.Settings.{Settings}
 use Rattle.rules.specs.Builder.{fromTable, fromKnown, builder}
+use Rattle.rules.specs.Composition.{unionSupport, gateTruth, Scales, scales, mergedCoefficients, evaluate}
 use Rattle.rules.specs.Computed.Computing.{computing}
+use Rattle.rules.specs.Cone.{Candidate, identity}
 use Rattle.rules.specs.Form.{bytes as bytesOf}
 use Rattle.rules.specs.Mapper.{mapper}
-use Rattle.rules.specs.Outcome.{Outcome}
+use Rattle.rules.specs.Outcome.{written, refused, Outcome, outcome}
 
 pub data Question : Type 0 where
   -- the builder's P and M, and the values and truths of the rows
   building : ℕ → ℕ → List ℕ → List ℕ → Question
   -- a circuit's text for the mapper
   mapping : String → Question
+  -- P and M, the answers of a gate on two inputs, and a scale pair for them
+  composing : ℕ → ℕ → List ℕ → ℤ → ℤ → Question
 
+-- The answer with its buffer, or the score of the pair's candidate if it fits: reuse, span, energy, norm, a, b.
 pub data Reply : Type 0 where
-  -- the bytes written
-  bytes : List ℕ → Reply
-  -- the refusal's number
-  refusal : ℕ → Reply
+  answers : Outcome → Reply
+  scores : List (List ℤ) → Reply
 
-unfoldable pub shown : Outcome → Reply
-shown o = if eqb (o .answer .number) 0 then bytes (take (o .answer .count) (o .buffer)) else refusal (o .answer .number)
+-- What the buffer has before.
+unfoldable pub buffer : List ℕ
+buffer = replicate 128 7
+
+-- Number 0 and the count of these bytes, which stand at the buffer's start; later bytes are kept.
+abbrev bytes : List ℕ → Reply
+bytes b = answers (outcome (written (length b)) (over b buffer))
+
+-- A number and a line; the buffer is kept.
+abbrev refusal : ℕ → ℕ → Reply
+refusal k line = answers (outcome (refused k line) buffer)
+
+unfoldable pub scoresOf : ℕ → ℕ → List ℕ → Scales → List (List ℤ)
+scoresOf P M gate p =
+    let s : Settings = record { p = P; m = M; t = 10; norm = Unlimited; policy = Span; many = false } in
+    let support = unionSupport (0 ∷ []) (1 ∷ []) in
+    let coefficients = mergedCoefficients support (identity 0) (identity 1) p in
+    let truth = gateTruth support (identity 0) (identity 1) gate in
+    map (λ (d : Candidate). d .score) (evaluate s [] p (record { support = support; coefficients = coefficients; truth = truth }))
 
 unfoldable pub reply : Question → Reply
-reply (building P M values truths) = shown (builder P M (map pos values) truths (replicate 32 0))
-reply (mapping circuit) = shown (mapper (bytesOf circuit) (replicate 128 0))
+reply (building P M values truths) = answers (builder P M (map pos values) truths buffer)
+reply (mapping circuit) = answers (mapper (bytesOf circuit) buffer)
+reply (composing P M gate a b) = scores (scoresOf P M gate (scales a b))
 
 pub record Case : Type 0 where
   pub asks : Question
@@ -44,16 +68,18 @@ pub cases : List Case
 cases =
     (building 2 4 (0 ∷ 1 ∷ 2 ∷ []) (0 ∷ 1 ∷ 0 ∷ []) ⇒ bytes (0 ∷ 1 ∷ 0 ∷ []))
     ∷ (building 2 4 (0 ∷ 3 ∷ []) (1 ∷ 1 ∷ []) ⇒ bytes (1 ∷ 0 ∷ 0 ∷ 1 ∷ []))
-    ∷ (building 2 4 (0 ∷ 1 ∷ 2 ∷ 3 ∷ []) (0 ∷ 0 ∷ 0 ∷ 1 ∷ []) ⇒ refusal 33)
+    ∷ (building 2 4 (0 ∷ 1 ∷ 2 ∷ 3 ∷ []) (0 ∷ 0 ∷ 0 ∷ 1 ∷ []) ⇒ refusal 33 0)
     ∷ (building 3 6 (0 ∷ 3 ∷ 5 ∷ []) (0 ∷ 1 ∷ 0 ∷ []) ⇒ bytes (0 ∷ 0 ∷ 1 ∷ 1 ∷ 1 ∷ 0 ∷ []))
-    ∷ (building 3 6 (0 ∷ 0 ∷ []) (0 ∷ 1 ∷ []) ⇒ refusal 32)
-    ∷ (building 2 3 (0 ∷ 3 ∷ []) (0 ∷ 1 ∷ []) ⇒ refusal 31)
+    ∷ (building 3 6 (0 ∷ 0 ∷ []) (0 ∷ 1 ∷ []) ⇒ refusal 32 0)
+    ∷ (building 2 3 (0 ∷ 3 ∷ []) (0 ∷ 1 ∷ []) ⇒ refusal 31 0)
     -- XOR: (1, -1) has energy 2 and beats (1, 1) with 6
+    ∷ (composing 2 3 (0 ∷ 1 ∷ 1 ∷ 0 ∷ []) (pos 1) (negsuc 0) ⇒ scores ((pos 1 ∷ pos 3 ∷ pos 2 ∷ pos 2 ∷ pos 1 ∷ negsuc 0 ∷ []) ∷ []))
+    ∷ (composing 2 3 (0 ∷ 1 ∷ 1 ∷ 0 ∷ []) (pos 1) (pos 1) ⇒ scores ((pos 1 ∷ pos 3 ∷ pos 6 ∷ pos 2 ∷ pos 1 ∷ pos 1 ∷ []) ∷ []))
     ∷ (mapping "(fbs 2 3 10 none span one)\n(in a)\n(in b)\n(gate g 0110 (n 0) (n 1))\n(out y (n 2))\n"
     ⇒ bytes (bytesOf "(net 2 3 none)\n(in a)\n(in b)\n(lin 1 (1 0) (-1 1))\n(boot 2 101)\n(out y (n 3))\n"))
     -- AND under Naive, and under Basic with M = P
-    ∷ (mapping "(fbs 2 4 10 none naive one)\n(in a)\n(in b)\n(gate g 0001 (n 0) (n 1))\n(out y (n 2))\n" ⇒ refusal 9)
-    ∷ (mapping "(fbs 4 4 10 none basic one)\n(in a)\n(in b)\n(gate g 0001 (n 0) (n 1))\n(out y (n 2))\n" ⇒ refusal 9)
+    ∷ (mapping "(fbs 2 4 10 none naive one)\n(in a)\n(in b)\n(gate g 0001 (n 0) (n 1))\n(out y (n 2))\n" ⇒ refusal 9 4)
+    ∷ (mapping "(fbs 4 4 10 none basic one)\n(in a)\n(in b)\n(gate g 0001 (n 0) (n 1))\n(out y (n 2))\n" ⇒ refusal 9 4)
     -- NOT of a
     ∷ (mapping "(fbs 4 8 10 none span one)\n(in a)\n(gate g 10 (n 0))\n(out y (n 1))\n"
     ⇒ bytes (bytesOf "(net 4 8 none)\n(in a)\n(lin 1 (-1 0))\n(out y (n 1))\n"))
@@ -63,5 +89,5 @@ cases =
     ∷ []
 
 pub worked : map (λ c. reply (c .asks)) cases ≡ map (λ c. c .gives) cases
-unfolding cases reply shown builder fromKnown fromTable computing
+unfolding cases reply buffer scoresOf builder fromKnown fromTable computing
 worked = refl

@@ -1,5 +1,7 @@
 // Numbers of a text, for programs that replay stored cases.
-ghost use Prim.Native.Nat.{_≤_};
+ghost use mathlib.Core.Path.{_≡_};
+ghost use Prim.Native.Nat.{_≤_, min};
+ghost use Rattle.vectors.specs.Token.{isDigit, startsNumber, skipped, withDigit, digitsAt, nextToken};
 
 // A number of a text: its absolute value, its sign, and where the text goes on.
 pub struct Token {
@@ -8,16 +10,26 @@ pub struct Token {
     pub next: usize,
 }
 
-fn is_digit(b: u8) -> bool {
+fn is_digit(b: u8) -> bool
+    ensures { λ r. ⌜ r ≡ isDigit b ⌝ }
+{
     48 <= b && b <= 57
 }
 
+// A digit or a minus.
+fn starts_number(b: u8) -> bool
+    ensures { λ r. ⌜ r ≡ startsNumber b ⌝ }
+{
+    is_digit(b) || b == b'-'
+}
+
 // Where the next digit or minus stands, or the text's end.
-pub fn skip(text: &[u8], from: usize) -> usize {
+pub fn skip(text: &[u8], from: usize) -> usize
+    ensures { λ r. ⌜ r ≡ skipped (now (text .entry)) from ⌝ }
+{
     let mut i = from;
     while i < text.len() {
-        let b = text[i];
-        if is_digit(b) || b == b'-' {
+        if starts_number(text[i]) {
             return i;
         }
         i += 1;
@@ -26,7 +38,9 @@ pub fn skip(text: &[u8], from: usize) -> usize {
 }
 
 // One digit more, which is the byte modulo 16; where that would not fit, the value stays.
-fn with_digit(value: u64, b: u8) -> u64 {
+fn with_digit(value: u64, b: u8) -> u64
+    ensures { λ r. ⌜ r ≡ withDigit value b ⌝ }
+{
     if value < 1000000000000000000 {
         10 * value + ((b % 16) as u64)
     } else {
@@ -35,7 +49,9 @@ fn with_digit(value: u64, b: u8) -> u64 {
 }
 
 // The digits from a place on.
-fn digits(text: &[u8], from: usize, negative: bool) -> Token {
+fn digits(text: &[u8], from: usize, negative: bool) -> Token
+    ensures { λ r. ⌜ r ≡ digitsAt (now (text .entry)) negative 0 from ⌝ }
+{
     let mut value = 0;
     let mut i = from;
     while i < text.len() {
@@ -58,19 +74,23 @@ fn digits(text: &[u8], from: usize, negative: bool) -> Token {
 }
 
 // The next number from a place on.
-pub fn next_token(text: &[u8], from: usize) -> Token {
+pub fn next_token(text: &[u8], from: usize) -> Token
+    ensures { λ r. ⌜ r ≡ nextToken (now (text .entry)) from ⌝ }
+{
     let at = skip(text, from);
-    if at < text.len() {
-        if text[at] == b'-' {
-            return digits(text, at + 1, true);
-        }
+    if text.len() <= at {
+        return digits(text, at, false);
+    }
+    if text[at] == b'-' {
+        return digits(text, at + 1, true);
     }
     digits(text, at, false)
 }
 
 // A number at most `most`.
 pub fn at_most(n: Token, most: usize) -> usize
-    ensures { λ r. ⌜ r ≤ most ⌝ }
+    ensures value { λ r. ⌜ r ≡ min (n .value) most ⌝ }
+    ensures within { λ r. ⌜ r ≤ most ⌝ }
 {
     if n.value < (most as u64) {
         n.value as usize

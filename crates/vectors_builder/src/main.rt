@@ -7,9 +7,17 @@ use vectors::Token;
 use vectors::at_most;
 use vectors::next_token;
 use vectors::skip;
+ghost use mathlib.Core.Path.{_≡_};
+ghost use mathlib.Core.List.{map};
 ghost use Prim.Native.Nat.{_≤_};
+ghost use lib.ListN.{length};
+ghost use Rattle.rules.specs.Builder.{builder};
+ghost use Rattle.vectors.specs.Tokens.{tokensFrom, placeAfter};
+ghost use Rattle.vectors_builder.specs.Case.{signedOf, byteOf, shownByte, afterList, afterCase};
 
-fn signed(n: Token) -> i32 {
+fn signed(n: Token) -> i32
+    ensures { λ r. ⌜ r ≡ signedOf n ⌝ }
+{
     if 2147483647 < n.value {
         return -2147483648;
     }
@@ -19,11 +27,16 @@ fn signed(n: Token) -> i32 {
     n.value as i32
 }
 
-fn byte(n: Token) -> u8 {
+fn byte(n: Token) -> u8
+    ensures { λ r. ⌜ r ≡ byteOf n ⌝ }
+{
     if n.value < 256 { n.value as u8 } else { 255 }
 }
 
-fn take_values(text: &[u8], from: usize, values: &mut [i32]) -> usize {
+fn take_values(text: &[u8], from: usize, values: &mut [i32]) -> usize
+    ensures values { λ _. ⌜ now (values .exit) ≡ map signedOf (tokensFrom (now (text .entry)) from (length (now (values .entry)))) ⌝ }
+    ensures next { λ r. ⌜ r ≡ placeAfter (now (text .entry)) from (length (now (values .entry))) ⌝ }
+{
     let mut at = from;
     let mut i = 0;
     while i < values.len() {
@@ -35,7 +48,10 @@ fn take_values(text: &[u8], from: usize, values: &mut [i32]) -> usize {
     at
 }
 
-fn take_truths(text: &[u8], from: usize, truths: &mut [u8]) -> usize {
+fn take_truths(text: &[u8], from: usize, truths: &mut [u8]) -> usize
+    ensures truths { λ _. ⌜ now (truths .exit) ≡ map byteOf (tokensFrom (now (text .entry)) from (length (now (truths .entry)))) ⌝ }
+    ensures next { λ r. ⌜ r ≡ placeAfter (now (text .entry)) from (length (now (truths .entry))) ⌝ }
+{
     let mut at = from;
     let mut i = 0;
     while i < truths.len() {
@@ -47,12 +63,16 @@ fn take_truths(text: &[u8], from: usize, truths: &mut [u8]) -> usize {
     at
 }
 
-fn shown(b: u8) -> u8 {
+fn shown(b: u8) -> u8
+    ensures { λ r. ⌜ r ≡ shownByte b ⌝ }
+{
     if b < 2 { 48 + b } else { b }
 }
 
 // Bytes 0 and 1 as digits.
-fn as_digits(out: &mut [u8]) {
+fn as_digits(out: &mut [u8])
+    ensures { λ _. ⌜ now (out .exit) ≡ map shownByte (now (out .entry)) ⌝ }
+{
     let mut i = 0;
     while i < out.len() {
         out[i] = shown(out[i]);
@@ -60,14 +80,18 @@ fn as_digits(out: &mut [u8]) {
     }
 }
 
-fn show(out: &mut [u8]) {
+fn show(out: &mut [u8])
+    ensures { λ _. ⌜ now (out .exit) ≡ map shownByte (now (out .entry)) ⌝ }
+{
     as_digits(out);
     io::write_all(STDOUT_FILENO, out);
     io::write_all(STDOUT_FILENO, b"\n");
 }
 
 // The reply's number and count, and the buffer after it.
-fn run(p: usize, m: usize, values: &[i32], truths: &[u8], out: &mut [u8]) {
+fn run(p: usize, m: usize, values: &[i32], truths: &[u8], out: &mut [u8])
+    ensures { λ _. ⌜ now (out .exit) ≡ map shownByte (builder p m (now (values .entry)) (now (truths .entry)) (now (out .entry)) .buffer) ⌝ }
+{
     let reply = rotation::composed_bootstrap_table(p, m, values, truths, out);
     io::print_decimal(STDOUT_FILENO, rotation::reply_number(reply) as u64);
     io::write_all(STDOUT_FILENO, b" ");
@@ -135,6 +159,8 @@ fn fill_truths(
     truths: &mut [u8],
 ) -> usize
     requires { ⌜ room ≤ 40 ⌝ }
+    ensures truths { λ _. ⌜ now (truths .exit) ≡ map byteOf (tokensFrom (now (text .entry)) from (length (now (truths .entry)))) ⌝ }
+    ensures next { λ r. ⌜ r ≡ placeAfter (now (text .entry)) from (length (now (truths .entry))) ⌝ }
 {
     let next = take_truths(text, from, truths);
     with_buffer(p, m, values, truths, room);
@@ -143,6 +169,7 @@ fn fill_truths(
 
 fn with_truths(text: &[u8], from: usize, p: usize, m: usize, room: usize, values: &[i32]) -> usize
     requires { ⌜ room ≤ 40 ⌝ }
+    ensures { λ r. ⌜ r ≡ afterList (now (text .entry)) from ⌝ }
 {
     let mut truths = [0u8; 64];
     let n = next_token(text, from);
@@ -160,6 +187,8 @@ fn fill_values(
     values: &mut [i32],
 ) -> usize
     requires { ⌜ room ≤ 40 ⌝ }
+    ensures values { λ _. ⌜ now (values .exit) ≡ map signedOf (tokensFrom (now (text .entry)) from (length (now (values .entry)))) ⌝ }
+    ensures next { λ r. ⌜ r ≡ afterList (now (text .entry)) (placeAfter (now (text .entry)) from (length (now (values .entry)))) ⌝ }
 {
     let next = take_values(text, from, values);
     with_truths(text, next, p, m, room, values)
@@ -167,6 +196,7 @@ fn fill_values(
 
 fn with_values(text: &[u8], from: usize, p: usize, m: usize, room: usize) -> usize
     requires { ⌜ room ≤ 40 ⌝ }
+    ensures { λ r. ⌜ r ≡ afterList (now (text .entry)) (afterList (now (text .entry)) from) ⌝ }
 {
     let mut values = [0i32; 64];
     let n = next_token(text, from);
@@ -175,7 +205,9 @@ fn with_values(text: &[u8], from: usize, p: usize, m: usize, room: usize) -> usi
 }
 
 // One case from a place of the text, and where the next one starts.
-fn replay(text: &[u8], from: usize) -> usize {
+fn replay(text: &[u8], from: usize) -> usize
+    ensures { λ r. ⌜ r ≡ afterCase (now (text .entry)) from ⌝ }
+{
     let p = next_token(text, from);
     let m = next_token(text, p.next);
     let b = next_token(text, m.next);

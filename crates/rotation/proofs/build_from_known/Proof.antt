@@ -31,17 +31,17 @@ module _ (b t : List ℕ) (o : Option (List ℕ)) (r : Bool) (e : (if r then som
 returns : tie.Need-returns
 returns c =
     let found = c .before .before .before .complete in
-    no-completion _ (found .last .1 .1 .0) _ (found .result) (found .ensures) (not-true (found .result) (c .if1 .taken))
+    no-completion _ (found .last .1 .1 .0) _ (found .result) (found .ensures .1) (not-true (found .result) (c .if1 .taken))
 
 returns-2 : tie.Need-returns-2
 returns-2 c =
     let found = c .before .before .before .before .complete in
-    short-buffer _ (found .last .1 .1 .0) _ (found .result) (found .ensures) (not-false (found .result) (c .before .if1 .left)) (c .if2 .taken)
+    short-buffer _ (found .last .1 .1 .0) _ (found .result) (found .ensures .1) (not-false (found .result) (c .before .if1 .left)) (c .if2 .taken)
 
 returns-3 : tie.Need-returns-3
 returns-3 c =
     let found = c .before .before .before .before .before .before .before .before .before .complete in
-    table-written _ (found .last .1 .1 .0) _ (found .result) (found .ensures) (c .before .before .copy .last .1 .0)
+    table-written _ (found .last .1 .1 .0) _ (found .result) (found .ensures .1) (c .before .before .copy .last .1 .0)
     (not-false (found .result) (c .before .before .before .before .before .before .if1 .left)) (c .before .before .before .before .before .if2 .left) (c .before .before .copy .ensures)
 
 pub build-from-known-spec : {M : Type 1} → statement M

@@ -44,7 +44,7 @@ returns : tie.Need-returns
 returns c =
     let start = c .before .before .before .before .before .before .before .before .before in
     let rows = c .before .before .before .enter in
-    conflict _ _ _ _ _ _ (rows .last .1 .1 .1 .0) (rows .result) (rows .ensures) (low-is start) (start .pre .1 .1 .0) (not-true (rows .result) (c .if1 .taken))
+    conflict _ _ _ _ _ _ (rows .last .1 .1 .1 .0) (rows .result) (rows .ensures .1) (low-is start) (start .pre .1 .1 .0) (not-true (rows .result) (c .if1 .taken))
 
 build-from-known-requires : tie.Need-build-from-known-requires
 build-from-known-requires c κs = omega (arith, long (c .before .before .before .before .before .before .before .before .before .before .before .before))
@@ -54,7 +54,7 @@ returns-2 c =
     let test = c .before .before .before .before .before .before .before .before in
     let rows = test .before .before .before .enter in
     let start = test .before .before .before .before .before .before .before .before .before in
-    all-entered _ _ _ _ _ _ (rows .last .1 .1 .1 .0) (rows .result) (rows .ensures) (low-is start) (start .pre .1 .1 .0) _ (not-false (rows .result) (test .if1 .left))
+    all-entered _ _ _ _ _ _ (rows .last .1 .1 .1 .0) (rows .result) (rows .ensures .1) (low-is start) (start .pre .1 .1 .0) _ (not-false (rows .result) (test .if1 .left))
     (c .before .before .before .before .build-from-known .ensures)
 
 pub build-from-rows-spec : {M : Type 1} → statement M

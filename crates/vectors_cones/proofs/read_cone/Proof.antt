@@ -5,7 +5,7 @@ use Rattle.vectors_cones.proofs.read_cone.Statement.{statement}
 use Rattle.vectors_cones.proofs.read_cone.Tie as tie
 
 read-truth-requires : tie.Need-read-truth-requires
-read-truth-requires c κs = rw (c .rows-of .ensures) (pow-mono {j = 11} (c .before .before .before .at-most .ensures))
+read-truth-requires c κs = rw (c .rows-of .ensures) (pow-mono {j = 11} (c .before .before .before .at-most .ensures .1))
 
 pub read-cone-spec : {M : Type 1} → statement M
 read-cone-spec =

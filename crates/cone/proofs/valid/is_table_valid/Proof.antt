@@ -35,7 +35,7 @@ enter-requires c κs =
 -- the entries as `enter` ensures them
 told : (c : tie.After-enter) → let s = c .before .before .before .before .before in
     (if c .enter .result then some (c .enter .last .1 .1 .1 .0) else none) ≡ enter (s .args .low) (s .args .values .now) (s .args .truths .now) (s .args .known .now)
-told c = let s = c .before .before .before .before .before in simp (toZ-ofZ (s .fits .low)) at (c .enter .ensures)
+told c = let s = c .before .before .before .before .before in simp (toZ-ofZ (s .fits .low)) at (c .enter .ensures .1)
 
 returns-2 : tie.Need-returns-2
 returns-2 c =

@@ -14,12 +14,14 @@ use Rattle.rules.specs.Builder.{enter}
 use Rattle.rules.specs.Span.{least}
 use Rattle.theorems.specs.Rows.{offset, enter-turn, enter-stop, enter-end}
 use Rattle.theorems.specs.Spans.{least-le, offset-lt}
+use Rattle.rotation.specs.Left.{enteredUntil, until-turn, until-stop, until-end}
 use Rattle.rotation.proofs.rows.enter.Statement.{statement}
 use Rattle.rotation.proofs.rows.enter.Tie as tie
 
 abbrev Inv-loop : tie.InvT-loop
 Inv-loop values truths low known₀ i₀ known i =
     (i ≤ length values) × (length known ≡ length known₀)
+    × (enteredUntil (least values) (drop i values) (drop i truths) known ≡ enteredUntil (least values) values truths known₀)
     × (enter (least values) (drop i values) (drop i truths) known ≡ enter (least values) values truths known₀)
 
 abbrev μ-loop : tie.MeasureT-loop
@@ -55,32 +57,43 @@ returns : tie.Need-returns Inv-loop μ-loop
 returns c =
     let place = c .before .before .before .before in
     let o = c .before .before .before .before .before .before .before .loop in
-    enter-stop _ _ _ (o .known) (o .i) _ _ (omega arith) (omega arith) (at place) refl (sym (c .before .agrees .ensures) ∙ not-true _ (c .if1 .taken))
-    ∙ o .inv .2
-    ∙ ap (λ l. enter l (start place .args .values .now) (start place .args .truths .now) (start place .args .known .now)) (sym (start place .pre .1 .0))
+    let no = sym (c .before .agrees .ensures) ∙ not-true _ (c .if1 .taken) in
+    let low = sym (start place .pre .1 .0) in
+    let values = start place .args .values .now in
+    let truths = start place .args .truths .now in
+    let known = start place .args .known .now in (
+      until-stop _ _ _ (o .known) (o .i) _ _ (omega arith) (omega arith) (at place) refl no ∙ o .inv .2 ∙ ap (λ l. enteredUntil l values truths known) low,
+      enter-stop _ _ _ (o .known) (o .i) _ _ (omega arith) (omega arith) (at place) refl no ∙ o .inv .3 ∙ ap (λ l. enter l values truths known) low,
+    )
 
 loop-again : tie.Need-loop-again Inv-loop μ-loop
 loop-again c =
-    let o = c .before .before .before .before .before .before .before .loop in (
+    let o = c .before .before .before .before .before .before .before .loop in
+    let place = c .before .before .before .before in
+    let yes = sym (c .before .agrees .ensures) ∙ not-false _ (c .if1 .left) in (
       omega arith,
       simp length-set (o .inv .1),
-      enter-turn _ _ _ (o .known) (o .i) _ _ (omega arith) (omega arith) (at (c .before .before .before .before)) refl (sym (c .before .agrees .ensures) ∙ not-false _ (c .if1 .left))
-          ∙ o .inv .2,
+      until-turn _ _ _ (o .known) (o .i) _ _ (omega arith) (omega arith) (at place) refl yes ∙ o .inv .2,
+      enter-turn _ _ _ (o .known) (o .i) _ _ (omega arith) (omega arith) (at place) refl yes ∙ o .inv .3,
     )
 
 returns-2 : tie.Need-returns-2 Inv-loop μ-loop
 returns-2 c =
     let o = c .before .loop in
     let first = c .before .before .before .before in
-    sym (enter-end (least (first .args .values .now)) (first .args .values .now) (first .args .truths .now) (o .known) (o .i) (omega arith))
-    ∙ o .inv .2
-    ∙ ap (λ l. enter l (first .args .values .now) (first .args .truths .now) (first .args .known .now)) (sym (first .pre .1 .0))
+    let low = sym (first .pre .1 .0) in
+    let values = first .args .values .now in
+    let truths = first .args .truths .now in
+    let known = first .args .known .now in (
+      until-end (least values) values truths (o .known) (o .i) (omega arith) ∙ o .inv .2 ∙ ap (λ l. enteredUntil l values truths known) low,
+      sym (enter-end (least values) values truths (o .known) (o .i) (omega arith)) ∙ o .inv .3 ∙ ap (λ l. enter l values truths known) low,
+    )
 
 pub enter-spec : {M : Type 1} → statement M
 enter-spec =
     tie.close
     (tie.spec Inv-loop μ-loop
-    (λ c. (search needs, refl, refl))
+    (λ c. (search needs, refl, refl, refl))
     (λ c. search needs)
     (λ c. search needs)
     offset-requires

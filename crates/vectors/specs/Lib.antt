@@ -1,0 +1,3 @@
+-- Numbers of a text, as the programs that replay stored cases read them.
+pub mod Token
+pub mod Tokens
