@@ -1,0 +1,4 @@
+-- The rows of an attempt, the values of a scale pair at them, and their energy.
+pub mod MergedIntegers
+pub mod MergedValues
+pub mod Rows

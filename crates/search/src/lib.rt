@@ -1,0 +1,1 @@
+// The search for the scale pair under which two cones become one.
