@@ -2,3 +2,4 @@
 pub mod MergedIntegers
 pub mod MergedValues
 pub mod Rows
+pub mod RowsCompacted

@@ -1,20 +1,19 @@
 -- Rows by what they say alone: which assignments have a value and a truth, and how many, does not matter to the known entries.
-use mathlib.Core.Path.{_≡_, refl, sym, ap, ap₂, subst, _∙_}
-use mathlib.Core.List.{List, [], _∷_, zipWith}
+use mathlib.Core.Path.{_≡_, refl, sym, ap, subst, _∙_}
+use mathlib.Core.List.{List}
 use mathlib.Core.Logic.{⊎-elim, _≢_}
 use mathlib.Core.Option.{Option, none, some}
-use Prim.Native.Nat.{ℕ, zero, suc, _+_, _-_, _<_, _≤_}
-use native.Mathlib.Nat.{le-of-suc-le-suc}
+use Prim.Native.Nat.{ℕ, _-_, _<_, _≤_}
 use native.Mathlib.Omega.{arith}
 use borrow.Author.Tests.{eq-eqb, ne-eqb}
 use lib.Dec.{eqb}
-use lib.IntN.{ℤ, pos, natAbs, _+ℤ_, _-ℤ_, _*ℤ_}
+use lib.IntN.{ℤ, pos, natAbs, _-ℤ_}
 use lib.ListN.{length, getD, replicate, length-replicate}
+use lib.Seq.{ext-getD}
 use Rattle.laws.specs.Test.{if_then_else_, eq-or-ne}
 use Rattle.rules.specs.Builder.{Entries, enter, knownOr, filled}
 use Rattle.theorems.specs.Completions.{Completes, filled-at, filled-completes}
-use Rattle.theorems.specs.Rows.{offset, Within, Agrees, entered, entered-left, entered-entries, unknown-entries}
-use Rattle.search.specs.MergedIntegers.{zipWith-length, zipWith-at}
+use Rattle.theorems.specs.Rows.{Within, Agrees, entered, entered-left, entered-entries, unknown-entries}
 
 -- ---- Entries with the same completions are the same.
 
@@ -30,20 +29,14 @@ known-in k l e into i h n b =
     (λ (s : getD k i 0 ≢ 2). rw (ne-eqb (getD k i 0) 2 s) at at)
     (eq-or-ne (getD k i 0) 2)
 
-same-list : (k l : List ℕ) → length k ≡ length l → ((i : ℕ) → i < length l → getD k i 0 ≡ getD l i 0) → k ≡ l
-same-list [] [] e h = refl
-same-list [] (y ∷ l) e h = absurd (omega arith)
-same-list (x ∷ k) [] e h = absurd (omega arith)
-same-list (x ∷ k) (y ∷ l) e h = ap₂ {C = List ℕ} (λ v r. v ∷ r) (h 0 (omega arith)) (same-list k l (omega arith) (λ i m. h (suc i) (omega arith)))
-
 same-completions : (k l : List ℕ) → Entries k → Entries l → length k ≡ length l
     → ((t : List ℕ) → Completes k t → Completes l t) → ((t : List ℕ) → Completes l t → Completes k t) → k ≡ l
 same-completions k l e f long into back =
-    same-list k l long
-    (λ i h. ⊎-elim
+    ext-getD 0 k l long
+    (λ i m. let h : i < length l = rw (← long) m in ⊎-elim
     (λ (s : getD l i 0 ≡ 2). ⊎-elim
     (λ (r : getD k i 0 ≡ 2). r ∙ sym s)
-    (λ (r : getD k i 0 ≢ 2). sym (known-in l k f back i (rw long h) r (e .at i)))
+    (λ (r : getD k i 0 ≢ 2). sym (known-in l k f back i m r (e .at i)))
     (eq-or-ne (getD k i 0) 2))
     (λ (s : getD l i 0 ≢ 2). known-in k l e into i h s (f .at i))
     (eq-or-ne (getD l i 0) 2))
