@@ -3,3 +3,4 @@ pub mod MergedIntegers
 pub mod MergedValues
 pub mod Rows
 pub mod RowsCompacted
+pub mod EnergyMoments
