@@ -4,3 +4,4 @@ pub mod MergedValues
 pub mod Rows
 pub mod RowsCompacted
 pub mod EnergyMoments
+pub mod RowsFrame

@@ -1,1 +1,2 @@
 // The search for the scale pair under which two cones become one.
+pub mod rows;
