@@ -5,3 +5,4 @@ pub mod Rows
 pub mod RowsCompacted
 pub mod EnergyMoments
 pub mod RowsFrame
+pub mod EnergyRows
