@@ -10,7 +10,7 @@ use lib.Seq.{take-suc, length-take-le}
 use Rattle.laws.specs.Integer.{abs-add, abs-mul-le}
 use Rattle.search.specs.declared.energy.Moments.{Moments}
 use Rattle.search.specs.EnergyMoments.{xxOf, xyOf, yyOf}
-use Rattle.search.specs.RowsCompacted.{sumCounted, counted-last}
+use Rattle.search.specs.RowsCompacted.{sumOver, sumCounted, counted-last, Compacted}
 
 unfoldable pub momentsOf : List ℤ → List ℤ → List ℕ → Moments
 momentsOf xs ys counts = record { xx = sumCounted xxOf xs ys counts; xy = sumCounted xyOf xs ys counts; yy = sumCounted yyOf xs ys counts }
@@ -84,3 +84,9 @@ moments-turn n i xs ys counts m r x y k w h e g ex ey ek b f = (
   f ∙ ap (λ z. addRow z x y k) e ∙ moments-row xs ys counts i (omega (arith, w .few, w .x-long)) (w .y-long ∙ sym (w .x-long)) (w .c-long ∙ sym (w .x-long)) x y k ex ey ek,
   rw f (grown-row i m x y k g (rw ex (w .x-near i h)) (rw ey (w .y-near i h)) b),
 )
+
+-- Rows that stand for all rows have the moments of all rows.
+pub moments-compacted : (X Y : List ℤ) (T : List ℕ) (xs ys : List ℤ) (ts counts : List ℕ) → Compacted X Y T xs ys ts counts
+    → momentsOf xs ys counts ≡ record { xx = sumOver xxOf X Y; xy = sumOver xyOf X Y; yy = sumOver yyOf X Y }
+unfolding momentsOf
+moments-compacted X Y T xs ys ts counts c = rw (c .sums xxOf, c .sums xyOf, c .sums yyOf)

@@ -8,6 +8,8 @@ use lib.IntN.{ℤ, pos, natAbs, _-ℤ_}
 use lib.ListN.{length, getD}
 use lib.Signed.{_≤ℤ_}
 use Rattle.laws.specs.Integer.{ints, abs-parts, sub-parts, one-part-zero}
+use Rattle.rules.specs.Span.{least, span}
+use Rattle.theorems.specs.Spans.{least-le, offset-lt}
 use Rattle.search.specs.declared.rows.Frame.{Frame}
 
 -- The place of a row in the grid.
@@ -88,3 +90,16 @@ module _ (f : Frame) (x y u v : ℤ) (t w : ℕ) (r : InFrame f x y t) (s : InFr
 
   pub one-row : (x ≡ u) × ((y ≡ v) × (t ≡ w))
   one-row = (above-same (f .«x_low») x u (r .x-above) (s .x-above) one-right, (above-same (f .«y_low») y v (r .y-above) (s .y-above) one-up, one-truth))
+
+-- The rows of two tables lie in the grid that begins at their least values.
+pub tables-framed : (f : Frame) (X Y : List ℤ) (t i : ℕ) → f .«x_low» ≡ least X → f .«y_low» ≡ least Y → f .«y_span» ≡ span Y
+    → span X ≤ 32 → span Y ≤ 32 → length Y ≡ length X → i < length X → t ≤ 1 → InFrame f (getD X i (pos 0)) (getD Y i (pos 0)) t
+tables-framed f X Y t i ex ey es h k e l b =
+    record {
+      span = rw es k;
+      x-above = rw ex (least-le X i l);
+      x-near = rw ex (omega (arith, offset-lt X i l));
+      y-above = rw ey (least-le Y i (rw e l));
+      y-near = rw (ey, es) (offset-lt Y i (rw e l));
+      bit = b;
+    }
