@@ -1,16 +1,24 @@
 -- The moments of rows that stand for some assignments each.
 use mathlib.Core.Path.{_≡_, refl, sym, ap, _∙_}
-use mathlib.Core.List.{List, []}
-use Prim.Native.Nat.{ℕ, _+_, _*_, _<_, _≤_, _^_}
+use mathlib.Core.List.{List}
+use Prim.Native.Nat.{ℕ, _+_, _*_, _<_, _≤_, _^_, zero-le}
 use native.Mathlib.Numerals.{add-one}
 use native.Mathlib.Omega.{arith}
 use lib.IntN.{ℤ, pos, natAbs, _+ℤ_, _*ℤ_}
 use lib.ListN.{length, getD, take}
 use lib.Seq.{take-suc, length-take-le}
 use Rattle.laws.specs.Integer.{abs-add, abs-mul-le}
+use Rattle.search.specs.declared.energy.CandidateRow.{CandidateRow}
 use Rattle.search.specs.declared.energy.Moments.{Moments}
 use Rattle.search.specs.EnergyMoments.{xxOf, xyOf, yyOf}
 use Rattle.search.specs.RowsCompacted.{sumOver, sumCounted, counted-last, Compacted}
+
+abbrev pub noRow : CandidateRow
+noRow = record { x = pos 0; y = pos 0; truth = 0; count = 0 }
+
+-- Row i of the tables.
+unfoldable pub rowOf : List ℤ → List ℤ → List ℕ → List ℕ → ℕ → CandidateRow
+rowOf xs ys ts counts i = record { x = getD xs i (pos 0); y = getD ys i (pos 0); truth = getD ts i 0; count = getD counts i 0 }
 
 unfoldable pub momentsOf : List ℤ → List ℤ → List ℕ → Moments
 momentsOf xs ys counts = record { xx = sumCounted xxOf xs ys counts; xy = sumCounted xyOf xs ys counts; yy = sumCounted yyOf xs ys counts }
@@ -34,6 +42,17 @@ pub record InRows (n : ℕ) (xs ys : List ℤ) (counts : List ℕ) : Type 0 wher
   pub x-near : (i : ℕ) → i < n → natAbs (getD xs i (pos 0)) ≤ 31
   pub y-near : (i : ℕ) → i < n → natAbs (getD ys i (pos 0)) ≤ 31
 
+pub in-fewer : (k n : ℕ) (xs ys : List ℤ) (counts : List ℕ) → k ≤ n → InRows n xs ys counts → InRows k xs ys counts
+in-fewer k n xs ys counts h w =
+    record {
+      few = omega (arith, w .few);
+      x-long = w .x-long;
+      y-long = w .y-long;
+      c-long = w .c-long;
+      x-near = λ i l. w .x-near i (omega arith);
+      y-near = λ i l. w .y-near i (omega arith);
+    }
+
 -- ---- A row more.
 
 -- No moment is larger than i rows can make it.
@@ -55,10 +74,6 @@ grown-row i m x y n g h k l =
     let b : n ≤ 2 ^ 16 = omega arith in
     record { xx = grows i (m .xx) x x n (g .xx) h h b; xy = grows i (m .xy) x y n (g .xy) h k b; yy = grows i (m .yy) y y n (g .yy) k k b }
 
-pub moments-none : momentsOf [] [] [] ≡ record { xx = pos 0; xy = pos 0; yy = pos 0 }
-unfolding momentsOf sumCounted
-moments-none = refl
-
 -- the first rows and the next one
 module _ (xs ys : List ℤ) (counts : List ℕ) (i : ℕ) (h : i < length xs) (y-long : length ys ≡ length xs) (c-long : length counts ≡ length xs) where
   one-more : (f : ℤ → ℤ → ℤ)
@@ -76,14 +91,23 @@ module _ (xs ys : List ℤ) (counts : List ℕ) (i : ℕ) (h : i < length xs) (y
   unfolding momentsOf addRow xxOf xyOf yyOf
   moments-row x y n ex ey en = rw (one-more xxOf, one-more xyOf, one-more yyOf, ex, ey, en)
 
--- a turn of the loop that adds them up
-pub moments-turn : (n i : ℕ) (xs ys : List ℤ) (counts : List ℕ) (m r : Moments) (x y : ℤ) (k : ℕ) → InRows n xs ys counts → i < n
-    → m ≡ momentsOf (take i xs) (take i ys) (take i counts) → Grown i m → x ≡ getD xs i (pos 0) → y ≡ getD ys i (pos 0) → k ≡ getD counts i 0 → k < 2 ^ 16
-    → r ≡ addRow m x y k → (r ≡ momentsOf (take (i + 1) xs) (take (i + 1) ys) (take (i + 1) counts)) × Grown (i + 1) r
-moments-turn n i xs ys counts m r x y k w h e g ex ey ek b f = (
-  f ∙ ap (λ z. addRow z x y k) e ∙ moments-row xs ys counts i (omega (arith, w .few, w .x-long)) (w .y-long ∙ sym (w .x-long)) (w .c-long ∙ sym (w .x-long)) x y k ex ey ek,
-  rw f (grown-row i m x y k g (rw ex (w .x-near i h)) (rw ey (w .y-near i h)) b),
-)
+-- These are the moments of the first i rows.
+pub record SoFar (i : ℕ) (xs ys : List ℤ) (counts : List ℕ) (m : Moments) : Type 0 where
+  pub sums : m ≡ momentsOf (take i xs) (take i ys) (take i counts)
+  pub grown : Grown i m
+
+pub none-so-far : (xs ys : List ℤ) (counts : List ℕ) → SoFar 0 xs ys counts (record { xx = pos 0; xy = pos 0; yy = pos 0 })
+unfolding momentsOf sumCounted
+none-so-far xs ys counts = record { sums = refl; grown = record { xx = zero-le; xy = zero-le; yy = zero-le } }
+
+pub row-so-far : (n i : ℕ) (xs ys : List ℤ) (counts : List ℕ) (m r : Moments) (x y : ℤ) (k : ℕ) → InRows n xs ys counts → i < n
+    → SoFar i xs ys counts m → x ≡ getD xs i (pos 0) → y ≡ getD ys i (pos 0) → k ≡ getD counts i 0 → k < 2 ^ 16
+    → r ≡ addRow m x y k → SoFar (i + 1) xs ys counts r
+row-so-far n i xs ys counts m r x y k w h s ex ey ek b f =
+    record {
+      sums = f ∙ ap (λ z. addRow z x y k) (s .sums) ∙ moments-row xs ys counts i (omega (arith, w .few, w .x-long)) (w .y-long ∙ sym (w .x-long)) (w .c-long ∙ sym (w .x-long)) x y k ex ey ek;
+      grown = rw f (grown-row i m x y k (s .grown) (rw ex (w .x-near i h)) (rw ey (w .y-near i h)) b);
+    }
 
 -- Rows that stand for all rows have the moments of all rows.
 pub moments-compacted : (X Y : List ℤ) (T : List ℕ) (xs ys : List ℤ) (ts counts : List ℕ) → Compacted X Y T xs ys ts counts

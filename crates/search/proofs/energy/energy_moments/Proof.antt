@@ -1,79 +1,61 @@
--- `search::energy::energy_moments` meets its contract: the moments so far are those of the rows passed.
-use mathlib.Core.Path.{_≡_, refl, sym, ap, _∙_}
-use Prim.Native.Nat.{_-_, _≤_, zero-le}
+-- `search::energy::energy_moments` meets its contract, block by block.
+use mathlib.Core.Path.{_≡_, ap, _∙_}
+use mathlib.Core.Logic.{⊎-elim}
+use Prim.Native.Nat.{ℕ, _+_, _-_, _≤_, _<_, zero-le}
 use native.Mathlib.Omega.{arith}
-use lib.IntN.{pos}
-use lib.ListN.{getD, take}
-use mir.Syntax.{w32}
-use mir.Val.{toZ, ofZ}
-use Rattle.laws.specs.Integer.{read-back-at}
-use Rattle.search.specs.EnergyRows.{momentsOf, Grown, grown-small, moments-none, moments-turn}
 use borrow.Author.Needs.{needs}
+use lib.ListN.{take}
+use Rattle.search.specs.EnergyRows.{SoFar, none-so-far, in-fewer, momentsOf}
 use Rattle.search.proofs.energy.energy_moments.Statement.{statement}
 use Rattle.search.proofs.energy.energy_moments.Tie as tie
 
 abbrev Inv-loop : tie.InvT-loop
-Inv-loop xs ys counts n m₀ i₀ m i = (i ≤ n) × ((m ≡ momentsOf (take i xs) (take i ys) (take i counts)) × Grown i m)
+Inv-loop xs ys truth counts n m₀ i₀ m i = (i ≤ n) × SoFar i xs ys counts m
 
 abbrev μ-loop : tie.MeasureT-loop
-μ-loop xs ys counts n m₀ i₀ m i = n - i
+μ-loop xs ys truth counts n m₀ i₀ m i = n - i
 
 loop-holds : tie.Need-loop-holds Inv-loop μ-loop
-loop-holds c = (zero-le, (sym moments-none, record { xx = zero-le; xy = zero-le; yy = zero-le }))
+loop-holds c = (zero-le, none-so-far (c .args .xs .now) (c .args .ys .now) (c .args .counts .now))
 
-mul-x : tie.Need-mul-x Inv-loop μ-loop
-mul-x c = search needs
+sub-if1 : tie.Need-sub-if1 Inv-loop μ-loop
+sub-if1 c = search needs
 
-element-copy-out-x : tie.Need-element-copy-out-x Inv-loop μ-loop
-element-copy-out-x c = search needs
+sub-k : tie.Need-sub-k Inv-loop μ-loop
+sub-k c = search needs
 
-mul-y : tie.Need-mul-y Inv-loop μ-loop
-mul-y c = search needs
+-- how many rows the block has
+piece : (c : tie.Joined1 Inv-loop μ-loop) → let i = c .before .before .loop .i in (0 < c .if1 .k) × ((c .if1 .k ≤ 8) × (i + c .if1 .k ≤ c .before .before .before .args .n))
+piece c =
+    let t = c .before .loop-test .taken in
+    ⊎-elim (λ w. of (w .1) (omega (arith, w .0 .taken))) (λ w. of (w .1) (omega (arith, w .0 .left))) (c .if1 .came)
+  where
+    of : {k m : ℕ} → k ≡ m → (0 < m) × ((m ≤ 8) × (c .before .before .loop .i + m ≤ c .before .before .before .args .n))
+        → (0 < k) × ((k ≤ 8) × (c .before .before .loop .i + k ≤ c .before .before .before .args .n))
+    of e h = rw e h
 
-element-copy-out-y : tie.Need-element-copy-out-y Inv-loop μ-loop
-element-copy-out-y c = search needs
-
-mul-count : tie.Need-mul-count Inv-loop μ-loop
-mul-count c = search needs
-
-element-copy-out-count : tie.Need-element-copy-out-count Inv-loop μ-loop
-element-copy-out-count c = search needs
-
--- the row that is read
-x-is : (c : tie.After-x Inv-loop μ-loop) → let x = getD (c .before .before .before .args .xs .now) (c .before .before .loop .i) (pos 0) in toZ w32 (ofZ w32 x) ≡ x
-x-is c = read-back-at w32 _ (c .x .given)
-
-y-is : (c : tie.After-y Inv-loop μ-loop) → let y = getD (c .before .before .before .before .args .ys .now) (c .before .before .before .loop .i) (pos 0) in toZ w32 (ofZ w32 y) ≡ y
-y-is c = read-back-at w32 _ (c .y .given)
-
-with-row-requires : tie.Need-with-row-requires Inv-loop μ-loop
-with-row-requires c κs =
-    let s = c .before .before .before .before .before in
-    let o = c .before .before .before .before .loop in
-    let h = c .before .before .before .loop-test .taken in
-    (grown-small (o .i) (o .m) (omega (arith, s .pre .few)) (o .inv .1 .1), (rw (x-is (c .before .before)) (s .pre .x-near (o .i) h), rw (y-is (c .before)) (s .pre .y-near (o .i) h)))
+block-moments-requires : tie.Need-block-moments-requires Inv-loop μ-loop
+block-moments-requires c κs =
+    let s = c .before .before .before in
+    let o = c .before .before .loop in
+    let p = piece c in
+    (p .1 .0, (in-fewer (o .i + c .if1 .k) (s .args .n) (s .args .xs .now) (s .args .ys .now) (s .args .counts .now) (p .1 .1) (s .pre), o .inv .1))
 
 add-i : tie.Need-add-i Inv-loop μ-loop
-add-i c = search needs
+add-i c = record { fits = omega (arith, piece (c .before .before), c .before .before .before .before .before .pre .few) }
 
 loop-less : tie.Need-loop-less Inv-loop μ-loop
-loop-less c = search needs
+loop-less c = let p = piece (c .before .before) in omega (arith, p .0, p .1 .1)
 
 loop-again : tie.Need-loop-again Inv-loop μ-loop
-loop-again c =
-    let a = c .before in
-    let s = a .before .before .before .before .before in
-    let o = a .before .before .before .before .loop in (
-      omega arith,
-      moments-turn (s .args .n) (o .i) (s .args .xs .now) (s .args .ys .now) (s .args .counts .now) (o .m) (c .with-row .result) _ _ _ (s .pre) (a .before .before .before .loop-test .taken) (o .inv .1 .0) (o .inv .1 .1)
-          (x-is (a .before .before)) (y-is (a .before)) refl (c .with-row .ensures .1) (c .with-row .ensures .0),
-    )
+loop-again c = (piece (c .before .before) .1 .1, c .before .block-moments .ensures)
 
 returns : tie.Need-returns Inv-loop μ-loop
 returns c =
+    let s = c .before .before in
     let o = c .before .loop in
-    let e : o .i ≡ c .before .before .args .n = omega (arith, o .inv .0, c .loop-test .left) in
-    o .inv .1 .0 ∙ ap (λ k. momentsOf (take k (c .before .before .args .xs .now)) (take k (c .before .before .args .ys .now)) (take k (c .before .before .args .counts .now))) e
+    let e : o .i ≡ s .args .n = omega (arith, o .inv .0, c .loop-test .left) in
+    o .inv .1 .sums ∙ ap (λ k. momentsOf (take k (s .args .xs .now)) (take k (s .args .ys .now)) (take k (s .args .counts .now))) e
 
 pub energy-moments-spec : {M : Type 1} → statement M
 energy-moments-spec =
@@ -82,13 +64,9 @@ energy-moments-spec =
     Inv-loop
     μ-loop
     loop-holds
-    mul-x
-    element-copy-out-x
-    mul-y
-    element-copy-out-y
-    mul-count
-    element-copy-out-count
-    with-row-requires
+    sub-if1
+    sub-k
+    block-moments-requires
     add-i
     loop-less
     loop-again
