@@ -13,7 +13,7 @@ use lib.Seq.{ext-getD}
 use Rattle.laws.specs.Test.{if_then_else_, eq-or-ne}
 use Rattle.rules.specs.Builder.{Entries, enter, knownOr, filled}
 use Rattle.theorems.specs.Completions.{Completes, filled-at, filled-completes}
-use Rattle.theorems.specs.Rows.{Within, Agrees, entered, entered-left, entered-entries, unknown-entries}
+use Rattle.theorems.specs.Rows.{Within, Agrees, entered, entered-left, entered-entries, unknown-entries, some-is, none-not}
 
 -- ---- Entries with the same completions are the same.
 
@@ -42,12 +42,6 @@ same-completions k l e f long into back =
     (eq-or-ne (getD l i 0) 2))
 
 -- ---- Rows of two columns.
-
-some-same : (x y : List ℕ) → some x ≡ some y → x ≡ y
-some-same x y e = cc
-
-none-some : {A : Type 0} (x : List ℕ) → none ≡ some x → A
-none-some x e = absurd (let q : _≡_ {A = ℕ} 0 1 = cc in omega arith)
 
 -- The row (v, t) is among these.
 pub record PairIn (v : ℤ) (t : ℕ) (values : List ℤ) (truths : List ℕ) : Type 0 where
@@ -93,7 +87,7 @@ module _ (low : ℤ) (n : ℕ) where
     one-way : (k l : List ℕ) → enter low v b start ≡ some k → enter low w d start ≡ some l → (t : List ℕ) → Completes k t → Completes l t
     one-way k l f g t c =
         let r = completes-too k f t c in
-        subst (λ m. Completes m t) (some-same (r .0) l (sym (r .1) ∙ g)) (r .2)
+        subst (λ m. Completes m t) (some-is (r .0) l (sym (r .1) ∙ g)) (r .2)
 
   -- Rows of the same pairs make the same entries.
   module _ (v : List ℤ) (b : List ℕ) (w : List ℤ) (d : List ℕ) (ev : length v ≡ length b) (ew : length w ≡ length d)
@@ -105,10 +99,10 @@ module _ (low : ℤ) (n : ℕ) where
         by none none f g = refl
         by none (some l) f g =
             let z = enters-too w d v b ew ev inw inv q l g in
-            none-some (z .0) (sym f ∙ z .1)
+            none-not (z .0) (sym f ∙ z .1)
         by (some k) none f g =
             let z = enters-too v b w d ev ew inv inw p k f in
-            none-some (z .0) (sym g ∙ z .1)
+            none-not (z .0) (sym g ∙ z .1)
         by (some k) (some l) f g =
             let ek = entered-entries low v b start k f (unknown-entries n) in
             let el = entered-entries low w d start l g (unknown-entries n) in

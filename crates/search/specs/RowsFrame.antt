@@ -7,8 +7,8 @@ use native.Mathlib.Omega.{arith}
 use lib.IntN.{ℤ, pos, natAbs, _-ℤ_}
 use lib.ListN.{length, getD}
 use lib.Signed.{_≤ℤ_}
-use Rattle.laws.specs.Integer.{ints, abs-parts, sub-parts, one-part-zero}
 use Rattle.rules.specs.Span.{least, span}
+use Rattle.theorems.specs.Rows.{one-value}
 use Rattle.theorems.specs.Spans.{least-le, offset-lt}
 use Rattle.search.specs.declared.rows.Frame.{Frame}
 
@@ -59,11 +59,6 @@ grid-right u v u′ v′ s h k e =
     let q : (u′ * s + v′) / s ≡ u′ = mul-add-div-right z u′ v′ ∙ rw (div-eq-of-lt k) (omega arith) in
     sym p ∙ ap (λ i. i / s) e ∙ q
 
-above-same : (low a b : ℤ) → low ≤ℤ a → low ≤ℤ b → natAbs (a -ℤ low) ≡ natAbs (b -ℤ low) → a ≡ b
-above-same low a b h k e =
-    omega
-    (arith, ints, abs-parts (a -ℤ low), abs-parts (b -ℤ low), sub-parts a low, sub-parts b low, one-part-zero (a -ℤ low), one-part-zero (b -ℤ low))
-
 module _ (f : Frame) (x y : ℤ) (t : ℕ) (r : InFrame f x y t) where
   pub cell-lt : cellOf f x y t < 2048
   unfolding cellOf
@@ -89,7 +84,7 @@ module _ (f : Frame) (x y u v : ℤ) (t w : ℕ) (r : InFrame f x y t) (s : InFr
   one-up = let q = ap (λ i. i * f .«y_span») one-right in let g = one-grid in omega arith
 
   pub one-row : (x ≡ u) × ((y ≡ v) × (t ≡ w))
-  one-row = (above-same (f .«x_low») x u (r .x-above) (s .x-above) one-right, (above-same (f .«y_low») y v (r .y-above) (s .y-above) one-up, one-truth))
+  one-row = (one-value (f .«x_low») x u (r .x-above) (s .x-above) one-right, (one-value (f .«y_low») y v (r .y-above) (s .y-above) one-up, one-truth))
 
 -- The rows of two tables lie in the grid that begins at their least values.
 pub tables-framed : (f : Frame) (X Y : List ℤ) (t i : ℕ) → f .«x_low» ≡ least X → f .«y_low» ≡ least Y → f .«y_span» ≡ span Y
