@@ -1,8 +1,8 @@
 -- `search::energy::row_at` meets its contract: a walk of its code, by hand, since a reference to records is not covered. The place of `rows[i]` is i records past
 -- the slice's pointer; the slice is looked into, record i is taken out, read whole, and put back.
-use mathlib.Core.Path.{_≡_, refl, sym}
+use mathlib.Core.Path.{refl, sym}
 use mathlib.Core.List.{List, [], _∷_}
-use Prim.Native.Nat.{ℕ, _*_, _<_, _≤_, _^_}
+use Prim.Native.Nat.{ℕ, _*_, _<_, _^_}
 use native.Mathlib.Nat.{mul-le-mul-right}
 use native.Mathlib.Omega.{arith}
 use lib.ListN.{length, getD}
