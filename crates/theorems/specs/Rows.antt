@@ -87,7 +87,8 @@ pub record Within (low : ℤ) (values : List ℤ) (n : ℕ) : Type 0 where
 pub record Agrees (low : ℤ) (values : List ℤ) (truths t : List ℕ) : Type 0 where
   pub at : (i : ℕ) → i < length values → getD t (offset low values i) 0 ≡ getD truths i 0
 
-none-not : {A : Type 0} (x : List ℕ) → none ≡ some x → A
+-- no row, the rows but the first, and what a row that fits or does not fit leads to
+pub none-not : {A : Type 0} (x : List ℕ) → none ≡ some x → A
 none-not x e = absurd (let q : _≡_ {A = ℕ} 0 1 = cc in omega arith)
 
 module _ (low v : ℤ) (values : List ℤ) where
@@ -209,7 +210,7 @@ enters low (v ∷ values) (b ∷ truths) known e bits same old =
     (r .0, rw yes (r .1))
 
 -- offsets from a least value tell values apart
-one-value : (low a b : ℤ) → low ≤ℤ a → low ≤ℤ b → natAbs (a -ℤ low) ≡ natAbs (b -ℤ low) → a ≡ b
+pub one-value : (low a b : ℤ) → low ≤ℤ a → low ≤ℤ b → natAbs (a -ℤ low) ≡ natAbs (b -ℤ low) → a ≡ b
 one-value low a b h k e =
     omega
     (arith, ints, abs-parts (a -ℤ low), abs-parts (b -ℤ low), sub-parts a low, sub-parts b low, one-part-zero (a -ℤ low), one-part-zero (b -ℤ low))
