@@ -1,0 +1,2 @@
+-- What the writer leaves in its buffer, piece by piece.
+pub mod Put

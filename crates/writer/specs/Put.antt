@@ -1,0 +1,77 @@
+-- A piece of a text laid into a buffer, and the next place.
+use mathlib.Core.Path.{_≡_, refl, sym, ap, _∙_}
+use mathlib.Core.Bool.{Bool, true}
+use mathlib.Core.List.{List, [], _∷_, _++_}
+use Prim.Native.Nat.{ℕ, suc, _+_, _/_, _%_, _<_, _≤_}
+use native.Mathlib.Omega.{arith}
+use lib.ListN.{length, set, length-append, getD, drop, drop-of-length-le}
+use lib.Seq.{drop-cons}
+use Rattle.rules.specs.Writing.{bitsText}
+use Rattle.laws.specs.Laid.{laid, laid-nil, laid-one, laid-behind, laid-append, laid-length}
+
+-- The bytes s from `at` on, as far as the buffer reaches; the next place is behind them.
+pub record Put (at : ℕ) (s before : List ℕ) (next : ℕ) (after : List ℕ) : Type 0 where
+  pub place : next ≡ at + length s
+  pub bytes : after ≡ laid at s before
+
+pub put-stored : (at b : ℕ) (out : List ℕ) → at < length out → Put at (b ∷ []) out (at + 1) (set out at b)
+put-stored at b out h = record { place = refl; bytes = sym (laid-one at b out h) }
+
+pub put-lost : (at b : ℕ) (out : List ℕ) → length out ≤ at → Put at (b ∷ []) out (at + 1) out
+put-lost at b out h = record { place = refl; bytes = sym (laid-behind at (b ∷ []) out h) }
+
+pub put-length : {at next : ℕ} {s before after : List ℕ} → Put at s before next after → length after ≡ length before
+put-length {at} {next} {s} {before} {after} p = rw (p .bytes) (laid-length at s before)
+
+-- two pieces in turn
+pub put-both : {at b c : ℕ} {s t d e f : List ℕ} → Put at s d b e → Put b t e c f → Put at (s ++ t) d c f
+put-both {at} {b} {c} {s} {t} {d} {e} {f} p q =
+    record {
+      place = q .place ∙ rw (p .place) (omega (arith, length-append s t));
+      bytes = q .bytes ∙ rw (p .bytes, p .place) (laid-append at s t d);
+    }
+
+-- ---- A loop over pieces: what is left, laid from here on, gives what all of it gives from the start on.
+
+pub record Left (at : ℕ) (all before : List ℕ) (to : ℕ) (rest now : List ℕ) : Type 0 where
+  pub place : to + length rest ≡ at + length all
+  pub bytes : laid to rest now ≡ laid at all before
+
+pub left-all : (at : ℕ) (all before : List ℕ) → Left at all before at all before
+left-all at all before = record { place = refl; bytes = refl }
+
+pub left-step : {at to next : ℕ} {all before rest now after : List ℕ} (piece more : List ℕ) → Left at all before to rest now
+    → rest ≡ piece ++ more → Put to piece now next after → Left at all before next more after
+left-step {at} {to} {next} {all} {before} {rest} {now} {after} piece more l e p =
+    record {
+      place = omega (arith, l .place, p .place, length-append piece more, ap length e);
+      bytes = rw (p .bytes, p .place) (laid-append to piece more now) ∙ rw e at (l .bytes);
+    }
+
+pub left-none : {at to : ℕ} {all before now : List ℕ} → Left at all before to [] now → Put at all before to now
+left-none {at} {to} {all} {before} {now} l = record { place = omega (arith, l .place); bytes = sym (laid-nil to now) ∙ l .bytes }
+
+-- ---- Bytes one by one, and bits as digits.
+
+module _ {at to next : ℕ} {all before out after : List ℕ} (s : List ℕ) (i : ℕ) (h : i < length s) where
+  next-byte : drop i s ≡ getD s i 0 ∷ drop (i + 1) s
+  next-byte = let e : suc i ≡ i + 1 = omega arith in rw (← e) (drop-cons s i 0 h)
+
+  pub byte-step : Left at all before to (drop i s) out → Put to (getD s i 0 ∷ []) out next after → Left at all before next (drop (i + 1) s) after
+  byte-step l p = left-step (getD s i 0 ∷ []) (drop (i + 1) s) l next-byte p
+
+  pub bit-step : Left at all before to (bitsText (drop i s)) out → Put to ((48 + getD s i 0) ∷ []) out next after → Left at all before next (bitsText (drop (i + 1) s)) after
+  unfolding bitsText
+  bit-step l p = left-step ((48 + getD s i 0) ∷ []) (bitsText (drop (i + 1) s)) l (ap bitsText next-byte) p
+
+pub bytes-done : {at to : ℕ} {all before out : List ℕ} (s : List ℕ) (i : ℕ) → length s ≤ i → Left at all before to (drop i s) out → Put at all before to out
+bytes-done s i h l = left-none (rw (drop-of-length-le s h) at l)
+
+pub bits-done : {at to : ℕ} {all before out : List ℕ} (s : List ℕ) (i : ℕ) → length s ≤ i → Left at all before to (bitsText (drop i s)) out → Put at all before to out
+unfolding bitsText
+bits-done s i h l = left-none (rw (drop-of-length-le s h) at l)
+
+pub bitsText-length : (s : List ℕ) → length (bitsText s) ≡ length s
+unfolding bitsText
+bitsText-length [] = refl
+bitsText-length (b ∷ s) = ap suc (bitsText-length s)
