@@ -1,12 +1,17 @@
 -- A piece of a text laid into a buffer, and the next place.
 use mathlib.Core.Path.{_≡_, refl, sym, ap, _∙_}
-use mathlib.Core.Bool.{Bool, true}
+use mathlib.Core.Bool.{true, false}
 use mathlib.Core.List.{List, [], _∷_, _++_}
-use Prim.Native.Nat.{ℕ, suc, _+_, _/_, _%_, _<_, _≤_}
+use Prim.Native.Nat.{ℕ, suc, _+_, _/_, _%_, _<_, _≤_, _^_}
 use native.Mathlib.Omega.{arith}
 use lib.ListN.{length, set, length-append, getD, drop, drop-of-length-le}
 use lib.Seq.{drop-cons}
-use Rattle.rules.specs.Writing.{bitsText}
+use lib.IntN.{ℤ, pos, negsuc, natAbs}
+use lib.Signed.{ltZ}
+use Rattle.laws.specs.Test.{zero≢one}
+use Rattle.laws.specs.Integer.{ltZ-true, plus, minus}
+use Rattle.rules.specs.Writing.{bitsText, digits, signedText}
+use Rattle.writer.specs.Digits.{digits-one, digits-more}
 use Rattle.laws.specs.Laid.{laid, laid-nil, laid-one, laid-behind, laid-append, laid-length}
 
 -- The bytes s from `at` on, as far as the buffer reaches; the next place is behind them.
@@ -53,16 +58,16 @@ left-none {at} {to} {all} {before} {now} l = record { place = omega (arith, l .p
 
 -- ---- Bytes one by one, and bits as digits.
 
-module _ {at to next : ℕ} {all before out after : List ℕ} (s : List ℕ) (i : ℕ) (h : i < length s) where
-  next-byte : drop i s ≡ getD s i 0 ∷ drop (i + 1) s
-  next-byte = let e : suc i ≡ i + 1 = omega arith in rw (← e) (drop-cons s i 0 h)
+next-byte : (s : List ℕ) (i : ℕ) → i < length s → drop i s ≡ getD s i 0 ∷ drop (i + 1) s
+next-byte s i h = let e : suc i ≡ i + 1 = omega arith in rw (← e) (drop-cons s i 0 h)
 
+module _ {at to next : ℕ} {all before out after : List ℕ} (s : List ℕ) (i : ℕ) (h : i < length s) where
   pub byte-step : Left at all before to (drop i s) out → Put to (getD s i 0 ∷ []) out next after → Left at all before next (drop (i + 1) s) after
-  byte-step l p = left-step (getD s i 0 ∷ []) (drop (i + 1) s) l next-byte p
+  byte-step l p = left-step (getD s i 0 ∷ []) (drop (i + 1) s) l (next-byte s i h) p
 
   pub bit-step : Left at all before to (bitsText (drop i s)) out → Put to ((48 + getD s i 0) ∷ []) out next after → Left at all before next (bitsText (drop (i + 1) s)) after
   unfolding bitsText
-  bit-step l p = left-step ((48 + getD s i 0) ∷ []) (bitsText (drop (i + 1) s)) l (ap bitsText next-byte) p
+  bit-step l p = left-step ((48 + getD s i 0) ∷ []) (bitsText (drop (i + 1) s)) l (ap bitsText (next-byte s i h)) p
 
 pub bytes-done : {at to : ℕ} {all before out : List ℕ} (s : List ℕ) (i : ℕ) → length s ≤ i → Left at all before to (drop i s) out → Put at all before to out
 bytes-done s i h l = left-none (rw (drop-of-length-le s h) at l)
@@ -75,3 +80,39 @@ pub bitsText-length : (s : List ℕ) → length (bitsText s) ≡ length s
 unfolding bitsText
 bitsText-length [] = refl
 bitsText-length (b ∷ s) = ap suc (bitsText-length s)
+
+-- ---- A number, digit by digit.
+
+pub put-one : {at next d n : ℕ} {before after : List ℕ} → n < 10 → d ≡ 48 + n → Put at (d ∷ []) before next after → Put at (digits n) before next after
+put-one {at} {next} {d} {n} {before} {after} h e p = rw (digits-one n h, ← e) p
+
+pub put-more : {at to next d n : ℕ} {before out after : List ℕ} → 10 ≤ n → Put at (digits (n / 10)) before to out → d ≡ 48 + n % 10 → Put to (d ∷ []) out next after
+    → Put at (digits n) before next after
+put-more {at} {to} {next} {d} {n} h p e q = rw (digits-more n h, ← e) (put-both p q)
+
+-- ---- A signed number.
+
+signed-below : (z : ℤ) → ltZ z (pos 0) ≡ true → signedText z ≡ (45 ∷ []) ++ digits (natAbs z)
+unfolding signedText plus minus
+signed-below (pos n) h = absurd (omega (arith, ltZ-true (pos n) (pos 0) h))
+signed-below (negsuc n) h = refl
+
+signed-else : (z : ℤ) → ltZ z (pos 0) ≡ false → signedText z ≡ digits (natAbs z)
+unfolding signedText
+signed-else (pos n) h = refl
+signed-else (negsuc n) h = absurd (zero≢one (cc))
+
+pub put-below : {at to next m : ℕ} {before out after : List ℕ} (z : ℤ) → m ≡ natAbs z → ltZ z (pos 0) ≡ true
+    → Put at (45 ∷ []) before to out → Put to (digits m) out next after → Put at (signedText z) before next after
+put-below z e h p q = rw (signed-below z h, ← e) (put-both p q)
+
+pub room-below : {at to m : ℕ} {before out : List ℕ} (z : ℤ) → m ≡ natAbs z → ltZ z (pos 0) ≡ true → at + length (signedText z) < 2 ^ 63
+    → Put at (45 ∷ []) before to out → to + length (digits m) < 2 ^ 63
+room-below {at} {to} {m} z e h r p = let f : length (signedText z) ≡ 1 + length (digits m) = rw (signed-below z h, e, length-append) in omega (arith, p .place)
+
+pub put-else : {at next m : ℕ} {before after : List ℕ} (z : ℤ) → m ≡ natAbs z → ltZ z (pos 0) ≡ false → Put at (digits m) before next after
+    → Put at (signedText z) before next after
+put-else z e h p = rw (signed-else z h, ← e) p
+
+pub room-else : (at : ℕ) {m : ℕ} (z : ℤ) → m ≡ natAbs z → ltZ z (pos 0) ≡ false → at + length (signedText z) < 2 ^ 63 → at + length (digits m) < 2 ^ 63
+room-else at z e h r = rw (e, ← signed-else z h) r

@@ -1,11 +1,9 @@
 // The pieces of a text.
 ghost use mathlib.Core.Path.{_≡_};
 ghost use mathlib.Core.List.{[], _∷_};
-ghost use mathlib.Core.Bool.{true};
-ghost use Prim.Native.Nat.{_+_, _<_, _≤_, _^_};
+ghost use Prim.Native.Nat.{ℕ, _+_, _<_, _≤_, _^_};
 ghost use lib.IntN.{natAbs};
-ghost use lib.ListN.{length};
-ghost use Rattle.rules.specs.Runs.{allBits};
+ghost use lib.ListN.{length, getD};
 ghost use Rattle.rules.specs.Writing.{digits, signedText, bitsText};
 ghost use Rattle.writer.specs.Put.{Put};
 
@@ -37,7 +35,7 @@ pub fn put_all(out: &mut [u8], at: usize, bytes: &[u8]) -> usize
 
 // Bits as the bytes '0' and '1'.
 pub fn put_bits(out: &mut [u8], at: usize, table: &[u8]) -> usize
-    requires { ⌜ allBits (now table) ≡ true ⌝ }
+    requires { ⌜ ((i : ℕ) → getD (now table) i 0 ≤ 1) ⌝ }
     requires { ⌜ at + length (now table) < 2 ^ 63 ⌝ }
     ensures { λ r. ⌜ Put at (bitsText (now (table .entry))) (now (out .entry)) r (now (out .exit)) ⌝ }
 {
@@ -78,7 +76,7 @@ pub fn put_signed(out: &mut [u8], at: usize, n: i64) -> usize
 {
     if n < 0 {
         let to = put(out, at, b'-');
-        return put_number(out, to, (0 - n) as usize);
+        return put_number(out, to, scale::magnitude(n));
     }
-    put_number(out, at, n as usize)
+    put_number(out, at, scale::magnitude(n))
 }

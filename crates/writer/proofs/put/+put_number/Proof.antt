@@ -1,4 +1,11 @@
-use Prim.Native.Nat.{ℕ, _<_}
+use native.Mathlib.Omega.{arith}
+use borrow.Author.Needs.{needs}
+use mathlib.Core.Path.{_≡_, sym, subst, _∙_}
+use lib.ListN.{length}
+use Rattle.rules.specs.Writing.{digits}
+use Rattle.writer.specs.Digits.{digits-longer, digits-one}
+use Rattle.writer.specs.Put.{put-one, put-more, put-length}
+use Prim.Native.Nat.{ℕ, _<_, _/_}
 use borrow.Fn.Kinds.{In}
 use borrow.Fn.PlainCycle.{Measures, is, falls, and}
 use Rattle.writer.proofs.put.put_number.Reads as put-number
@@ -10,7 +17,7 @@ use Rattle.writer.proofs.put.+put_number.{statement}
 use Rattle.writer.proofs.put.+put_number.Tie.{close}
 
 abbrev μ-put-number : Measures 1 put-number-kinds.ps ℕ
-μ-put-number κs a = ?
+μ-put-number κs a = a .1 .1 .0
 
 abbrev put-number-at : ℕ → In 1 put-number-kinds.ps
 put-number-at t =
@@ -29,7 +36,7 @@ put-number-digit-requires : (t : ℕ) → put-number-lts.Need-digit-requires (
   put-number-below t,
   put-number.Post,
 ) (put-number-at t) put-number.Post
-put-number-digit-requires t c κs = ?
+put-number-digit-requires t c κs = c .before .if1 .taken
 
 -- src/put.rt:66:9
 put-number-put-requires : (t : ℕ) → put-number-lts.Need-put-requires (
@@ -40,7 +47,7 @@ put-number-put-requires : (t : ℕ) → put-number-lts.Need-put-requires (
   put-number-below t,
   put-number.Post,
 ) (put-number-at t) put-number.Post
-put-number-put-requires t c κs = ?
+put-number-put-requires t c κs = omega (arith, c .before .before .before .before .pre .1)
 
 -- src/put.rt:66:9
 put-number-same-length : (t : ℕ) → put-number-lts.Need-same-length (
@@ -51,7 +58,7 @@ put-number-same-length : (t : ℕ) → put-number-lts.Need-same-length (
   put-number-below t,
   put-number.Post,
 ) (put-number-at t) put-number.Post
-put-number-same-length t c = ?
+put-number-same-length t c = put-length (c .before .before .put .ensures)
 
 -- src/put.rt:66:9
 put-number-returns : (t : ℕ) → put-number-lts.Need-returns (
@@ -62,7 +69,7 @@ put-number-returns : (t : ℕ) → put-number-lts.Need-returns (
   put-number-below t,
   put-number.Post,
 ) (put-number-at t) put-number.Post
-put-number-returns t c = ?
+put-number-returns t c = put-one (c .before .before .before .before .before .if1 .taken) (c .before .before .before .digit .ensures) (c .before .before .put .ensures)
 
 -- src/put.rt:68:9
 put-number-put-number-requires : (t : ℕ) → put-number-lts.Need-put-number-requires (
@@ -73,7 +80,11 @@ put-number-put-number-requires : (t : ℕ) → put-number-lts.Need-put-number-re
   put-number-below t,
   put-number.Post,
 ) (put-number-at t) put-number.Post
-put-number-put-number-requires t c κs = ?
+put-number-put-number-requires t c κs =
+    let a = c .before .before .before in (
+      subst (λ (j : ℕ). a .args .n / 10 < j) (a .pre .0) (omega (arith, c .before .if1 .left)),
+      omega (arith, a .pre .1, digits-longer (a .args .n) (c .before .if1 .left)),
+    )
 
 -- src/put.rt:69:18
 put-number-digit-requires-2 : (t : ℕ) → put-number-lts.Need-digit-requires-2 (
@@ -84,7 +95,7 @@ put-number-digit-requires-2 : (t : ℕ) → put-number-lts.Need-digit-requires-2
   put-number-below t,
   put-number.Post,
 ) (put-number-at t) put-number.Post
-put-number-digit-requires-2 t c κs = ?
+put-number-digit-requires-2 t c κs = omega arith
 
 -- src/put.rt:69:5
 put-number-put-requires-2 : (t : ℕ) → put-number-lts.Need-put-requires-2 (
@@ -95,7 +106,9 @@ put-number-put-requires-2 : (t : ℕ) → put-number-lts.Need-put-requires-2 (
   put-number-below t,
   put-number.Post,
 ) (put-number-at t) put-number.Post
-put-number-put-requires-2 t c κs = ?
+put-number-put-requires-2 t c κs =
+    let a = c .before .before .before .before .before .before .before .before in
+    omega (arith, c .before .before .before .before .put-number .ensures .place, a .pre .1, digits-longer (a .args .n) (c .before .before .before .before .before .before .if1 .left))
 
 -- src/put.rt:61:1
 put-number-same-length-2 : (t : ℕ) → put-number-lts.Need-same-length-2 (
@@ -106,7 +119,7 @@ put-number-same-length-2 : (t : ℕ) → put-number-lts.Need-same-length-2 (
   put-number-below t,
   put-number.Post,
 ) (put-number-at t) put-number.Post
-put-number-same-length-2 t c = ?
+put-number-same-length-2 t c = put-length (c .before .before .put2 .ensures) ∙ put-length (c .before .before .before .before .before .before .before .put-number .ensures)
 
 -- src/put.rt:61:1
 put-number-returns-2 : (t : ℕ) → put-number-lts.Need-returns-2 (
@@ -117,7 +130,8 @@ put-number-returns-2 : (t : ℕ) → put-number-lts.Need-returns-2 (
   put-number-below t,
   put-number.Post,
 ) (put-number-at t) put-number.Post
-put-number-returns-2 t c = ?
+put-number-returns-2 t c =
+    put-more (c .before .before .before .before .before .before .before .before .before .if1 .left) (c .before .before .before .before .before .before .before .put-number .ensures) (c .before .before .before .digit2 .ensures) (c .before .before .put2 .ensures)
 
 pub +put-number-spec : {M : Type 1} → statement M
 +put-number-spec = close μ-put-number λ t. put-number-lts.spec (

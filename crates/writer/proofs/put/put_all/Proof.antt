@@ -26,7 +26,7 @@ shared-slice-read-put c = search needs
 
 -- src/put.rt:31:9
 put-requires : tie.Need-put-requires Inv-loop μ-loop
-put-requires c κs = ?
+put-requires c κs = omega (arith, c .before .before .before .loop .inv .1 .place, length-drop (c .before .before .before .loop .i) (c .before .before .before .before .before .before .args .bytes .now))
 
 -- src/put.rt:32:9
 add-i : tie.Need-add-i Inv-loop μ-loop
@@ -38,7 +38,10 @@ loop-less c = search needs
 
 -- src/put.rt:30:5
 loop-again : tie.Need-loop-again Inv-loop μ-loop
-loop-again c = ?
+loop-again c =
+    let o = c .before .before .before .before .before .before .loop in
+    let p = c .before .before .put .ensures in
+    (omega arith, byte-step (c .before .before .before .before .before .before .before .before .before .args .bytes .now) (o .i) (c .before .before .before .before .before .loop-test .taken) (o .inv .1) p, put-length p ∙ o .inv .2)
 
 -- src/put.rt:24:1
 same-length : tie.Need-same-length Inv-loop μ-loop
@@ -46,7 +49,7 @@ same-length c = search needs
 
 -- src/put.rt:24:1
 returns : tie.Need-returns Inv-loop μ-loop
-returns c = bytes-done (now (c .before .before .before .before .args .bytes)) (c .before .loop .i) (c .loop-test .left) (c .before .loop .inv .1)
+returns c = bytes-done (c .before .before .before .before .args .bytes .now) (c .before .loop .i) (c .loop-test .left) (c .before .loop .inv .1)
 
 pub put-all-spec : {M : Type 1} → statement M
 put-all-spec =

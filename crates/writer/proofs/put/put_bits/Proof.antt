@@ -27,11 +27,11 @@ shared-slice-read-put c = search needs
 
 -- src/put.rt:46:27
 add-put : tie.Need-add-put Inv-loop μ-loop
-add-put c = ?
+add-put c = omega (arith, c .before .before .before .before .before .before .pre .0 (c .before .before .before .loop .i))
 
 -- src/put.rt:46:9
 put-requires : tie.Need-put-requires Inv-loop μ-loop
-put-requires c κs = ?
+put-requires c κs = omega (arith, c .before .before .before .loop .inv .1 .place, length-drop (c .before .before .before .loop .i) (c .before .before .before .before .before .before .args .table .now), bitsText-length (c .before .before .before .before .before .before .args .table .now), bitsText-length (drop (c .before .before .before .loop .i) (c .before .before .before .before .before .before .args .table .now)))
 
 -- src/put.rt:47:9
 add-i : tie.Need-add-i Inv-loop μ-loop
@@ -43,7 +43,10 @@ loop-less c = search needs
 
 -- src/put.rt:45:5
 loop-again : tie.Need-loop-again Inv-loop μ-loop
-loop-again c = ?
+loop-again c =
+    let o = c .before .before .before .before .before .before .loop in
+    let p = c .before .before .put .ensures in
+    (omega arith, bit-step (c .before .before .before .before .before .before .before .before .before .args .table .now) (o .i) (c .before .before .before .before .before .loop-test .taken) (o .inv .1) p, put-length p ∙ o .inv .2)
 
 -- src/put.rt:38:1
 same-length : tie.Need-same-length Inv-loop μ-loop
@@ -51,7 +54,7 @@ same-length c = search needs
 
 -- src/put.rt:38:1
 returns : tie.Need-returns Inv-loop μ-loop
-returns c = bits-done (now (c .before .before .before .before .args .table)) (c .before .loop .i) (c .loop-test .left) (c .before .loop .inv .1)
+returns c = bits-done (c .before .before .before .before .args .table .now) (c .before .loop .i) (c .loop-test .left) (c .before .loop .inv .1)
 
 pub put-bits-spec : {M : Type 1} → statement M
 put-bits-spec =
