@@ -5,7 +5,6 @@ use mathlib.Core.Logic.{⊎-elim}
 use Prim.Native.Nat.{ℕ, zero, suc, _+_, _/_, _%_, _<_, _≤_}
 use native.Mathlib.Omega.{arith}
 use borrow.Author.Tests.{lt-ltb, le-ltb}
-use lib.ListN.{length, length-append}
 use Rattle.laws.specs.Test.{lt-or-le}
 use Rattle.rules.specs.Writing.{digitsWithin, digits}
 
@@ -30,6 +29,3 @@ unfolding digits digitsWithin
 digits-more zero h = absurd (omega arith)
 digits-more (suc n) h =
     rw (le-ltb (suc n) 10 h) (ap {B = List ℕ} (λ r. r ++ ((48 + suc n % 10) ∷ [])) (enough n (suc n / 10) (suc n / 10) (omega arith) (omega arith)))
-
-pub digits-longer : (n : ℕ) → 10 ≤ n → length (digits n) ≡ length (digits (n / 10)) + 1
-digits-longer n h = rw (digits-more n h, length-append)

@@ -1,3 +1,4 @@
 -- What the writer leaves in its buffer, piece by piece.
 pub mod Put
 pub mod Digits
+pub mod Lines

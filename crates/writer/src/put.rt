@@ -1,15 +1,15 @@
 // The pieces of a text.
 ghost use mathlib.Core.Path.{_≡_};
 ghost use mathlib.Core.List.{[], _∷_};
-ghost use Prim.Native.Nat.{ℕ, _+_, _<_, _≤_, _^_};
+ghost use Prim.Native.Nat.{ℕ, _+_, _<_, _≤_};
 ghost use lib.IntN.{natAbs};
-ghost use lib.ListN.{length, getD};
+ghost use lib.ListN.{getD};
 ghost use Rattle.rules.specs.Writing.{digits, signedText, bitsText};
-ghost use Rattle.writer.specs.Put.{Put};
+ghost use Rattle.writer.specs.Put.{Put, Room};
 
 // One byte.
 pub fn put(out: &mut [u8], at: usize, b: u8) -> usize
-    requires { ⌜ at < 2 ^ 63 ⌝ }
+    requires { ⌜ Room at (b ∷ []) ⌝ }
     ensures { λ r. ⌜ Put at (b ∷ []) (now (out .entry)) r (now (out .exit)) ⌝ }
 {
     if at < out.len() {
@@ -21,7 +21,7 @@ pub fn put(out: &mut [u8], at: usize, b: u8) -> usize
 
 // Bytes as they are.
 pub fn put_all(out: &mut [u8], at: usize, bytes: &[u8]) -> usize
-    requires { ⌜ at + length (now bytes) < 2 ^ 63 ⌝ }
+    requires { ⌜ Room at (now bytes) ⌝ }
     ensures { λ r. ⌜ Put at (now (bytes .entry)) (now (out .entry)) r (now (out .exit)) ⌝ }
 {
     let mut to = at;
@@ -36,7 +36,7 @@ pub fn put_all(out: &mut [u8], at: usize, bytes: &[u8]) -> usize
 // Bits as the bytes '0' and '1'.
 pub fn put_bits(out: &mut [u8], at: usize, table: &[u8]) -> usize
     requires { ⌜ ((i : ℕ) → getD (now table) i 0 ≤ 1) ⌝ }
-    requires { ⌜ at + length (now table) < 2 ^ 63 ⌝ }
+    requires { ⌜ Room at (bitsText (now table)) ⌝ }
     ensures { λ r. ⌜ Put at (bitsText (now (table .entry))) (now (out .entry)) r (now (out .exit)) ⌝ }
 {
     let mut to = at;
@@ -58,7 +58,7 @@ fn digit(n: usize) -> u8
 
 // The digits of a number.
 pub fn put_number(out: &mut [u8], at: usize, n: usize) -> usize
-    requires { ⌜ at + length (digits n) < 2 ^ 63 ⌝ }
+    requires { ⌜ Room at (digits n) ⌝ }
     ensures { λ r. ⌜ Put at (digits n) (now (out .entry)) r (now (out .exit)) ⌝ }
 {
     if n < 10 {
@@ -71,7 +71,7 @@ pub fn put_number(out: &mut [u8], at: usize, n: usize) -> usize
 // A minus only below 0.
 pub fn put_signed(out: &mut [u8], at: usize, n: i64) -> usize
     requires { ⌜ natAbs n ≤ 31 ⌝ }
-    requires { ⌜ at + length (signedText n) < 2 ^ 63 ⌝ }
+    requires { ⌜ Room at (signedText n) ⌝ }
     ensures { λ r. ⌜ Put at (signedText n) (now (out .entry)) r (now (out .exit)) ⌝ }
 {
     if n < 0 {

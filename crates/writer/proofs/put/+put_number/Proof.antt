@@ -1,10 +1,7 @@
 use native.Mathlib.Omega.{arith}
 use borrow.Author.Needs.{needs}
 use mathlib.Core.Path.{_≡_, sym, subst, _∙_}
-use lib.ListN.{length}
-use Rattle.rules.specs.Writing.{digits}
-use Rattle.writer.specs.Digits.{digits-longer, digits-one}
-use Rattle.writer.specs.Put.{put-one, put-more, put-length}
+use Rattle.writer.specs.Put.{put-one, put-more, put-length, one-room, front-room, last-room}
 use Prim.Native.Nat.{ℕ, _<_, _/_}
 use borrow.Fn.Kinds.{In}
 use borrow.Fn.PlainCycle.{Measures, is, falls, and}
@@ -47,7 +44,7 @@ put-number-put-requires : (t : ℕ) → put-number-lts.Need-put-requires (
   put-number-below t,
   put-number.Post,
 ) (put-number-at t) put-number.Post
-put-number-put-requires t c κs = omega (arith, c .before .before .before .before .pre .1)
+put-number-put-requires t c κs = one-room (c .before .before .if1 .taken) (c .digit .ensures) (c .before .before .before .before .pre .1)
 
 -- src/put.rt:66:9
 put-number-same-length : (t : ℕ) → put-number-lts.Need-same-length (
@@ -83,7 +80,7 @@ put-number-put-number-requires : (t : ℕ) → put-number-lts.Need-put-number-re
 put-number-put-number-requires t c κs =
     let a = c .before .before .before in (
       subst (λ (j : ℕ). a .args .n / 10 < j) (a .pre .0) (omega (arith, c .before .if1 .left)),
-      omega (arith, a .pre .1, digits-longer (a .args .n) (c .before .if1 .left)),
+      front-room (c .before .if1 .left) (a .pre .1),
     )
 
 -- src/put.rt:69:18
@@ -107,8 +104,7 @@ put-number-put-requires-2 : (t : ℕ) → put-number-lts.Need-put-requires-2 (
   put-number.Post,
 ) (put-number-at t) put-number.Post
 put-number-put-requires-2 t c κs =
-    let a = c .before .before .before .before .before .before .before .before in
-    omega (arith, c .before .before .before .before .put-number .ensures .place, a .pre .1, digits-longer (a .args .n) (c .before .before .before .before .before .before .if1 .left))
+    last-room (c .before .before .before .before .before .before .if1 .left) (c .before .before .before .before .put-number .ensures) (c .digit2 .ensures) (c .before .before .before .before .before .before .before .before .pre .1)
 
 -- src/put.rt:61:1
 put-number-same-length-2 : (t : ℕ) → put-number-lts.Need-same-length-2 (

@@ -1,3 +1,4 @@
+use native.Mathlib.Omega.{arith}
 use Rattle.writer.specs.Put.{put-stored, put-lost}
 use borrow.Author.Needs.{needs}
 use Rattle.writer.proofs.put.put.Statement.{statement}
@@ -11,7 +12,7 @@ slice-write-out c = search needs
 
 -- src/put.rt:19:16
 add-result : tie.Need-add-result
-add-result c = search needs
+add-result c = omega (arith, c .before .pre .fits)
 
 -- src/put.rt:19:9
 same-length : tie.Need-same-length
@@ -23,7 +24,7 @@ returns c = put-stored _ _ _ (c .if1 .taken)
 
 -- src/put.rt:21:5
 add-result-2 : tie.Need-add-result-2
-add-result-2 c = search needs
+add-result-2 c = omega (arith, c .before .pre .fits)
 
 -- src/put.rt:13:1
 returns-2 : tie.Need-returns-2

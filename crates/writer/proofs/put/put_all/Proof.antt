@@ -2,8 +2,8 @@ use native.Mathlib.Omega.{arith}
 use borrow.Author.Needs.{needs}
 use mathlib.Core.Path.{_≡_, refl, _∙_}
 use Prim.Native.Nat.{_+_, _-_, _≤_, _<_}
-use lib.ListN.{length, drop, length-drop}
-use Rattle.writer.specs.Put.{Left, left-all, byte-step, bytes-done, put-length}
+use lib.ListN.{length, drop}
+use Rattle.writer.specs.Put.{Left, left-all, byte-step, bytes-done, put-length, byte-room}
 use Rattle.writer.proofs.put.put_all.Statement.{statement}
 use Rattle.writer.proofs.put.put_all.Tie as tie
 use Rattle.writer.proofs.put.put_all.Reads as reads
@@ -26,7 +26,7 @@ shared-slice-read-put c = search needs
 
 -- src/put.rt:31:9
 put-requires : tie.Need-put-requires Inv-loop μ-loop
-put-requires c κs = omega (arith, c .before .before .before .loop .inv .1 .place, length-drop (c .before .before .before .loop .i) (c .before .before .before .before .before .before .args .bytes .now))
+put-requires c κs = byte-room (c .before .before .before .before .before .before .args .bytes .now) (c .before .before .before .loop .i) (c .before .before .loop-test .taken) (c .before .before .before .loop .inv .1) (c .before .before .before .before .before .before .pre)
 
 -- src/put.rt:32:9
 add-i : tie.Need-add-i Inv-loop μ-loop

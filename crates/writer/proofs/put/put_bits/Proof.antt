@@ -2,8 +2,8 @@ use native.Mathlib.Omega.{arith}
 use borrow.Author.Needs.{needs}
 use mathlib.Core.Path.{_≡_, refl, _∙_}
 use Prim.Native.Nat.{_+_, _-_, _≤_, _<_}
-use lib.ListN.{length, drop, length-drop}
-use Rattle.writer.specs.Put.{Left, left-all, bit-step, bits-done, put-length, bitsText-length}
+use lib.ListN.{length, drop}
+use Rattle.writer.specs.Put.{Left, left-all, bit-step, bits-done, put-length, bit-room}
 use Rattle.rules.specs.Writing.{bitsText}
 use Rattle.writer.proofs.put.put_bits.Statement.{statement}
 use Rattle.writer.proofs.put.put_bits.Tie as tie
@@ -31,7 +31,7 @@ add-put c = omega (arith, c .before .before .before .before .before .before .pre
 
 -- src/put.rt:46:9
 put-requires : tie.Need-put-requires Inv-loop μ-loop
-put-requires c κs = omega (arith, c .before .before .before .loop .inv .1 .place, length-drop (c .before .before .before .loop .i) (c .before .before .before .before .before .before .args .table .now), bitsText-length (c .before .before .before .before .before .before .args .table .now), bitsText-length (drop (c .before .before .before .loop .i) (c .before .before .before .before .before .before .args .table .now)))
+put-requires c κs = bit-room (c .before .before .before .before .before .before .args .table .now) (c .before .before .before .loop .i) (c .before .before .loop-test .taken) (c .before .before .before .loop .inv .1) (c .before .before .before .before .before .before .pre .1)
 
 -- src/put.rt:47:9
 add-i : tie.Need-add-i Inv-loop μ-loop

@@ -4,7 +4,7 @@ use mir.Facts.{toZ-ofZ}
 use mir.Val.{toZ, ofZ}
 use mir.Syntax.{w64}
 use lib.IntN.{natAbs}
-use Rattle.writer.specs.Put.{put-below, room-below, put-else, room-else}
+use Rattle.writer.specs.Put.{put-below, minus-room, room-below, put-else, room-else}
 use borrow.Author.Needs.{needs}
 use Rattle.writer.proofs.put.put_signed.Statement.{statement}
 use Rattle.writer.proofs.put.put_signed.Tie as tie
@@ -16,7 +16,7 @@ use Rattle.writer.proofs.put.put_number.Reads as put-number-reads
 
 -- src/put.rt:78:13
 put-requires : tie.Need-put-requires
-put-requires c κs = search needs
+put-requires c κs = let a = c .before .before .before in minus-room (a .args .n) (simp (toZ-ofZ (a .fits .n)) at (c .before .if1 .taken)) (a .pre .1)
 
 -- src/put.rt:79:36
 magnitude-requires : tie.Need-magnitude-requires
@@ -46,7 +46,7 @@ magnitude-requires-2 c κs = let a = c .before .before .before in simp (toZ-ofZ 
 put-number-requires-2 : tie.Need-put-number-requires-2
 put-number-requires-2 c κs =
     let a = c .before .before .before .before in
-    room-else (a .args .at) (a .args .n) (c .magnitude2 .ensures ∙ ap natAbs (toZ-ofZ (a .fits .n))) (simp (toZ-ofZ (a .fits .n)) at (c .before .before .if1 .left)) (a .pre .1)
+    room-else (a .args .n) (c .magnitude2 .ensures ∙ ap natAbs (toZ-ofZ (a .fits .n))) (simp (toZ-ofZ (a .fits .n)) at (c .before .before .if1 .left)) (a .pre .1)
 
 -- src/put.rt:72:1
 same-length-2 : tie.Need-same-length-2
