@@ -2,16 +2,15 @@
 use mathlib.Core.Path.{_≡_, refl, sym, ap, _∙_, subst}
 use mathlib.Core.Bool.{Bool, true, false, not, cond, _&&_}
 use Prim.Native.Nat.{ℕ, zero, suc, _+_, _*_, _-_, _/_, _%_, _<_, _≤_, _^_, _∣_, min}
-use native.Mathlib.Nat as N
 use native.Mathlib.Omega.{arith}
 use lib.Dec.{T, ltb, ltb→lt, nltb→le, lt→ltb, le→leb, leb→le}
 use lib.IntN.{ℤ, pos, negsuc, negℤ, natAbs, subℕ, _+ℤ_, _-ℤ_, _*ℤ_, negℤ-negℤ}
 use lib.Signed.{_≤ℤ_, _<ℤ_, leZ, ltZ, mag, quotZ, remZ, nonNeg}
-use mir.Syntax.{Width}
+use mir.Syntax.{Width, w64}
 use mir.Val.{SFits, hbits, toZ, ofZ}
 use mir.Facts.{toZ-ofZ}
-use mir.Syntax.{w64}
-use Rattle.laws.specs.Test.{and-true-left, and-true-right}
+use Rattle.laws.specs.Test.{both-left, both-right, T-is, T-not-is}
+use native.Mathlib.Nat as N
 
 -- z is plus z - minus z, and one of the two is 0
 unfoldable pub plus : ℤ → ℕ
@@ -143,14 +142,6 @@ ltZ-true x y e = ltZ-parts x y (subst T (sym e) tt)
 pub leZ-true : (x y : ℤ) → leZ x y ≡ true → plus x + minus y ≤ plus y + minus x
 leZ-true x y e = leZ-parts x y (subst T (sym e) tt)
 
-T-true : (b : Bool) → T b → b ≡ true
-T-true true t = refl
-T-true false t = absurd t
-
-T-false : (b : Bool) → (T b → ⊥) → b ≡ false
-T-false true f = absurd (f tt)
-T-false false f = refl
-
 false-T : (b : Bool) → b ≡ false → T b → ⊥
 false-T b e t = subst T e t
 
@@ -168,26 +159,30 @@ leZ-false x y e = by (λ h. false-T (leZ x y) e (parts-leZ x y h))
 
 -- and the other way, for a definition that goes by such a test
 pub true-ltZ : (x y : ℤ) → plus x + minus y < plus y + minus x → ltZ x y ≡ true
-true-ltZ x y h = T-true (ltZ x y) (parts-ltZ x y h)
+true-ltZ x y h = T-is (ltZ x y) (parts-ltZ x y h)
 
 pub true-leZ : (x y : ℤ) → plus x + minus y ≤ plus y + minus x → leZ x y ≡ true
-true-leZ x y h = T-true (leZ x y) (parts-leZ x y h)
+true-leZ x y h = T-is (leZ x y) (parts-leZ x y h)
 
 pub false-ltZ : (x y : ℤ) → plus y + minus x ≤ plus x + minus y → ltZ x y ≡ false
-false-ltZ x y h = T-false (ltZ x y) (λ t. let k = ltZ-parts x y t in omega arith)
+false-ltZ x y h = T-not-is (ltZ x y) (λ t. let k = ltZ-parts x y t in omega arith)
 
 pub false-leZ : (x y : ℤ) → plus y + minus x < plus x + minus y → leZ x y ≡ false
-false-leZ x y h = T-false (leZ x y) (λ t. let k = leZ-parts x y t in omega arith)
+false-leZ x y h = T-not-is (leZ x y) (λ t. let k = leZ-parts x y t in omega arith)
 
 pub eqZ-true : (x y : ℤ) → eqZ x y ≡ true → x ≡ y
 unfolding eqZ
 eqZ-true x y e =
-    let h = leZ-true x y (and-true-left (leZ x y) (leZ y x) e) in
-    let k = leZ-true y x (and-true-right (leZ x y) (leZ y x) e) in
+    let h = leZ-true x y (both-left (leZ x y) (leZ y x) e) in
+    let k = leZ-true y x (both-right (leZ x y) (leZ y x) e) in
     eq-of (omega arith)
 
 -- the rules that `omega` is handed beside `arith`: it then reads hypotheses of ℤ's order and equations, and proves such goals
 pub ruleset ints = (of-le, le-of, of-lt, lt-of, of-eq, eq-of, ltZ-true, ltZ-false, leZ-true, leZ-false)
+
+pub eqZ-of : (x y : ℤ) → x ≡ y → eqZ x y ≡ true
+unfolding eqZ
+eqZ-of x y e = rw (true-leZ x y (omega (arith, ints)), true-leZ y x (omega (arith, ints)))
 
 -- absolute values: what a bound is stated by, since `omega` reads it
 pub abs-mul : (x y : ℤ) → natAbs (x *ℤ y) ≡ natAbs x * natAbs y

@@ -3,6 +3,7 @@ pub mod Test
 pub mod Tests
 pub mod Integer
 pub mod Gcd
+pub mod Lists
 pub mod Tabulate
 pub mod Front
 pub mod Over

@@ -20,12 +20,17 @@ module _ {ℓ} {A : Type ℓ} where
   unfolding over
   over-append s t d = simp (append-assoc, length-append, drop-drop)
 
+  -- what is behind stays
+  pub drop-over : (s d : List A) (n : ℕ) → length s ≤ n → drop n (over s d) ≡ drop n d
+  unfolding over
+  drop-over s d n h = cut (n - length s) (omega arith)
+    where
+      cut : (k : ℕ) → length s + k ≡ n → drop n (s ++ drop (length s) d) ≡ drop n d
+      cut k e = rw (← e, drop-append-add) (drop-drop k (length s) d)
+
   pub over-over : (s t d : List A) → length s ≤ length t → over t (over s d) ≡ over t d
   unfolding over
-  over-over s t d h = ap {B = List A} (λ r. t ++ r) (cut (length t) (length t - length s) (omega arith))
-    where
-      cut : (n k : ℕ) → length s + k ≡ n → drop n (s ++ drop (length s) d) ≡ drop n d
-      cut n k e = rw (← e, drop-append-add) (drop-drop k (length s) d)
+  over-over s t d h = ap {B = List A} (λ r. t ++ r) (drop-over s d (length t) h)
 
   pub take-over : (s d : List A) (n : ℕ) → length s ≡ n → take n (over s d) ≡ s
   unfolding over

@@ -1,7 +1,12 @@
 -- The elements of a list at which a test holds.
-use mathlib.Core.Bool.{Bool, true, false, _&&_, _||_}
-use mathlib.Core.List.{List, [], _∷_}
-use Rattle.laws.specs.Test.{if_then_else_}
+use mathlib.Core.Path.{_≡_, refl}
+use mathlib.Core.Bool.{Bool, true, false, not, _&&_, _||_}
+use mathlib.Core.List.{List, [], _∷_, _++_}
+use Prim.Native.Nat.{ℕ, zero, suc, _+_, _≤_, _<_, zero-le}
+use native.Mathlib.Nat.{not-suc-le-zero, le-of-suc-le-suc}
+use native.Mathlib.Omega.{arith}
+use lib.ListN.{length, getD}
+use Rattle.laws.specs.Test.{if_then_else_, both, both-left, both-right}
 
 module _ {ℓ} {A : Type ℓ} where
   unfoldable pub select : (A → Bool) → List A → List A
@@ -16,3 +21,60 @@ module _ {ℓ} {A : Type ℓ} where
   unfoldable pub all : (A → Bool) → List A → Bool
   all f [] = true
   all f (x ∷ l) = let r = all f l in f x && r
+
+module _ {A : Type 0} where
+  pub all-at : (f : A → Bool) (l : List A) (d : A) → all f l ≡ true → (i : ℕ) → i < length l → f (getD l i d) ≡ true
+  unfolding all
+  all-at f [] d e i h = absurd (not-suc-le-zero h)
+  all-at f (x ∷ l) d e zero h = both-left (f x) (all f l) e
+  all-at f (x ∷ l) d e (suc i) h = all-at f l d (both-right (f x) (all f l) e) i (le-of-suc-le-suc h)
+
+  pub all-append : (f : A → Bool) (s t : List A) → all f s ≡ true → all f t ≡ true → all f (s ++ t) ≡ true
+  unfolding all
+  all-append f [] t h k = k
+  all-append f (x ∷ s) t h k = both (f x) (all f (s ++ t)) (both-left (f x) (all f s) h) (all-append f s t (both-right (f x) (all f s) h) k)
+
+  pub selected-holds : (f : A → Bool) (d : A) (l : List A) (i : ℕ) → i < length (select f l) → f (getD (select f l) i d) ≡ true
+  unfolding select
+  selected-holds f d [] i h = absurd (not-suc-le-zero h)
+  selected-holds f d (x ∷ l) i h = by (f x) refl i h (selected-holds f d l)
+    where
+      by : (b : Bool) → f x ≡ b → (i : ℕ) → i < length (if b then x ∷ select f l else select f l)
+          → ((j : ℕ) → j < length (select f l) → f (getD (select f l) j d) ≡ true)
+          → f (getD (if b then x ∷ select f l else select f l) i d) ≡ true
+      by true q zero h r = q
+      by true q (suc i) h r = r i (le-of-suc-le-suc h)
+      by false q i h r = r i h
+
+  pub select-le : (f : A → Bool) (l : List A) → length (select f l) ≤ length l
+  unfolding select
+  select-le f [] = zero-le
+  select-le f (x ∷ l) = by (f x) (select-le f l)
+    where
+      by : (t : Bool) → length (select f l) ≤ length l → length (if t then x ∷ select f l else select f l) ≤ suc (length l)
+      by true r = omega arith
+      by false r = omega arith
+
+  pub select-split : (f : A → Bool) (l : List A) → length l ≡ length (select f l) + length (select (λ x. not (f x)) l)
+  unfolding select
+  select-split f [] = refl
+  select-split f (x ∷ l) = by (f x) (select-split f l)
+    where
+      by : (a : Bool) → length l ≡ length (select f l) + length (select (λ x. not (f x)) l)
+          → suc (length l) ≡ length (if a then x ∷ select f l else select f l) + length (if not a then x ∷ select (λ x. not (f x)) l else select (λ x. not (f x)) l)
+      by true r = omega arith
+      by false r = omega arith
+
+module _ {A : Type 0} (f g : A → Bool) where
+  pub select-or : (l : List A) → length (select (λ x. f x || g x) l) ≤ length (select f l) + length (select g l)
+  unfolding select
+  select-or [] = zero-le
+  select-or (x ∷ l) = by (f x) (g x) (select-or l)
+    where
+      by : (a b : Bool) → length (select (λ x. f x || g x) l) ≤ length (select f l) + length (select g l)
+          → length (if a || b then x ∷ select (λ x. f x || g x) l else select (λ x. f x || g x) l)
+          ≤ length (if a then x ∷ select f l else select f l) + length (if b then x ∷ select g l else select g l)
+      by true true r = omega arith
+      by true false r = omega arith
+      by false true r = omega arith
+      by false false r = r

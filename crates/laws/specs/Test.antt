@@ -1,6 +1,6 @@
 -- Tests that compute, and what they say.
 use mathlib.Core.Path.{_≡_, refl, sym, subst}
-use mathlib.Core.Bool.{Bool, true, false, not, _&&_, _||_, true≢false, false≢true}
+use mathlib.Core.Bool.{Bool, true, false, not, _&&_, _||_}
 use mathlib.Core.List.{List, [], _∷_}
 use mathlib.Core.Logic.{_⊎_, inl, inr, ⊎-elim}
 use mathlib.Core.Option.{Option, none, some}
@@ -8,6 +8,7 @@ use Prim.Native.Nat.{ℕ, zero, suc, _+_, _<_, _≤_}
 use native.Mathlib.Nat.{not-suc-le-zero, le-of-suc-le-suc, eq-or-lt-of-le}
 use native.Mathlib.Omega.{arith}
 use native.Mathlib.Numerals.{add-one}
+use borrow.Author.Tests.{eq-eqb, ne-eqb}
 use lib.Dec.{T, eqb, eqb-refl, ltb, ltb→lt, nltb→le}
 use lib.ListN.{length, getD}
 
@@ -33,23 +34,6 @@ and-right false b t = absurd t
 pub and-both : (a b : Bool) → T a → T b → T (a && b)
 and-both true b s t = t
 and-both false b s t = absurd s
-
--- the same as equations
-pub and-true-left : (a b : Bool) → (a && b) ≡ true → a ≡ true
-and-true-left true b e = refl
-and-true-left false b e = e
-
-pub and-true-right : (a b : Bool) → (a && b) ≡ true → b ≡ true
-and-true-right true b e = e
-and-true-right false b e = absurd (false≢true e)
-
-pub or-false-left : (a b : Bool) → (a || b) ≡ false → a ≡ false
-or-false-left true b e = e
-or-false-left false b e = refl
-
-pub or-false-right : (a b : Bool) → (a || b) ≡ false → b ≡ false
-or-false-right true b e = absurd (true≢false e)
-or-false-right false b e = e
 
 -- two constructors that are said to be one: `cc` then proves 0 ≡ 1
 pub zero≢one : _≡_ {A = ℕ} 0 1 → ⊥
@@ -142,3 +126,40 @@ both-left false b h = h
 pub both-right : (a b : Bool) → (a && b) ≡ true → b ≡ true
 both-right true b h = h
 both-right false b h = absurd (subst T (sym h) tt)
+
+pub or-by-right : (a b : Bool) → b ≡ true → (a || b) ≡ true
+or-by-right true b e = refl
+or-by-right false b e = e
+
+pub or-cases : (a b : Bool) → (a || b) ≡ true → (a ≡ true) ⊎ (b ≡ true)
+or-cases true b e = inl refl
+or-cases false b e = inr e
+
+pub both : (a b : Bool) → a ≡ true → b ≡ true → (a && b) ≡ true
+both a b e f = rw (e, f) refl
+
+pub neither : (a b : Bool) → a ≡ false → b ≡ false → (a || b) ≡ false
+neither a b e f = rw (e, f) refl
+
+pub not-of-false : (a : Bool) → a ≡ false → not a ≡ true
+not-of-false a e = rw e refl
+
+pub not-of-true : (a : Bool) → a ≡ true → not a ≡ false
+not-of-true a e = rw e refl
+
+pub and-swap : (a b c : Bool) → (a && (b && c)) ≡ (b && (a && c))
+and-swap true true c = refl
+and-swap true false c = refl
+and-swap false true c = refl
+and-swap false false c = refl
+
+pub or-swap : (a b c : Bool) → (a || (b || c)) ≡ (b || (a || c))
+or-swap true true c = refl
+or-swap true false c = refl
+or-swap false true c = refl
+or-swap false false c = refl
+
+pub eqb-swap : (a b : ℕ) → eqb a b ≡ eqb b a
+eqb-swap a b =
+    ⊎-elim (λ (e : a ≡ b). rw (eq-eqb a b e, eq-eqb b a (sym e))) (λ (e : a ≡ b → ⊥). rw (ne-eqb a b e, ne-eqb b a (λ f. e (sym f))))
+    (eq-or-ne a b)

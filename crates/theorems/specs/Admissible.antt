@@ -10,12 +10,12 @@ use lib.Dec.{T, leb}
 use lib.IntN.{ℤ, pos, _+ℤ_}
 use lib.ListN.{length}
 use Rattle.laws.specs.Integer.{eqZ, eqZ-true}
-use Rattle.laws.specs.Test.{or-false-left, and-true-left, and-true-right, is-T, zero≢one}
+use Rattle.laws.specs.Test.{is-T, zero≢one, neither-left, both-left, both-right}
 use Rattle.rules.specs.declared.Wire.{Wire}
 use Rattle.rules.specs.Circuit.{Output}
 use Rattle.rules.specs.CircuitText.{noNode}
 use Rattle.rules.specs.Builder.{tableLimits}
-use Rattle.rules.specs.Form.{Reading, Good, lines}
+use Rattle.rules.specs.Form.{Good, lines}
 use Rattle.rules.specs.Network.{Term, LutNode, Input, Linear, Bootstrap, Network, leastOf, greatestOf, nodeNorm}
 use Rattle.rules.specs.NetworkText.{Net, NetworkLine, NetLine, NodeLine, OutLine, NetPrefix, sources, unknown, nodeAt, anyBadSource, started, ending, settingsOf, over, fitsTable, noBit, networkLine, textConditions, safetyConditions, admissionConditions, withNetworkLine, withNet, networkEnded, noNetwork, readAdmitted}
 use Rattle.rules.specs.Rotation.{rotatable}
@@ -24,6 +24,7 @@ use Rattle.theorems.specs.Readings.{NoneMet}
 use Rattle.theorems.specs.AdmissionExact.{admissions}
 use Rattle.theorems.specs.GoodTexts.{kept}
 use Rattle.theorems.specs.LineBits.{WireBit, NodeBits, LineBits, line-bits}
+use Rattle.theorems.specs.Results.{good-same}
 
 -- A line after a `net` line, nodes and outputs: it meets none of 21 to 26, and its bits are bits.
 unfoldable pub Passes : Net → List LutNode → List Output → NetworkLine → Type 0
@@ -49,7 +50,7 @@ pub record Admissible (w : Network) : Type 0 where
 
 -- ---- One more line.
 
-nodes-snoc : (n : Net) (before xs : List LutNode) (x : LutNode) → NodesPass n before xs → Passes n (before ++ xs) [] (NodeLine x)
+pub nodes-snoc : (n : Net) (before xs : List LutNode) (x : LutNode) → NodesPass n before xs → Passes n (before ++ xs) [] (NodeLine x)
     → NodesPass n before (xs ++ (x ∷ []))
 unfolding NodesPass
 nodes-snoc n before [] x p q = (rw append-nil at q, tt)
@@ -76,7 +77,7 @@ nil (x ∷ l) h = absurd (omega arith)
 -- a node line comes before the outputs
 no-outputs : (w : NetPrefix) (x : LutNode) → NoneMet (admissionConditions w (NodeLine x)) → w .outputs ≡ []
 unfolding NoneMet admissionConditions textConditions ending
-no-outputs w (Input a) m = nil (w .outputs) (leb-false 1 (length (w .outputs)) (or-false-left _ _ (m .1 .0)))
+no-outputs w (Input a) m = nil (w .outputs) (leb-false 1 (length (w .outputs)) (neither-left _ _ (m .1 .0)))
 no-outputs w (Linear c ts) m = nil (w .outputs) (leb-false 1 (length (w .outputs)) (m .1 .0))
 no-outputs w (Bootstrap i table) m = nil (w .outputs) (leb-false 1 (length (w .outputs)) (m .1 .0))
 
@@ -101,9 +102,6 @@ with-line (some n) ns os i (OutLine o) m b s = (s .0, s .1, outputs-snoc n ns []
 
 -- ---- At the text's end.
 
-good-same : (v w : Network) → _≡_ {A = Reading Network} (Good v) (Good w) → v ≡ w
-good-same v w e = cc
-
 at-end : (o : Option Net) (i : ℕ) (ns : List LutNode) (os : List Output) (w : Network) → Passed o ns os
     → withNet i (record { net = o; nodes = ns; outputs = os }) o ≡ Good w → Admissible w
 unfolding Passed withNet netOf
@@ -113,7 +111,7 @@ at-end (some n) i ns os w s e = subst Admissible (good-same _ w e) (record { lim
 pub admitted-admissible : (text : List ℕ) (w : Network) → readAdmitted text ≡ Good w → Admissible w
 unfolding admissions readAdmitted networkEnded noNetwork PassedSoFar Passed
 admitted-admissible text w e =
-    let r = kept admissions networkEnded PassedSoFar kept-so 1 noNetwork (lines text) w (refl, refl) e in
+    let r = kept admissions networkEnded (λ i c. PassedSoFar c) kept-so 1 noNetwork (lines text) w (refl, refl) e in
     at-end (r .1 .net) (r .0) (r .1 .nodes) (r .1 .outputs) w (r .2) (r .3)
   where
     kept-so : (i : ℕ) (c : NetPrefix) (s : List ℕ) (l : NetworkLine) → networkLine s ≡ some l → NoneMet (admissionConditions c l) → PassedSoFar c
@@ -142,8 +140,8 @@ unfolding Passes NoneMet admissionConditions textConditions safetyConditions set
 boot-passes n ns i table p =
     record {
       earlier = leb-false (length ns) i (p .0 .1 .1 .1 .1 .0);
-      least = eqZ-true _ _ (and-true-left low high (and-true-left (low && high) short fits));
-      greatest = eqZ-true _ _ (and-true-right low high (and-true-left (low && high) short fits));
+      least = eqZ-true _ _ (both-left low high (both-left (low && high) short fits));
+      greatest = eqZ-true _ _ (both-right low high (both-left (low && high) short fits));
       turns = is-T (rotatable (n .p) table) (not-false (rotatable (n .p) table) (p .0 .1 .1 .1 .1 .1 .1 .0));
       bits = p .1;
     }

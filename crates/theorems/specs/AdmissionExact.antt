@@ -7,9 +7,8 @@ use mathlib.Core.Option.{Option, none, some}
 use Prim.Native.Nat.{ℕ, _≤_}
 use native.Mathlib.Omega.{arith}
 use borrow.Author.Tests.{not-false}
-use Rattle.laws.specs.Test.{isSome, or-false-left, zero≢one}
+use Rattle.laws.specs.Test.{isSome, zero≢one, neither-left}
 use Rattle.rules.specs.declared.AdmitReply.the-variants.{Admitted}
-use Rattle.rules.specs.declared.AdmitReply.the-variants as Admit
 use Rattle.rules.specs.declared.Settings.{Settings}
 use Rattle.rules.specs.declared.Stats.{Stats}
 use Rattle.rules.specs.Circuit.{Circuit}
@@ -17,9 +16,10 @@ use Rattle.rules.specs.Form.{Condition, Reading, Good, Refused}
 use Rattle.rules.specs.CircuitText.{CircuitLine, FbsLine, InLine, GateLine, OutLine, Prefix, circuitLine, conditions, withLine, ended, withSettings, nothing, readCircuit}
 use Rattle.rules.specs.Network.{Input, Linear, Bootstrap, Network, stats}
 use Rattle.rules.specs.NetworkText.{Net, NetworkLine, NetLine, NodeLine, NetPrefix, started, networkLine, textConditions, safetyConditions, admissionConditions, withNetworkLine, withNet, networkEnded, noNetwork, readNetwork, readAdmitted, admitReply, admission}
-use Rattle.rules.specs.NetworkText as NetworkText
 use Rattle.theorems.specs.Refusals.{Kind, Holds, First, Exact}
 use Rattle.theorems.specs.Readings.{LowestFirst, NoneMet, Regular, exact, holds-within}
+use Rattle.rules.specs.declared.AdmitReply.the-variants as Admit
+use Rattle.rules.specs.NetworkText as NetworkText
 
 -- ---- The statement.
 
@@ -55,8 +55,8 @@ circuits-numbered c (OutLine o) = omega arith
 circuits-open : (n : ℕ) (c : Prefix) (l : CircuitLine) → NoneMet (conditions c l) → isSome (withLine n c l .settings) ≡ true
 unfolding NoneMet conditions withLine
 circuits-open n c (FbsLine s) m = refl
-circuits-open n c (InLine a) m = not-false _ (or-false-left _ _ (m .1 .0))
-circuits-open n c (GateLine b ws) m = not-false _ (or-false-left _ _ (m .1 .0))
+circuits-open n c (InLine a) m = not-false _ (neither-left _ _ (m .1 .0))
+circuits-open n c (GateLine b ws) m = not-false _ (neither-left _ _ (m .1 .0))
 circuits-open n c (OutLine o) m = not-false _ (m .1 .0)
 
 with-settings : (n : ℕ) (c : Prefix) (o : Option Settings) → isSome o ≡ true → (x : Circuit) × (withSettings n c o ≡ Good x)
@@ -64,7 +64,7 @@ unfolding withSettings
 with-settings n c none e = absurd (zero≢one (cc))
 with-settings n c (some s) e = (_, refl)
 
-circuits-regular : Regular circuits ended 1 7
+pub circuits-regular : Regular circuits ended 1 7
 unfolding circuits ended nothing withSettings
 circuits-regular =
     record {

@@ -7,14 +7,14 @@ use mathlib.Core.Option.{some, Option·map}
 use Prim.Native.Nat.{ℕ, zero, suc, _<_, _≤_}
 use native.Mathlib.Omega.{arith}
 use borrow.Author.Tests.{le-ltb, leb-false, ltb-false, not-false}
-use lib.Dec.{T, leb, eqb, leb→le}
+use lib.Dec.{T, eqb}
 use lib.IntN.{ℤ, pos, negsuc, _+ℤ_}
 use lib.ListN.{length-map, length, getD, length-append, List·getD-append, List·getD-eq-default}
 use lib.Seq.{getD-at}
 use lib.Signed.{_≤ℤ_, leZ}
 use Rattle.laws.specs.Integer.{plus, minus, add-parts, ints}
 use Rattle.laws.specs.Over.{over}
-use Rattle.laws.specs.Test.{and-left, and-right, and-true-left, and-true-right, is-T, T-is, lt-or-le, zero≢one}
+use Rattle.laws.specs.Test.{and-right, is-T, T-is, lt-or-le, zero≢one, both-left, both-right}
 use Rattle.rules.specs.declared.AdmitReply.the-variants.{Admitted}
 use Rattle.rules.specs.declared.Limit.{Limit}
 use Rattle.rules.specs.declared.Limit.the-variants.{Unlimited, AtMost}
@@ -35,6 +35,7 @@ use Rattle.theorems.specs.Bounds.{ZeroOrOne, Bounded, bit-between, sum-b
 use Rattle.theorems.specs.LineBits.{WireBit}
 use Rattle.theorems.specs.GoodTexts.{fewer}
 use Rattle.theorems.specs.RotationRule.{rotation-rule}
+use Rattle.theorems.specs.Bits.{bit-at}
 
 -- ---- The statement.
 
@@ -77,14 +78,8 @@ unfolding plus minus
 inside-table (pos v) g n h k e = (v, refl, omega (arith, ints, add-parts g (pos 1)))
 inside-table (negsuc v) g n h k e = absurd (omega (arith, ints))
 
-bit-of : (table : List ℕ) (i : ℕ) → T (allBits table) → getD table i 0 ≤ 1
-unfolding allBits
-bit-of [] i t = omega arith
-bit-of (b ∷ table) zero t = leb→le b 1 (and-left (leb b 1) (allBits table) t)
-bit-of (b ∷ table) (suc i) t = bit-of table i (and-right (leb b 1) (allBits table) t)
-
 module _ (n : Net) (ns : List LutNode) (values : List ℤ) (b : Bounded ns values) where
-  looked-up : (i : ℕ) (table : List ℕ) → BootPasses n ns i table
+  pub looked-up : (i : ℕ) (table : List ℕ) → BootPasses n ns i table
       → (v : ℕ) × (getD values i (pos 0) ≡ pos v) × (v < length table) × (rotated (n .p) table (getD values i (pos 0)) ≡ some (pos (getD table v 0)))
   looked-up i table p =
       let r = rotation-rule (n .p) table in
@@ -94,11 +89,11 @@ module _ (n : Net) (ns : List LutNode) (values : List ℤ) (b : Bounded ns value
 
 -- ---- A node.
 
-bit-least : (b : ℕ) → pos 0 ≤ℤ pos b
+pub bit-least : (b : ℕ) → pos 0 ≤ℤ pos b
 unfolding plus minus
 bit-least b = omega (arith, ints)
 
-bit-greatest : (b : ℕ) → b ≤ 1 → pos b ≤ℤ pos 1
+pub bit-greatest : (b : ℕ) → b ≤ 1 → pos b ≤ℤ pos 1
 unfolding plus minus
 bit-greatest b h = omega (arith, ints)
 
@@ -118,7 +113,7 @@ module _ (n : Net) (bits : List ℕ) (good : T (allBits bits)) (ns : List LutNod
         value = pos (getD bits (length values) 0);
         is = refl;
         least = bit-least (getD bits (length values) 0);
-        greatest = bit-greatest (getD bits (length values) 0) (bit-of bits (length values) good);
+        greatest = bit-greatest (getD bits (length values) 0) (bit-at bits (length values) good);
         boot = λ i table e. absurd (zero≢one (cc));
       }
   valued (Linear c ts) p =
@@ -141,19 +136,19 @@ module _ (n : Net) (bits : List ℕ) (good : T (allBits bits)) (ns : List LutNod
         value = pos (getD table (v .0) 0);
         is = v .3;
         least = bit-least (getD table (v .0) 0);
-        greatest = bit-greatest (getD table (v .0) 0) (bit-of table (v .0) (h .bits));
+        greatest = bit-greatest (getD table (v .0) 0) (bit-at table (v .0) (h .bits));
         boot = λ j t e. subst₂ (λ j t. (j < length values) × Lookup (n .p) t (getD values j (pos 0)) (pos (getD table (v .0) 0))) (cc) (cc) (k, r);
       }
 
 -- ---- The run.
 
 -- of the nodes ns after these values, where all are the nodes from the start
-record Run (P : ℕ) (bits : List ℕ) (all : List LutNode) (values : List ℤ) (ns : List LutNode) : Type 0 where
-  final : List ℤ
-  run : nodeValues P bits values ns ≡ some final
-  bounded : Bounded all final
-  kept : (i : ℕ) → i < length values → getD final i (pos 0) ≡ getD values i (pos 0)
-  boots : (k i : ℕ) (table : List ℕ) → length values ≤ k → nodeAt all k ≡ Bootstrap i table
+pub record Run (P : ℕ) (bits : List ℕ) (all : List LutNode) (values : List ℤ) (ns : List LutNode) : Type 0 where
+  pub final : List ℤ
+  pub run : nodeValues P bits values ns ≡ some final
+  pub bounded : Bounded all final
+  pub kept : (i : ℕ) → i < length values → getD final i (pos 0) ≡ getD values i (pos 0)
+  pub boots : (k i : ℕ) (table : List ℕ) → length values ≤ k → nodeAt all k ≡ Bootstrap i table
       → (i < k) × Lookup P table (getD final i (pos 0)) (getD final k (pos 0))
 
 no-node : (ns : List LutNode) (k i : ℕ) (table : List ℕ) → length ns ≤ k → nodeAt ns k ≡ Bootstrap i table → ⊥
@@ -208,7 +203,7 @@ module _ (n : Net) (bits : List ℕ) (good : T (allBits bits)) (all : List LutNo
           let l = v .boot i table (sym (node k h) ∙ g) in
           (omega arith, rw (old i (l .0), new k h) (l .1))
 
-  ran-all : (ns : List LutNode) (values : List ℤ) (xs : List LutNode) → ns ++ xs ≡ all → NodesPass n ns xs → Bounded ns values
+  pub ran-all : (ns : List LutNode) (values : List ℤ) (xs : List LutNode) → ns ++ xs ≡ all → NodesPass n ns xs → Bounded ns values
       → Run (n .p) bits all values xs
   unfolding NodesPass
   ran-all ns values [] e p b = ran-none ns values e b
@@ -233,8 +228,8 @@ module _ (ns : List LutNode) (values : List ℤ) (b : Bounded ns values) where
       let l = leb-false (length ns) i (p .earlier) in
       let e = not-false (isBit (nodeAt ns i)) (p .isBit) in
       bit-between (getD values i (pos 0))
-      (≤ℤ-trans _ _ _ (leZ-yes _ _ (and-true-left low high e)) (b .least i l))
-      (≤ℤ-trans _ _ _ (b .greatest i l) (leZ-yes _ _ (and-true-right low high e)))
+      (≤ℤ-trans _ _ _ (leZ-yes _ _ (both-left low high e)) (b .least i l))
+      (≤ℤ-trans _ _ _ (b .greatest i l) (leZ-yes _ _ (both-right low high e)))
     where
       low : Bool
       low = leZ (pos 0) (leastOf (nodeAt ns i))
@@ -264,10 +259,10 @@ norms-within n before (x ∷ ns) p (suc k) limit c ts e f = norms-within n (befo
 
 -- ---- A text.
 
-no-values : Bounded [] []
+pub no-values : Bounded [] []
 no-values = record { long = refl; least = λ i h. absurd (omega arith); greatest = λ i h. absurd (omega arith) }
 
-safe-on : (w : Network) (bits : List ℕ) → Admissible w → T (allBits bits) → Safe w bits
+pub safe-on : (w : Network) (bits : List ℕ) → Admissible w → T (allBits bits) → Safe w bits
 unfolding networkRun netOf
 safe-on w bits a good =
     let r = ran-all (netOf w) bits good (w .nodes) [] [] (w .nodes) refl (a .nodes) no-values in
@@ -282,7 +277,7 @@ safe-on w bits a good =
     }
 
 -- an admitted text is read by a run
-admitted-read : (text : List ℕ) (w : Network) → readAdmitted text ≡ Good w → readNetwork text ≡ Good w
+pub admitted-read : (text : List ℕ) (w : Network) → readAdmitted text ≡ Good w → readNetwork text ≡ Good w
 unfolding admissions readAdmitted readNetwork
 admitted-read text w e = fewer admissions networkEnded textConditions admission-text 1 noNetwork (lines text) w e
 

@@ -11,7 +11,7 @@ use lib.ListN.{length, getD, length-append, List·getD-append}
 use lib.Seq.{getD-at}
 use lib.Signed.{_≤ℤ_, ≤ℤ-refl}
 use Rattle.laws.specs.Integer.{plus, minus, add-parts, plus-mul, minus-mul, ints}
-use Rattle.laws.specs.Test.{or-false-left, or-false-right, lt-or-le, zero≢one}
+use Rattle.laws.specs.Test.{lt-or-le, zero≢one, neither-left, neither-right}
 use Rattle.rules.specs.Network.{Term, LutNode, Input, Linear, Bootstrap, isLinear, below0, above0, leastSum, greatestSum, leastOf, greatestOf, sumFrom}
 use Rattle.rules.specs.NetworkText.{sources, unknown, nodeAt, anyBadSource}
 
@@ -68,11 +68,16 @@ bit-between (pos (suc zero)) h k = inr refl
 bit-between (pos (suc (suc a))) h k = absurd (omega (arith, ints))
 bit-between (negsuc a) h k = absurd (omega (arith, ints))
 
-bit-node : (x : LutNode) (v : ℤ) → isLinear x ≡ false → leastOf x ≤ℤ v → v ≤ℤ greatestOf x → ZeroOrOne v
+pub bit-node : (x : LutNode) (v : ℤ) → isLinear x ≡ false → leastOf x ≤ℤ v → v ≤ℤ greatestOf x → ZeroOrOne v
 unfolding isLinear leastOf greatestOf
 bit-node (Input a) v e h k = bit-between v h k
 bit-node (Linear c ts) v e h k = absurd (zero≢one (cc))
 bit-node (Bootstrap i table) v e h k = bit-between v h k
+
+-- A node that is no sum is a bit.
+pub source-bit : (nodes : List LutNode) (values : List ℤ) (n : ℕ) → Bounded nodes values → n < length nodes → isLinear (nodeAt nodes n) ≡ false
+    → ZeroOrOne (getD values n (pos 0))
+source-bit nodes values n b l e = bit-node (nodeAt nodes n) (getD values n (pos 0)) e (b .least n l) (b .greatest n l)
 
 module _ (ns : List LutNode) (values : List ℤ) (b : Bounded ns values) where
   -- a `lin` stands on `in` and `boot` nodes
@@ -81,10 +86,10 @@ module _ (ns : List LutNode) (values : List ℤ) (b : Bounded ns values) where
   source-bits [] e = tt
   source-bits (t ∷ ts) e =
       let bad = unknown ns (t .node) || isLinear (nodeAt ns (t .node)) in
-      let f = or-false-left bad _ e in
-      let i = leb-false (length ns) (t .node) (or-false-left (unknown ns (t .node)) _ f) in (
-        bit-node (nodeAt ns (t .node)) _ (or-false-right (unknown ns (t .node)) _ f) (b .least _ i) (b .greatest _ i),
-        source-bits ts (or-false-right bad _ e),
+      let f = neither-left bad _ e in
+      let i = leb-false (length ns) (t .node) (neither-left (unknown ns (t .node)) _ f) in (
+        bit-node (nodeAt ns (t .node)) _ (neither-right (unknown ns (t .node)) _ f) (b .least _ i) (b .greatest _ i),
+        source-bits ts (neither-right bad _ e),
       )
 
   pub sum-bounded : (c : ℤ) (ts : List Term) → anyBadSource ns (sources ts) ≡ false

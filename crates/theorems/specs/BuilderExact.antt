@@ -49,14 +49,17 @@ unfolding fromTable
 from-table buffer t h = rw (le-ltb (length buffer) (length t) h)
 
 -- a table within the limits fits 32 bytes
+pub limits-period : (P M : ℕ) → tableLimits P M ≡ true → P ≤ 16
+unfolding tableLimits
+limits-period P M e =
+    let least = and-left (leb 2 P && leb P 16 && leb P M) (leb M (2 * P)) (is-T (tableLimits P M) e) in
+    leb→le P 16 (and-right (leb 2 P) (leb P 16) (and-left (leb 2 P && leb P 16) (leb P M) least))
+
 pub limits-most : (P M : ℕ) → tableLimits P M ≡ true → M ≤ 32
 unfolding tableLimits
 limits-most P M e =
-    let all = is-T (tableLimits P M) e in
-    let longest = leb→le M (2 * P) (and-right (leb 2 P && leb P 16 && leb P M) (leb M (2 * P)) all) in
-    let least = and-left (leb 2 P && leb P 16 && leb P M) (leb M (2 * P)) all in
-    let period = leb→le P 16 (and-right (leb 2 P) (leb P 16) (and-left (leb 2 P && leb P 16) (leb P M) least)) in
-    omega arith
+    let longest = leb→le M (2 * P) (and-right (leb 2 P && leb P 16 && leb P M) (leb M (2 * P)) (is-T (tableLimits P M) e)) in
+    omega (arith, limits-period P M e)
 
 module _ (P M : ℕ) (values : List ℤ) (truths buffer : List ℕ) where
   pub bad-settings : tableLimits P M ≡ false → builder P M values truths buffer ≡ outcome (refused 2 0) buffer

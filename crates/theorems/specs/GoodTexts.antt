@@ -21,7 +21,7 @@ judged-good {A} i (c ∷ cs) next a e = by (c .met) refl e (judged-good i cs nex
 
 module _ {S L A : Type 0} (K : Kind S L) (ended : ℕ → S → Reading A) where
   -- the first line of a good text, and what is read after it
-  first-line : (n : ℕ) (c : S) (s : List ℕ) (ls : List (List ℕ)) (a : A) → reading K ended n c (s ∷ ls) ≡ Good a
+  pub first-line : (n : ℕ) (c : S) (s : List ℕ) (ls : List (List ℕ)) (a : A) → reading K ended n c (s ∷ ls) ≡ Good a
       → (l : L) × (K .form s ≡ some l) × NoneMet (K .conditions c l) × (reading K ended (n + 1) (K .withLine n c l) ls ≡ Good a)
   unfolding readLines onLine
   first-line n c s ls a e = by (K .form s) refl e
@@ -33,8 +33,8 @@ module _ {S L A : Type 0} (K : Kind S L) (ended : ℕ → S → Reading A) where
       by (some l) f e = let r = judged-good n (K .conditions c l) _ a e in (l, f, r .0, r .1)
 
   -- what holds at the start and is kept by each line that meets no condition holds at the end
-  pub kept : (I : S → Type 0) → ((n : ℕ) (c : S) (s : List ℕ) (l : L) → K .form s ≡ some l → NoneMet (K .conditions c l) → I c → I (K .withLine n c l))
-      → (n : ℕ) (c : S) (ls : List (List ℕ)) (a : A) → I c → reading K ended n c ls ≡ Good a → (m : ℕ) × (d : S) × I d × (ended m d ≡ Good a)
+  pub kept : (I : ℕ → S → Type 0) → ((n : ℕ) (c : S) (s : List ℕ) (l : L) → K .form s ≡ some l → NoneMet (K .conditions c l) → I n c → I (n + 1) (K .withLine n c l))
+      → (n : ℕ) (c : S) (ls : List (List ℕ)) (a : A) → I n c → reading K ended n c ls ≡ Good a → (m : ℕ) × (d : S) × I m d × (ended m d ≡ Good a)
   unfolding readLines
   kept I step n c [] a i e = (n, c, i, e)
   kept I step n c (s ∷ ls) a i e =

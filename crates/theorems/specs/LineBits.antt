@@ -34,12 +34,12 @@ LineBits (OutLine o) = WireBit (o .wire)
 
 -- ---- Readers: what they give, if anything, is Q.
 
-Gives : {A : Type 0} → (A → Type 0) → Option (Piece A) → Type 0
+unfoldable pub Gives : {A : Type 0} → (A → Type 0) → Option (Piece A) → Type 0
 Gives Q none = Unit {0}
 Gives Q (some t) = Q (t .value)
 
 module _ {A B : Type 0} (R : A → Type 0) (Q : B → Type 0) where
-  onward-gives : (o : Option (Piece A)) (f : A → Reader B) → Gives R o → ((a : A) (s : List ℕ) → R a → Gives Q (f a s)) → Gives Q (onward o f)
+  pub onward-gives : (o : Option (Piece A)) (f : A → Reader B) → Gives R o → ((a : A) (s : List ℕ) → R a → Gives Q (f a s)) → Gives Q (onward o f)
   unfolding onward Gives
   onward-gives none f g h = tt
   onward-gives (some t) f g h = h (t .value) (t .rest) g
@@ -54,15 +54,15 @@ gives-anything (some t) = tt
 
 -- a piece of which nothing is asked, and then the next
 module _ {A B : Type 0} (Q : B → Type 0) where
-  then-gives : (o : Option (Piece A)) (f : A → Reader B) → ((a : A) (s : List ℕ) → Gives Q (f a s)) → Gives Q (onward o f)
+  pub then-gives : (o : Option (Piece A)) (f : A → Reader B) → ((a : A) (s : List ℕ) → Gives Q (f a s)) → Gives Q (onward o f)
   then-gives o f h = onward-gives anything Q o f (gives-anything o) (λ a s r. h a s)
 
-either-gives : {A : Type 0} (Q : A → Type 0) (o p : Option (Piece A)) → Gives Q o → Gives Q p → Gives Q (either o p)
+pub either-gives : {A : Type 0} (Q : A → Type 0) (o p : Option (Piece A)) → Gives Q o → Gives Q p → Gives Q (either o p)
 unfolding either Gives
 either-gives Q none p g h = h
 either-gives Q (some t) p g h = g
 
-only-gives : {A : Type 0} (Q : A → Type 0) (o : Option (Piece A)) → Gives Q o → (a : A) → only o ≡ some a → Q a
+pub only-gives : {A : Type 0} (Q : A → Type 0) (o : Option (Piece A)) → Gives Q o → (a : A) → only o ≡ some a → Q a
 unfolding only Gives
 only-gives Q none g a e = absurd (zero≢one (cc))
 only-gives Q (some t) g a e = by (eqb (length (t .rest)) 0) e
@@ -92,7 +92,7 @@ run-bits (b ∷ s) = by (isBitByte b) (bit-byte b) (run-bits s)
     by true f r = and-both (leb (b - 48) 1) (allBits (bitsFrom (run isBitByte s))) (f refl) r
     by false f r = tt
 
-bits-gives : (s : List ℕ) → Gives (λ b. T (allBits b)) (bits s)
+pub bits-gives : (s : List ℕ) → Gives (λ b. T (allBits b)) (bits s)
 unfolding bits runOf onward Gives
 bits-gives s = by (isBits (run isBitByte s))
   where
@@ -102,7 +102,7 @@ bits-gives s = by (isBits (run isBitByte s))
     by true = run-bits s
     by false = tt
 
-wire-gives : (s : List ℕ) → Gives WireBit (wire s)
+pub wire-gives : (s : List ℕ) → Gives WireBit (wire s)
 unfolding wire WireBit Gives
 wire-gives s =
     either-gives WireBit _ _ (then-gives WireBit _ _ (λ _ s. then-gives WireBit _ _ (λ i s. then-gives WireBit _ _ (λ _ s. tt))))

@@ -204,7 +204,7 @@ module _ {A : Type 0} where
   good-refused : (a : A) (k i : ℕ) → Good a ≡ Refused k i → ⊥
   good-refused a k i e = zero≢one (cc)
 
-  refused-same : (k i j h : ℕ) → _≡_ {A = Reading A} (Refused k i) (Refused j h) → (k ≡ j) × (i ≡ h)
+  pub refused-same : (k i j h : ℕ) → _≡_ {A = Reading A} (Refused k i) (Refused j h) → (k ≡ j) × (i ≡ h)
   refused-same k i j h e = (cc, cc)
 
   Decided : Reading A → (ℕ → ℕ → Type 0) → Type 0
@@ -266,6 +266,12 @@ module _ {S L A : Type 0} (K : Kind S L) (ended : ℕ → S → Reading A) (a b 
   unfolding said
   opened n c l [] f = opened-with n c (K .form l) (not-met _ (λ k m. f k n (at-first K n c l [] k m)))
   opened n c l (m ∷ ls) f = opened (n + 1) (saidWith K n c (K .form l)) m ls (λ k i h. f k i (at-later K n c l (m ∷ ls) k i h))
+
+  -- lines count from 1
+  pub holds-from : (text : List ℕ) (k i : ℕ) → Holds K text k i → 1 ≤ i
+  unfolding Holds
+  holds-from text k i (inl h) = h .from
+  holds-from text k i (inr h) = omega arith
 
   -- every condition that holds is one of a to b
   pub holds-within : (text : List ℕ) (k i : ℕ) → Holds K text k i → (a ≤ k) × (k ≤ b)

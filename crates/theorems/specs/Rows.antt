@@ -3,7 +3,7 @@ use mathlib.Core.Path.{_≡_, refl, sym, ap, _∙_, subst}
 use mathlib.Core.Bool.{true, false, true≢false}
 use mathlib.Core.List.{List, [], _∷_}
 use mathlib.Core.Logic.{⊎-elim, _≢_, _↔_}
-use mathlib.Core.Option.{none, some}
+use mathlib.Core.Option.{none, some, Option·some-injective}
 use Prim.Native.Nat.{ℕ, zero, suc, _+_, _<_, _≤_}
 use native.Mathlib.Nat.{not-suc-le-zero, le-of-suc-le-suc}
 use native.Mathlib.Numerals.{add-one}
@@ -36,6 +36,7 @@ agrees-is x t e =
     (decide (leb t 1))
 
 -- ---- one row, at an index of the entries
+
 module _ (known t : List ℕ) (k b : ℕ) (within : k < length known) where
   set-completes : Completes known t → getD t k 0 ≡ b → Completes (set known k b) t
   set-completes c e =
@@ -49,21 +50,21 @@ module _ (known t : List ℕ) (k b : ℕ) (within : k < length known) where
       }
 
   completes-set : Completes (set known k b) t → b ≤ 1 → (getD known k 0 ≢ 2 → getD known k 0 ≡ b) → Completes known t × (getD t k 0 ≡ b)
-  completes-set c h f = (record { long = c .long ∙ length-set known k b; bits = λ i l. c .bits i (rw length-set l); keeps = keeps }, at)
+  completes-set c h f = (record { long = c .long ∙ length-set known k b; bits = λ i l. c .bits i (rw length-set l); keeps = still }, at)
     where
       at : getD t k 0 ≡ b
       at =
           let same = getD-set-same known k b 0 within in
           c .keeps k (rw length-set within) (λ z. let q : b ≡ 2 = sym same ∙ z in omega arith) ∙ same
 
-      keeps : (i : ℕ) → i < length known → getD known i 0 ≢ 2 → getD t i 0 ≡ getD known i 0
-      keeps i l n =
+      still : (i : ℕ) (l : i < length known) (n : getD known i 0 ≢ 2) → getD t i 0 ≡ getD known i 0
+      still i l n =
           ⊎-elim
           (λ (s : i ≡ k). rw s (at ∙ sym (f (λ z. n (ap (λ j. getD known j 0) s ∙ z)))))
           (λ (s : i ≢ k). let same = getD-set-other known k i b 0 s in c .keeps i (rw length-set l) (λ z. n (sym same ∙ z)) ∙ same)
           (eq-or-ne i k)
 
-set-entries : (known : List ℕ) (k b : ℕ) → b ≤ 1 → Entries known → Entries (set known k b)
+pub set-entries : (known : List ℕ) (k b : ℕ) → b ≤ 1 → Entries known → Entries (set known k b)
 set-entries known k b h e =
     record {
       at = λ i. ⊎-elim
@@ -76,6 +77,7 @@ set-entries known k b h e =
     }
 
 -- ---- all rows: their offsets are indices, and a table agrees with them
+
 abbrev pub offset : ℤ → List ℤ → ℕ → ℕ
 offset low values i = natAbs (getD values i (pos 0) -ℤ low)
 
@@ -84,10 +86,6 @@ pub record Within (low : ℤ) (values : List ℤ) (n : ℕ) : Type 0 where
 
 pub record Agrees (low : ℤ) (values : List ℤ) (truths t : List ℕ) : Type 0 where
   pub at : (i : ℕ) → i < length values → getD t (offset low values i) 0 ≡ getD truths i 0
-
--- no row, the rows but the first, and what a row that fits or does not fit leads to
-some-is : (x y : List ℕ) → some x ≡ some y → x ≡ y
-some-is x y e = cc
 
 none-not : {A : Type 0} (x : List ℕ) → none ≡ some x → A
 none-not x e = absurd (let q : _≡_ {A = ℕ} 0 1 = cc in omega arith)
@@ -127,7 +125,7 @@ module _ (low : ℤ) (t : List ℕ) where
   pub entered-left : (values : List ℤ) (truths known k : List ℕ) → length values ≡ length truths → Within low values (length known)
       → enter low values truths known ≡ some k → Completes k t → Completes known t × Agrees low values truths t
   unfolding enter
-  entered-left [] truths known k e w f c = (subst (λ l. Completes l t) (sym (some-is known k f)) c, record { at = λ i h. absurd (not-suc-le-zero h) })
+  entered-left [] truths known k e w f c = (subst (λ l. Completes l t) (sym (Option·some-injective known k f)) c, record { at = λ i h. absurd (not-suc-le-zero h) })
   entered-left (v ∷ values) [] known k e w f c = absurd (omega arith)
   entered-left (v ∷ values) (b ∷ truths) known k e w f c =
       ⊎-elim
@@ -145,8 +143,8 @@ module _ (low : ℤ) (t : List ℕ) where
 pub entered-entries : (low : ℤ) (values : List ℤ) (truths known k : List ℕ) → enter low values truths known ≡ some k → Entries known
     → Entries k × (length k ≡ length known)
 unfolding enter
-entered-entries low [] truths known k f e = (subst Entries (some-is known k f) e, ap length (sym (some-is known k f)))
-entered-entries low (v ∷ values) [] known k f e = (subst Entries (some-is known k f) e, ap length (sym (some-is known k f)))
+entered-entries low [] truths known k f e = (subst Entries (Option·some-injective known k f) e, ap length (sym (Option·some-injective known k f)))
+entered-entries low (v ∷ values) [] known k f e = (subst Entries (Option·some-injective known k f) e, ap length (sym (Option·some-injective known k f)))
 entered-entries low (v ∷ values) (b ∷ truths) known k f e =
     ⊎-elim
     (λ (yes : agrees (getD known (natAbs (v -ℤ low)) 0) b ≡ true).
@@ -158,6 +156,7 @@ entered-entries low (v ∷ values) (b ∷ truths) known k f e =
     (decide (agrees (getD known (natAbs (v -ℤ low)) 0) b))
 
 -- ---- where nothing is known yet
+
 pub unknown-entries : (n : ℕ) → Entries (replicate n 2)
 unknown-entries n =
     record {
@@ -176,6 +175,7 @@ unknown-completes n t e h =
     }
 
 -- ---- the rows agree among themselves: each truth is a bit, and rows of one value have one truth
+
 pub record Consistent (values : List ℤ) (truths : List ℕ) : Type 0 where
   pub bits : (i : ℕ) → i < length values → getD truths i 0 ≤ 1
   pub same : (i j : ℕ) → i < length values → j < length values → getD values i (pos 0) ≡ getD values j (pos 0) → getD truths i 0 ≡ getD truths j 0
@@ -244,6 +244,7 @@ module _ (values : List ℤ) (truths : List ℕ) (e : length values ≡ length t
   known-exact = (known-no, known-yes)
 
 -- ---- a loop over the rows: a turn, a row that does not fit, and the end
+
 module _ (low : ℤ) (values : List ℤ) (truths known : List ℕ) (i : ℕ) where
   module _ (k b : ℕ) (h : i < length values) (l : i < length truths) (at : k ≡ offset low values i) (is : b ≡ getD truths i 0) where
     pub enter-turn : agrees (getD known k 0) b ≡ true

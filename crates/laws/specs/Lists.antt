@@ -1,0 +1,18 @@
+-- Lists: one that is empty, and the entries of one that was mapped.
+use mathlib.Core.Path.{_≡_, refl}
+use mathlib.Core.List.{List, [], _∷_, map, _++_}
+use Prim.Native.Nat.{ℕ, zero, suc, _<_, _≤_}
+use native.Mathlib.Omega.{arith}
+use lib.ListN.{length, getD, length-append}
+
+pub nil-of : {A : Type 0} (l : List A) → length l ≡ 0 → l ≡ []
+nil-of [] e = refl
+nil-of (x ∷ l) e = absurd (omega arith)
+
+pub map-at : {A B : Type 0} (f : A → B) (l : List A) (i : ℕ) (a : A) (b : B) → i < length l → getD (map f l) i b ≡ f (getD l i a)
+map-at f [] i a b h = absurd (omega arith)
+map-at f (v ∷ l) zero a b h = refl
+map-at f (v ∷ l) (suc i) a b h = map-at f l i a b (omega arith)
+
+pub snoc-le : {A : Type 0} (l : List A) (a : A) (n : ℕ) → length l < n → length (l ++ (a ∷ [])) ≤ n
+snoc-le l a n h = rw length-append (omega arith)
