@@ -11,7 +11,7 @@ use lib.Signed.{ltZ}
 use Rattle.laws.specs.Test.{zero≢one}
 use Rattle.laws.specs.Integer.{ltZ-true, plus, minus}
 use Rattle.rules.specs.Writing.{bitsText, digits, signedText}
-use Rattle.writer.specs.Digits.{digits-one, digits-more}
+use Rattle.theorems.specs.Decimals.{digits-one, digits-more}
 use Rattle.laws.specs.Laid.{laid, laid-nil, laid-one, laid-behind, laid-append, laid-length}
 
 -- The bytes s from `at` on, as far as the buffer reaches; the next place is behind them.
