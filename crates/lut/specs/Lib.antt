@@ -1,0 +1,2 @@
+-- The node store's bytes seen as nodes, and laws of the definitions.
+pub mod View
