@@ -1,2 +1,4 @@
 -- The node store's bytes seen as nodes, and laws of the definitions.
 pub mod View
+pub mod Sums
+pub mod Records

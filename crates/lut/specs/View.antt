@@ -99,8 +99,11 @@ pub record IsStore (bytes : List ℕ) (count : ℕ) : Type 0 where
 
 -- ---- The terms that the code is handed.
 
+unfoldable pub term : ℤ → ℕ → Term
+term k n = record { coef = k; node = n }
+
 unfoldable pub termsOver : ℕ → List ℤ → List ℕ → List Term
-termsOver n coefs sources = zipWith (λ (k : ℤ) (m : ℕ). record { coef = k; node = m }) (take n coefs) (take n sources)
+termsOver n coefs sources = zipWith term (take n coefs) (take n sources)
 
 unfoldable pub termsIn : Terms → List Term
 termsIn t = termsOver (t .n) (t .coefs) (t .sources)

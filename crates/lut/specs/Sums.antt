@@ -1,0 +1,135 @@
+-- The terms of a sum: as two arrays, as bytes, and in the order of their nodes.
+use mathlib.Core.Path.{_≡_, refl, sym, ap, ap₂, _∙_}
+use mathlib.Core.Bool.{Bool, true, false}
+use mathlib.Core.List.{List, [], _∷_, _++_, zipWith, append-assoc}
+use Prim.Native.Nat.{ℕ, zero, suc, _+_, _*_, _<_, _≤_}
+use native.Mathlib.Nat.{not-suc-le-zero, le-of-suc-le-suc}
+use native.Mathlib.Numerals.{add-one}
+use native.Mathlib.Omega.{arith}
+use lib.IntN.{ℤ, pos, natAbs}
+use lib.ListN.{length, getD, take, drop, set, length-take, length-append, drop-of-length-le}
+use lib.Seq.{take-suc, take-suc-set, take-set-le, drop-cons, length-take-le, getD-take, getD-drop}
+use mir.Facts.{toZ-ofZ}
+use mir.Syntax.{w64}
+use mir.Val.{toZ, ofZ}
+use Rattle.laws.specs.Integer.{fits-abs}
+use Rattle.laws.specs.Select.{select}
+use Rattle.laws.specs.Test.{if_then_else_, if-both}
+use Rattle.rules.specs.Network.{Term}
+use Rattle.rules.specs.Store.{insert, sorted, isUsed, linearTerms}
+use Rattle.lut.specs.declared.Terms.{Terms}
+use Rattle.lut.specs.View.{FineTerms, GoodTerms, term, termsOver, termsIn}
+
+-- ---- of two arrays
+
+zip-length : (cs : List ℤ) (ns : List ℕ) → length cs ≡ length ns → length (zipWith term cs ns) ≡ length cs
+unfolding zipWith
+zip-length [] [] e = refl
+zip-length [] (n ∷ ns) e = refl
+zip-length (c ∷ cs) [] e = absurd (omega arith)
+zip-length (c ∷ cs) (n ∷ ns) e = ap suc (zip-length cs ns (omega arith))
+
+zip-snoc : (cs : List ℤ) (ns : List ℕ) (k : ℤ) (n : ℕ) → length cs ≡ length ns → zipWith term (cs ++ (k ∷ [])) (ns ++ (n ∷ [])) ≡ zipWith term cs ns ++ (term k n ∷ [])
+unfolding zipWith
+zip-snoc [] [] k n e = refl
+zip-snoc [] (m ∷ ns) k n e = absurd (omega arith)
+zip-snoc (c ∷ cs) [] k n e = absurd (omega arith)
+zip-snoc (c ∷ cs) (m ∷ ns) k n e = ap {B = List Term} (λ r. term c m ∷ r) (zip-snoc cs ns k n (omega arith))
+
+zip-at : (cs : List ℤ) (ns : List ℕ) (i : ℕ) (z : Term) → i < length cs → i < length ns → getD (zipWith term cs ns) i z ≡ term (getD cs i (pos 0)) (getD ns i 0)
+unfolding zipWith
+zip-at [] ns i z h k = absurd (not-suc-le-zero h)
+zip-at (c ∷ cs) [] i z h k = absurd (not-suc-le-zero k)
+zip-at (c ∷ cs) (n ∷ ns) zero z h k = refl
+zip-at (c ∷ cs) (n ∷ ns) (suc i) z h k = zip-at cs ns i z (le-of-suc-le-suc h) (le-of-suc-le-suc k)
+
+module _ (n : ℕ) (cs : List ℤ) (ns : List ℕ) (e : length cs ≡ 11) (f : length ns ≡ 11) where
+  pub over-length : n ≤ 11 → length (termsOver n cs ns) ≡ n
+  unfolding termsOver
+  over-length h =
+      let a = length-take-le n cs (omega arith) in
+      let b = length-take-le n ns (omega arith) in
+      zip-length (take n cs) (take n ns) (a ∙ sym b) ∙ a
+
+  pub over-at : (i : ℕ) (z : Term) → i < n → n ≤ 11 → getD (termsOver n cs ns) i z ≡ term (getD cs i (pos 0)) (getD ns i 0)
+  unfolding termsOver
+  over-at i z h k =
+      let a = length-take-le n cs (omega arith) in
+      let b = length-take-le n ns (omega arith) in
+      zip-at (take n cs) (take n ns) i z (omega arith) (omega arith) ∙ ap₂ {C = Term} term (getD-take n cs i (pos 0) h) (getD-take n ns i 0 h)
+
+  -- one more term
+  pub over-push : (k : ℤ) (m : ℕ) → n < 11 → termsOver (n + 1) (set cs n k) (set ns n m) ≡ termsOver n cs ns ++ (term k m ∷ [])
+  unfolding termsOver
+  over-push k m h =
+      let a = length-take-le n cs (omega arith) in
+      let b = length-take-le n ns (omega arith) in
+      rw (add-one, take-suc-set cs n k (omega arith), take-suc-set ns n m (omega arith)) (zip-snoc (take n cs) (take n ns) k m (a ∙ sym b))
+
+pub over-none : (cs : List ℤ) (ns : List ℕ) → termsOver 0 cs ns ≡ []
+unfolding termsOver zipWith
+over-none cs ns = refl
+
+-- ---- fine ones
+
+pub fine-at : (count : ℕ) (ts : List Term) (i : ℕ) (z : Term) → FineTerms count ts → i < length ts → (natAbs (getD ts i z .coef) ≤ 31) × (getD ts i z .node < count)
+unfolding FineTerms
+fine-at count [] i z f h = absurd (not-suc-le-zero h)
+fine-at count (t ∷ ts) zero z f h = (f .0, f .1)
+fine-at count (t ∷ ts) (suc i) z f h = fine-at count ts i z (f .2) (le-of-suc-le-suc h)
+
+pub fine-terms : (count : ℕ) (ts : List Term) (z : Term) → ((i : ℕ) → i < length ts → (natAbs (getD ts i z .coef) ≤ 31) × (getD ts i z .node < count)) → FineTerms count ts
+unfolding FineTerms
+fine-terms count [] z h = tt
+fine-terms count (t ∷ ts) z h = (h 0 (omega arith) .0, h 0 (omega arith) .1, fine-terms count ts z (λ i l. h (suc i) (omega arith)))
+
+-- ---- of the code's terms
+
+module _ (count : ℕ) (t : Terms) (g : GoodTerms count t) (e : length (t .coefs) ≡ 11) (f : length (t .sources) ≡ 11) where
+  pub good-length : length (termsIn t) ≡ t .n
+  unfolding termsIn
+  good-length = over-length (t .n) (t .coefs) (t .sources) e f (g .few)
+
+  module _ (k : ℕ) (h : k < t .n) where
+    pub good-at : (z : Term) → getD (termsIn t) k z ≡ term (getD (t .coefs) k (pos 0)) (getD (t .sources) k 0)
+    unfolding termsIn
+    good-at z = over-at (t .n) (t .coefs) (t .sources) e f k z h (g .few)
+
+    pub good-near : natAbs (getD (t .coefs) k (pos 0)) ≤ 31
+    unfolding term
+    good-near =
+        let z = term (pos 0) 0 in
+        let l = good-length in
+        rw (good-at z) at (fine-at count (termsIn t) k z (g .fine) (omega arith) .0)
+
+    pub good-below : getD (t .sources) k 0 < count
+    unfolding term
+    good-below =
+        let z = term (pos 0) 0 in
+        let l = good-length in
+        rw (good-at z) at (fine-at count (termsIn t) k z (g .fine) (omega arith) .1)
+
+    -- what the machine reads
+    pub good-read : toZ w64 (ofZ w64 (getD (t .coefs) k (pos 0))) ≡ getD (t .coefs) k (pos 0)
+    good-read = toZ-ofZ (fits-abs (getD (t .coefs) k (pos 0)) (omega (arith, good-near)))
+
+    pub good-drop : drop k (termsIn t) ≡ term (getD (t .coefs) k (pos 0)) (getD (t .sources) k 0) ∷ drop (k + 1) (termsIn t)
+    good-drop =
+        let z = term (pos 0) 0 in
+        let l = good-length in
+        rw (add-one, drop-cons (termsIn t) k z (omega arith), good-at z)
+
+    pub good-take : take (k + 1) (termsIn t) ≡ take k (termsIn t) ++ (term (getD (t .coefs) k (pos 0)) (getD (t .sources) k 0) ∷ [])
+    good-take =
+        let z = term (pos 0) 0 in
+        let l = good-length in
+        rw (add-one, take-suc (termsIn t) k z (omega arith), good-at z)
+
+fine-select : (count : ℕ) (g : Term → Bool) (ts : List Term) → FineTerms count ts → FineTerms count (select g ts)
+unfolding FineTerms select
+fine-select count g [] f = tt
+fine-select count g (t ∷ ts) f = by (g t) (fine-select count g ts (f .2))
+  where
+    by : (b : Bool) → FineTerms count (select g ts) → FineTerms count (if b then t ∷ select g ts else select g ts)
+    by true r = (f .0, f .1, r)
+    by false r = r
