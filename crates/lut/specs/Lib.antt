@@ -2,3 +2,4 @@
 pub mod View
 pub mod Sums
 pub mod Records
+pub mod Store

@@ -6,12 +6,16 @@ use native.Mathlib.Numerals.{add-one}
 use native.Mathlib.Omega.{arith}
 use lib.IntN.{ℤ, pos}
 use lib.ListN.{length, getD, take, drop, set, replicate, length-append, length-replicate, take-append-drop, drop-of-length-le, length-take}
-use lib.Seq.{paste, drop-cons, set-at, take-at, take-all, take-length, drop-append-add, drop-drop, take-suc, length-take-le}
+use lib.Seq.{paste, paste-suc, drop-cons, set-at, take-at, take-all, take-length, drop-append-add, drop-drop, take-suc, length-take-le}
 use Rattle.laws.specs.Over.{over}
 use Rattle.rules.specs.Network.{Term, LutNode, Input, Linear, Bootstrap}
 use Rattle.lut.specs.declared.Terms.{Terms}
 use Rattle.lut.specs.Sums.{good-length, good-take}
 use Rattle.lut.specs.View.{GoodTerms, termsIn, biased, packed, padded, bytesOf, recordOf, term, packed-length, padded-length}
+
+-- a turn of a loop that copies: s stands from `at` on, as far as k
+pub paste-turn : (d s r : List ℕ) (at k : ℕ) → at + k < length d → k < length s → r ≡ paste d at s k → set r (at + k) (getD s k 0) ≡ paste d at s (k + 1)
+paste-turn d s r at k l h e = rw (e, add-one) (paste-suc d at s k 0 l h)
 
 -- a byte after those that are written
 pub padded-put : (l : List ℕ) (n x : ℕ) → length l ≡ n → n < 38 → set (padded l) n x ≡ padded (l ++ (x ∷ []))

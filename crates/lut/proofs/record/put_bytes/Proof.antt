@@ -1,12 +1,11 @@
 -- `lut::record::put_bytes` meets its contract: the first k bytes stand from place 6 on.
 use mathlib.Core.Path.{_≡_, ap, _∙_}
-use Prim.Native.Nat.{ℕ, _+_, _-_, _≤_, _<_}
-use native.Mathlib.Numerals.{add-one}
+use Prim.Native.Nat.{_-_, _≤_}
 use native.Mathlib.Omega.{arith}
 use borrow.Author.Needs.{needs}
-use mathlib.Core.List.{List}
-use lib.ListN.{length, getD, set}
-use lib.Seq.{paste, paste-zero, paste-suc}
+use lib.ListN.{length}
+use lib.Seq.{paste, paste-zero}
+use Rattle.lut.specs.Records.{paste-turn}
 use Rattle.lut.proofs.record.put_bytes.Statement.{statement}
 use Rattle.lut.proofs.record.put_bytes.Tie as tie
 use Rattle.lut.proofs.record.put_bytes.Reads as reads
@@ -17,9 +16,6 @@ Inv-loop r₀ bytes k₀ r k = (k ≤ length bytes) × (r ≡ paste r₀ 6 bytes
 
 abbrev μ-loop : tie.MeasureT-loop
 μ-loop r₀ bytes k₀ r k = length bytes - k
-
-turn : (d s r : List ℕ) (k : ℕ) → length d ≡ 38 → length s ≤ 32 → k < length s → r ≡ paste d 6 s k → set r (6 + k) (getD s k 0) ≡ paste d 6 s (k + 1)
-turn d s r k l m h e = rw (e, add-one) (paste-suc d 6 s k 0 (omega arith) h)
 
 loop-holds : tie.Need-loop-holds Inv-loop μ-loop
 loop-holds c = (omega arith, paste-zero (c .args .r .now) 6 (c .args .bytes .now))
@@ -49,7 +45,7 @@ loop-again : tie.Need-loop-again Inv-loop μ-loop
 loop-again c =
     let s = c .before .before .before in
     let o = c .before .before .loop in
-    (omega arith, turn (s .args .r .now) (s .args .bytes .now) (o .r) (o .k) (s .pre .0) (s .pre .1) (omega arith) (o .inv .1))
+    (omega arith, paste-turn (s .args .r .now) (s .args .bytes .now) (o .r) 6 (o .k) (omega arith) (omega arith) (o .inv .1))
 
 -- src/record.rt:46:1
 returns : tie.Need-returns Inv-loop μ-loop
