@@ -3,3 +3,4 @@ pub mod View
 pub mod Sums
 pub mod Records
 pub mod Store
+pub mod Order

@@ -10,7 +10,7 @@ use lib.Seq.{paste, paste-suc, drop-cons, set-at, take-at, take-all, take-length
 use Rattle.laws.specs.Over.{over}
 use Rattle.rules.specs.Network.{Term, LutNode, Input, Linear, Bootstrap}
 use Rattle.lut.specs.declared.Terms.{Terms}
-use Rattle.lut.specs.Sums.{good-length, good-take}
+use Rattle.lut.specs.Sums.{in-length, in-take}
 use Rattle.lut.specs.View.{GoodTerms, termsIn, biased, packed, padded, bytesOf, recordOf, term, packed-length, padded-length}
 
 -- a turn of a loop that copies: s stands from `at` on, as far as k
@@ -56,7 +56,7 @@ sum-start t b e = rw e
 
 module _ (t : Terms) (g : GoodTerms 672 t) (e : length (t .coefs) ≡ 11) (f : length (t .sources) ≡ 11) where
   prefix-length : (k : ℕ) → k ≤ t .n → length (packed (take k (termsIn t))) ≡ 3 * k
-  prefix-length k h = packed-length (take k (termsIn t)) ∙ ap (λ n. 3 * n) (length-take-le k (termsIn t) (rw (good-length 672 t g e f) h))
+  prefix-length k h = packed-length (take k (termsIn t)) ∙ ap (λ n. 3 * n) (length-take-le k (termsIn t) (rw (in-length t (g .few) e f) h))
 
   pub written-length : (k : ℕ) → k ≤ t .n → length (written t k) ≡ 38
   unfolding written
@@ -68,13 +68,13 @@ module _ (t : Terms) (g : GoodTerms 672 t) (e : length (t .coefs) ≡ 11) (f : l
   sum-turn r k c q h d =
       let m = getD (t .sources) k 0 in
       let l = prefix-length k (omega arith) in
-      rw (q, d, good-take 672 t g e f k h, packed-snoc (take k (termsIn t)) (getD (t .coefs) k (pos 0)) m)
+      rw (q, d, in-take t (g .few) e f k h, packed-snoc (take k (termsIn t)) (getD (t .coefs) k (pos 0)) m)
       (padded-source (1 ∷ t .n ∷ biased (t .constant) ∷ packed (take k (termsIn t))) (3 + 3 * k) (biased (getD (t .coefs) k (pos 0))) (m / 256) (m % 256) (omega arith) (omega (arith, g .few)))
 
   pub sum-done : (k : ℕ) → k ≡ t .n → written t k ≡ recordOf (Linear (t .constant) (termsIn t))
   unfolding written recordOf bytesOf
   sum-done k q =
-      let l = good-length 672 t g e f in
+      let l = in-length t (g .few) e f in
       rw (take-all k (termsIn t) (omega arith), l)
 
 module _ (j : ℕ) (table r r₁ r₂ : List ℕ) where

@@ -8,7 +8,7 @@ use native.Mathlib.Numerals.{add-one}
 use native.Mathlib.Omega.{arith}
 use lib.IntN.{ℤ, pos, natAbs}
 use lib.ListN.{length, getD, take, drop, set, length-take, length-append, drop-of-length-le}
-use lib.Seq.{take-suc, take-suc-set, take-set-le, drop-cons, length-take-le, getD-take, getD-drop}
+use lib.Seq.{take-suc, take-take, take-suc-set, take-set-le, drop-cons, length-take-le, getD-take, getD-drop}
 use mir.Facts.{toZ-ofZ}
 use mir.Syntax.{w64}
 use mir.Val.{toZ, ofZ}
@@ -66,6 +66,19 @@ module _ (n : ℕ) (cs : List ℤ) (ns : List ℕ) (e : length cs ≡ 11) (f : l
       let b = length-take-le n ns (omega arith) in
       rw (add-one, take-suc-set cs n k (omega arith), take-suc-set ns n m (omega arith)) (zip-snoc (take n cs) (take n ns) k m (a ∙ sym b))
 
+zip-take : (i : ℕ) (cs : List ℤ) (ns : List ℕ) → zipWith term (take i cs) (take i ns) ≡ take i (zipWith term cs ns)
+unfolding zipWith
+zip-take zero cs ns = refl
+zip-take (suc i) [] [] = refl
+zip-take (suc i) [] (n ∷ ns) = refl
+zip-take (suc i) (c ∷ cs) [] = refl
+zip-take (suc i) (c ∷ cs) (n ∷ ns) = ap {B = List Term} (λ r. term c n ∷ r) (zip-take i cs ns)
+
+-- fewer of them
+pub over-take : (i n : ℕ) (cs : List ℤ) (ns : List ℕ) → i ≤ n → termsOver i cs ns ≡ take i (termsOver n cs ns)
+unfolding termsOver
+over-take i n cs ns h = rw (← zip-take i (take n cs) (take n ns), take-take i n cs h, take-take i n ns h)
+
 pub over-none : (cs : List ℤ) (ns : List ℕ) → termsOver 0 cs ns ≡ []
 unfolding termsOver zipWith
 over-none cs ns = refl
@@ -85,45 +98,46 @@ fine-terms count (t ∷ ts) z h = (h 0 (omega arith) .0, h 0 (omega arith) .1, f
 
 -- ---- of the code's terms
 
-module _ (count : ℕ) (t : Terms) (g : GoodTerms count t) (e : length (t .coefs) ≡ 11) (f : length (t .sources) ≡ 11) where
-  pub good-length : length (termsIn t) ≡ t .n
+module _ (t : Terms) (few : t .n ≤ 11) (e : length (t .coefs) ≡ 11) (f : length (t .sources) ≡ 11) where
+  pub in-length : length (termsIn t) ≡ t .n
   unfolding termsIn
-  good-length = over-length (t .n) (t .coefs) (t .sources) e f (g .few)
+  in-length = over-length (t .n) (t .coefs) (t .sources) e f few
 
   module _ (k : ℕ) (h : k < t .n) where
-    pub good-at : (z : Term) → getD (termsIn t) k z ≡ term (getD (t .coefs) k (pos 0)) (getD (t .sources) k 0)
+    pub in-at : (z : Term) → getD (termsIn t) k z ≡ term (getD (t .coefs) k (pos 0)) (getD (t .sources) k 0)
     unfolding termsIn
-    good-at z = over-at (t .n) (t .coefs) (t .sources) e f k z h (g .few)
+    in-at z = over-at (t .n) (t .coefs) (t .sources) e f k z h few
 
-    pub good-near : natAbs (getD (t .coefs) k (pos 0)) ≤ 31
-    unfolding term
-    good-near =
+    pub in-drop : drop k (termsIn t) ≡ term (getD (t .coefs) k (pos 0)) (getD (t .sources) k 0) ∷ drop (k + 1) (termsIn t)
+    in-drop =
         let z = term (pos 0) 0 in
-        let l = good-length in
-        rw (good-at z) at (fine-at count (termsIn t) k z (g .fine) (omega arith) .0)
+        let l = in-length in
+        rw (add-one, drop-cons (termsIn t) k z (omega arith), in-at z)
 
-    pub good-below : getD (t .sources) k 0 < count
-    unfolding term
-    good-below =
+    pub in-take : take (k + 1) (termsIn t) ≡ take k (termsIn t) ++ (term (getD (t .coefs) k (pos 0)) (getD (t .sources) k 0) ∷ [])
+    in-take =
         let z = term (pos 0) 0 in
-        let l = good-length in
-        rw (good-at z) at (fine-at count (termsIn t) k z (g .fine) (omega arith) .1)
+        let l = in-length in
+        rw (add-one, take-suc (termsIn t) k z (omega arith), in-at z)
 
-    -- what the machine reads
-    pub good-read : toZ w64 (ofZ w64 (getD (t .coefs) k (pos 0))) ≡ getD (t .coefs) k (pos 0)
-    good-read = toZ-ofZ (fits-abs (getD (t .coefs) k (pos 0)) (omega (arith, good-near)))
+module _ (count : ℕ) (t : Terms) (g : GoodTerms count t) (e : length (t .coefs) ≡ 11) (f : length (t .sources) ≡ 11) (k : ℕ) (h : k < t .n) where
+  pub good-near : natAbs (getD (t .coefs) k (pos 0)) ≤ 31
+  unfolding term
+  good-near =
+      let z = term (pos 0) 0 in
+      let l = in-length t (g .few) e f in
+      rw (in-at t (g .few) e f k h z) at (fine-at count (termsIn t) k z (g .fine) (omega arith) .0)
 
-    pub good-drop : drop k (termsIn t) ≡ term (getD (t .coefs) k (pos 0)) (getD (t .sources) k 0) ∷ drop (k + 1) (termsIn t)
-    good-drop =
-        let z = term (pos 0) 0 in
-        let l = good-length in
-        rw (add-one, drop-cons (termsIn t) k z (omega arith), good-at z)
+  pub good-below : getD (t .sources) k 0 < count
+  unfolding term
+  good-below =
+      let z = term (pos 0) 0 in
+      let l = in-length t (g .few) e f in
+      rw (in-at t (g .few) e f k h z) at (fine-at count (termsIn t) k z (g .fine) (omega arith) .1)
 
-    pub good-take : take (k + 1) (termsIn t) ≡ take k (termsIn t) ++ (term (getD (t .coefs) k (pos 0)) (getD (t .sources) k 0) ∷ [])
-    good-take =
-        let z = term (pos 0) 0 in
-        let l = good-length in
-        rw (add-one, take-suc (termsIn t) k z (omega arith), good-at z)
+  -- what the machine reads
+  pub good-read : toZ w64 (ofZ w64 (getD (t .coefs) k (pos 0))) ≡ getD (t .coefs) k (pos 0)
+  good-read = toZ-ofZ (fits-abs (getD (t .coefs) k (pos 0)) (omega (arith, good-near)))
 
 fine-select : (count : ℕ) (g : Term → Bool) (ts : List Term) → FineTerms count ts → FineTerms count (select g ts)
 unfolding FineTerms select

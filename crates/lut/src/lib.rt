@@ -6,6 +6,7 @@
 //   6   an input's name, a bootstrap's table
 // Bytes that are not used are 0, so equal nodes have equal records.
 pub mod record;
+mod order;
 pub mod store;
 
 // The terms of a sum: the first n.
