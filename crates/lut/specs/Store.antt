@@ -1,20 +1,29 @@
 -- A node among the nodes by its record.
-use mathlib.Core.Path.{_≡_, refl, sym, ap, ap₂, _∙_}
+use mathlib.Core.Path.{_≡_, refl, sym, ap, ap₂, subst, _∙_}
 use mathlib.Core.Bool.{Bool, true, false}
 use mathlib.Core.List.{List, [], _∷_, _++_}
+use mathlib.Core.Logic.{⊎-elim}
+use mathlib.Core.Option.{Option, none, some}
 use Prim.Native.Nat.{ℕ, suc, _+_, _≤_, _<_}
 use native.Mathlib.Omega.{arith}
 use borrow.Author.Tests.{lt-ltb, le-ltb}
-use lib.ListN.{length, getD, drop}
+use lib.IntN.{natAbs}
+use lib.ListN.{length, getD, drop, List·getD-eq-default}
+use Rattle.laws.specs.Test.{if_then_else_, lt-or-le}
+use Rattle.rules.specs.Builder.{Entries, completion}
 use Rattle.rules.specs.CircuitText.{sameName}
 use Rattle.rules.specs.Network.{LutNode, Input, Linear, Bootstrap}
 use Rattle.rules.specs.NetworkText.{nodeAt}
-use Rattle.rules.specs.Store.{sameNode, numberOf, intern}
+use Rattle.rules.specs.Store.{sameNode, numberOf, intern, linearTerms}
 use Rattle.theorems.specs.Interning.{number-here, number-on, number-end, number-new, node-self, node-is}
+use Rattle.theorems.specs.Completions.{completion-is}
 use Rattle.lut.specs.declared.Linked.{Linked}
 use Rattle.lut.specs.declared.Signal.{Signal}
 use Rattle.lut.specs.declared.Signal.the-variants as Signals
-use Rattle.lut.specs.View.{Fine, IsStore, nodeIn, nodeOf, recordOf, recordAt, storeOf, putAt, record-length, node-back, same-record, at-store, store-length, put-store, put-is-store}
+use Rattle.lut.specs.declared.Terms.{Terms}
+use Rattle.lut.specs.Order.{Arranged}
+use Rattle.lut.specs.Sums.{in-length, fine-linear, fine-more}
+use Rattle.lut.specs.View.{GoodTerms, FineTerms, termsIn, Fine, IsStore, nodeIn, nodeOf, recordOf, recordAt, storeOf, putAt, record-length, node-back, same-record, at-store, store-length, put-store, put-is-store}
 
 -- 38 bytes that are the record of a node that may stand at a place
 pub record IsRecord (i : ℕ) (r : List ℕ) : Type 0 where
@@ -27,6 +36,11 @@ pub record Interns (n : LutNode) (bytes : List ℕ) (count : ℕ) (after : List 
   pub store : storeOf after (r .count) ≡ intern n (storeOf bytes count)
   pub signal : r .signal ≡ Signals.Node (numberOf n (intern n (storeOf bytes count)))
   pub still : IsStore after (r .count)
+
+-- A table makes a bootstrap; without one nothing changes.
+unfoldable pub Bootstraps : ℕ → Option (List ℕ) → List ℕ → ℕ → List ℕ → Linked → Type 0
+Bootstraps source (some table) bytes count after r = Interns (Bootstrap source table) bytes count after r
+Bootstraps source none bytes count after r = (after ≡ bytes) × (r ≡ record { count = count; signal = Signals.Refused })
 
 -- ---- laws
 
@@ -85,3 +99,50 @@ pub put-new : (bytes : List ℕ) (count : ℕ) (n : LutNode) (r after : List ℕ
 put-new bytes count n r after s h f e g =
     let q = is-record count n r f e in
     (rw g (put-store bytes count r s h (q .0 .size) ∙ ap {B = List LutNode} (λ m. storeOf bytes count ++ (m ∷ [])) (q .1)), rw g (put-is-store bytes count r s h (q .0 .size) (q .0 .fine) (q .0 .kept)))
+
+-- ---- laws: a sum, a bootstrap
+
+pub record Summed (count : ℕ) (s : Terms) (n : LutNode) : Type 0 where
+  pub good : GoodTerms 672 s
+  pub fine : Fine count (Linear (s .constant) (termsIn s))
+  pub is : Linear (s .constant) (termsIn s) ≡ n
+
+pub summed : (count : ℕ) (many : Bool) (t s : Terms) → GoodTerms count t → count < 672 → Arranged (t .n) (t .constant) (linearTerms many (termsIn t)) s
+    → length (s .coefs) ≡ 11 → length (s .sources) ≡ 11 → Summed count s (Linear (t .constant) (linearTerms many (termsIn t)))
+unfolding Fine
+summed count many t s g h a e f =
+    let k : s .n ≤ 11 = omega (arith, a .few, g .few) in
+    let l = in-length s k e f in
+    let q : FineTerms count (termsIn s) = rw (a .are) (fine-linear count many (termsIn t) (g .fine)) in
+    let n : natAbs (s .constant) ≤ 31 = rw (a .same) (g .near) in
+    record {
+      good = record { few = k; near = n; fine = fine-more count 672 (termsIn s) (omega arith) q };
+      fine = (omega arith, n, q);
+      is = ap₂ Linear (a .same) (a .are);
+    }
+
+-- an interned record, by its node
+pub interns-node : (n m : LutNode) (bytes : List ℕ) (count : ℕ) (after : List ℕ) (r : Linked) → Interns n bytes count after r → n ≡ m → Interns m bytes count after r
+interns-node n m bytes count after r i e = subst (λ x. Interns x bytes count after r) e i
+
+pub fine-boot : (count source p : ℕ) (known table : List ℕ) → source < count → length known ≤ 32 → Entries known → some table ≡ completion p known
+    → Fine count (Bootstrap source table)
+unfolding Fine
+fine-boot count source p known table h k e q =
+    let c = completion-is known e p table (sym q) .0 in
+    (h, rw (c .long) k, λ i. ⊎-elim (λ (l : i < length known). c .bits i l) (λ (l : length known ≤ i). rw (List·getD-eq-default table 0 {n = i} (rw (c .long) l)) (omega arith)) (lt-or-le i (length known)))
+
+pub no-table : (b : Bool) (table : List ℕ) (o : Option (List ℕ)) (source : ℕ) (bytes : List ℕ) (count : ℕ) → (if b then some table else none) ≡ o → b ≡ false
+    → Bootstraps source o bytes count bytes (record { count = count; signal = Signals.Refused })
+unfolding Bootstraps
+no-table b table o source bytes count e f =
+    let n : none ≡ o = rw f at e in
+    subst (λ x. Bootstraps source x bytes count bytes (record { count = count; signal = Signals.Refused })) n (refl, refl)
+
+pub table-is : (b : Bool) (table : List ℕ) (o : Option (List ℕ)) → (if b then some table else none) ≡ o → b ≡ true → some table ≡ o
+table-is b table o e f = rw f at e
+
+pub made : (o : Option (List ℕ)) (source : ℕ) (table bytes : List ℕ) (count : ℕ) (after : List ℕ) (r : Linked) → some table ≡ o
+    → Interns (Bootstrap source table) bytes count after r → Bootstraps source o bytes count after r
+unfolding Bootstraps
+made o source table bytes count after r e i = subst (λ x. Bootstraps source x bytes count after r) e i

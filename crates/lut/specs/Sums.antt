@@ -6,6 +6,7 @@ use Prim.Native.Nat.{ℕ, zero, suc, _+_, _*_, _<_, _≤_}
 use native.Mathlib.Nat.{not-suc-le-zero, le-of-suc-le-suc}
 use native.Mathlib.Numerals.{add-one}
 use native.Mathlib.Omega.{arith}
+use lib.Dec.{leb}
 use lib.IntN.{ℤ, pos, natAbs}
 use lib.ListN.{length, getD, take, drop, set, length-take, length-append, drop-of-length-le}
 use lib.Seq.{take-suc, take-take, take-suc-set, take-set-le, drop-cons, length-take-le, getD-take, getD-drop}
@@ -147,3 +148,28 @@ fine-select count g (t ∷ ts) f = by (g t) (fine-select count g ts (f .2))
     by : (b : Bool) → FineTerms count (select g ts) → FineTerms count (if b then t ∷ select g ts else select g ts)
     by true r = (f .0, f .1, r)
     by false r = r
+
+fine-insert : (count : ℕ) (t : Term) (ts : List Term) → natAbs (t .coef) ≤ 31 → t .node < count → FineTerms count ts → FineTerms count (insert t ts)
+unfolding FineTerms insert
+fine-insert count t [] h k f = (h, k, tt)
+fine-insert count t (u ∷ us) h k f = by (leb (t .node) (u .node)) (fine-insert count t us h k (f .2))
+  where
+    by : (b : Bool) → FineTerms count (insert t us) → FineTerms count (if b then t ∷ u ∷ us else u ∷ insert t us)
+    by true r = (h, k, f)
+    by false r = (f .0, f .1, r)
+
+fine-sorted : (count : ℕ) (ts : List Term) → FineTerms count ts → FineTerms count (sorted ts)
+unfolding FineTerms sorted
+fine-sorted count [] f = tt
+fine-sorted count (t ∷ ts) f = fine-insert count t (sorted ts) (f .0) (f .1) (fine-sorted count ts (f .2))
+
+pub fine-linear : (count : ℕ) (many : Bool) (ts : List Term) → FineTerms count ts → FineTerms count (linearTerms many ts)
+unfolding linearTerms
+fine-linear count true ts f = fine-sorted count (select isUsed ts) (fine-select count isUsed ts f)
+fine-linear count false ts f = f
+
+-- from below a later node
+pub fine-more : (count more : ℕ) (ts : List Term) → count ≤ more → FineTerms count ts → FineTerms more ts
+unfolding FineTerms
+fine-more count more [] h f = tt
+fine-more count more (t ∷ ts) h f = (f .0, omega arith, fine-more count more ts h (f .2))
