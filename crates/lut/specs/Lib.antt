@@ -4,3 +4,4 @@ pub mod Sums
 pub mod Records
 pub mod Store
 pub mod Order
+pub mod Nodes

@@ -207,7 +207,7 @@ is-node bytes count i s h = record { long = s .long; inside = omega (arith, s .m
 
 -- ---- laws: a record put at a place
 
-part-drop : (m a : ℕ) (l : List ℕ) → take m (drop a l) ≡ drop a (take (a + m) l)
+pub part-drop : (m a : ℕ) (l : List ℕ) → take m (drop a l) ≡ drop a (take (a + m) l)
 part-drop m zero l = rw zero-add
 part-drop m (suc a) [] = rw (take-nil m, take-nil (suc a + m))
 part-drop m (suc a) (x ∷ l) = rw (suc-add a m) (part-drop m a l)
