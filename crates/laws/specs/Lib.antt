@@ -10,3 +10,4 @@ pub mod Over
 pub mod Tail
 pub mod Select
 pub mod Digits
+pub mod Laid

@@ -3,12 +3,14 @@ use mathlib.Core.Path.{_≡_, refl, ap₂, ap, sym}
 use mathlib.Core.Bool.{true, _&&_, Bool, false}
 use mathlib.Core.List.{List, [], _∷_, _++_}
 use mathlib.Core.Logic.{_⊎_, inl, inr, ⊎-elim}
-use Prim.Native.Nat.{suc, _<_, _≤_, _+_}
+use Prim.Native.Nat.{ℕ, suc, _<_, _≤_, _+_}
 use native.Mathlib.Nat.{not-suc-le-zero, le-of-suc-le-suc}
 use native.Mathlib.Omega.{arith}
 use borrow.Author.Tests.{eq-eqb, eqb-true, lt-ltb, le-ltb}
 use lib.Dec.{eqb}
-use lib.ListN.{length, getD, length-append}
+use native.Mathlib.Numerals.{add-one}
+use lib.ListN.{length, getD, drop, length-append, drop-of-length-le}
+use lib.Seq.{drop-cons}
 use Rattle.laws.specs.Integer.{eqZ-of, eqZ, eqZ-true}
 use Rattle.laws.specs.Test.{zero≢one, both-left, both-right, if_then_else_, lt-or-le}
 use Rattle.rules.specs.Network.{Term, LutNode, Input, Linear, Bootstrap, count, isLinear}
@@ -37,13 +39,13 @@ terms-are (t ∷ ts) (u ∷ us) e =
     (term-is t u (eqZ-true _ _ (both-left (eqZ (t .coef) (u .coef)) (eqb (t .node) (u .node)) f)) (eqb-true _ _ (both-right (eqZ (t .coef) (u .coef)) (eqb (t .node) (u .node)) f)))
     (terms-are ts us (both-right (eqZ (t .coef) (u .coef) && eqb (t .node) (u .node)) (sameTerms ts us) e))
 
-node-self : (n : LutNode) → sameNode n n ≡ true
+pub node-self : (n : LutNode) → sameNode n n ≡ true
 unfolding sameNode
 node-self (Input a) = name-self a
 node-self (Linear c ts) = rw (eqZ-of c c refl) (terms-self ts)
 node-self (Bootstrap i t) = rw (eq-eqb i i refl) (name-self t)
 
-node-is : (n m : LutNode) → sameNode n m ≡ true → n ≡ m
+pub node-is : (n m : LutNode) → sameNode n m ≡ true → n ≡ m
 unfolding sameNode
 node-is (Input a) (Input b) e = ap Input (name-is a b e)
 node-is (Input a) (Linear d us) e = absurd (zero≢one (cc))
@@ -108,3 +110,29 @@ interned-sums x nodes =
     ⊎-elim (λ (h : intern x nodes ≡ nodes). omega (arith, ap (count isLinear) h))
     (λ (h : intern x nodes ≡ nodes ++ (x ∷ [])). omega (arith, ap (count isLinear) h, count-snoc isLinear nodes x))
     (interned x nodes .is)
+
+-- ---- A turn of a loop that looks for a node.
+
+module _ (n : LutNode) (ms : List LutNode) (i : ℕ) where
+  pub number-here : i < length ms → sameNode n (nodeAt ms i) ≡ true → numberOf n (drop i ms) ≡ 0
+  unfolding numberOf nodeAt
+  number-here h e = rw (drop-cons ms i (Input []) h, e)
+
+  pub number-on : i < length ms → sameNode n (nodeAt ms i) ≡ false → numberOf n (drop i ms) ≡ suc (numberOf n (drop (i + 1) ms))
+  unfolding numberOf nodeAt
+  number-on h e = rw (drop-cons ms i (Input []) h, e, add-one)
+
+  pub number-end : length ms ≤ i → numberOf n (drop i ms) ≡ 0
+  unfolding numberOf
+  number-end h = rw (drop-of-length-le ms {i = i} h)
+
+-- a node that was not there stands last
+pub number-new : (n : LutNode) (ms : List LutNode) → length ms ≤ numberOf n ms → numberOf n (ms ++ (n ∷ [])) ≡ length ms
+unfolding numberOf
+number-new n [] h = rw (node-self n)
+number-new n (m ∷ ms) h = by (sameNode n m) h (number-new n ms)
+  where
+    by : (b : Bool) → suc (length ms) ≤ (if b then 0 else suc (numberOf n ms)) → (length ms ≤ numberOf n ms → numberOf n (ms ++ (n ∷ [])) ≡ length ms)
+        → (if b then 0 else suc (numberOf n (ms ++ (n ∷ [])))) ≡ suc (length ms)
+    by true h r = absurd (not-suc-le-zero h)
+    by false h r = ap suc (r (le-of-suc-le-suc h))

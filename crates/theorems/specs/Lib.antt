@@ -13,6 +13,7 @@ pub mod Bits
 pub mod Results
 pub mod Names
 pub mod Members
+pub mod Wanted
 pub mod Counts
 pub mod Terms
 pub mod Bounds

@@ -1,0 +1,3 @@
+-- What the writer leaves in its buffer, piece by piece.
+pub mod Put
+pub mod Lines
