@@ -5,3 +5,4 @@ pub mod Records
 pub mod Store
 pub mod Order
 pub mod Nodes
+pub mod Reuse

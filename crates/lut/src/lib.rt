@@ -8,6 +8,7 @@
 pub mod node;
 mod order;
 pub mod record;
+pub mod reuse;
 pub mod store;
 
 use rotation::complete;
