@@ -6,3 +6,4 @@ pub mod Store
 pub mod Order
 pub mod Nodes
 pub mod Reuse
+pub mod Prune
