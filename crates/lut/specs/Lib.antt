@@ -5,3 +5,5 @@ pub mod Records
 pub mod Store
 pub mod Order
 pub mod Nodes
+pub mod Reuse
+pub mod Prune

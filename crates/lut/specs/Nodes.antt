@@ -163,3 +163,13 @@ module _ (bytes : List ℕ) (i : ℕ) (s : IsNode bytes i) where
       let d : drop 6 (recordAt bytes i) ≡ take 32 (drop (38 * i + 6) bytes) = sym (part-drop 32 6 (drop (38 * i) bytes)) ∙ ap (λ (l : List ℕ). take 32 l) (drop-drop 6 (38 * i) bytes) in
       let t : take n (drop 6 (recordAt bytes i)) ≡ take n (drop (38 * i + 6) bytes) = ap (λ (l : List ℕ). take n l) d ∙ take-take n 32 (drop (38 * i + 6) bytes) h in
       sym t ∙ rw (node-byte 2 (omega arith), s .kept) (table-bytes i (nodeOf bytes i) (s .fine) e .1)
+
+-- sources come before the node
+pub source-before : (i : ℕ) (n : LutNode) → Fine i n → (k : ℕ) → k < length (needs n) → getD (needs n) k 0 < i
+unfolding Fine needs
+source-before i (Input name) f k h = absurd (not-suc-le-zero h)
+source-before i (Linear c ts) f k h =
+    let l : k < length ts = rw (sources-length ts) at h in
+    rw (sources-at ts k l) (fine-at i ts k (term (pos 0) 0) (f .2) l .1)
+source-before i (Bootstrap j table) f zero h = f .0
+source-before i (Bootstrap j table) f (suc k) h = absurd (not-suc-le-zero (le-of-suc-le-suc h))

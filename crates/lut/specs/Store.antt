@@ -58,7 +58,7 @@ is-record i n r f e =
     (record { size = rw e (record-length i n f); fine = rw b f; kept = rw b e }, b)
 
 module _ (bytes : List ℕ) (count : ℕ) (r : List ℕ) (s : IsStore bytes count) (q : IsRecord count r) where
-  same-here : (i : ℕ) → i < count → sameName r (recordAt bytes i) ≡ sameNode (nodeIn r) (nodeAt (storeOf bytes count) i)
+  pub same-here : (i : ℕ) → i < count → sameName r (recordAt bytes i) ≡ sameNode (nodeIn r) (nodeAt (storeOf bytes count) i)
   same-here i h =
       rw (at-store bytes i count h)
       (ap₂ {C = Bool} sameName (q .kept) (s .kept i h) ∙ same-record count i (nodeIn r) (nodeOf bytes i) (q .fine) (s .fine i h))
@@ -107,7 +107,7 @@ pub record Summed (count : ℕ) (s : Terms) (n : LutNode) : Type 0 where
   pub fine : Fine count (Linear (s .constant) (termsIn s))
   pub is : Linear (s .constant) (termsIn s) ≡ n
 
-pub summed : (count : ℕ) (many : Bool) (t s : Terms) → GoodTerms count t → count < 672 → Arranged (t .n) (t .constant) (linearTerms many (termsIn t)) s
+pub summed : (count : ℕ) (many : Bool) (t s : Terms) → GoodTerms count t → count ≤ 672 → Arranged (t .n) (t .constant) (linearTerms many (termsIn t)) s
     → length (s .coefs) ≡ 11 → length (s .sources) ≡ 11 → Summed count s (Linear (t .constant) (linearTerms many (termsIn t)))
 unfolding Fine
 summed count many t s g h a e f =

@@ -7,7 +7,9 @@
 // Bytes that are not used are 0, so equal nodes have equal records.
 pub mod node;
 mod order;
+pub mod prune;
 pub mod record;
+pub mod reuse;
 pub mod store;
 
 use rotation::complete;

@@ -1,5 +1,6 @@
 -- `lut::linear` meets its contract.
 use mathlib.Core.Path.{_≡_, _∙_}
+use native.Mathlib.Omega.{arith}
 use lib.ListN.{length}
 use Rattle.rules.specs.Network.{Linear}
 use Rattle.rules.specs.Store.{linearTerms}
@@ -20,7 +21,7 @@ long c = (search needs, search needs)
 told : (c : tie.After-linear-terms) → Summed (c .before .args .count) (c .linear-terms .result) (Linear (c .before .args .t .constant) (linearTerms (c .before .args .many) (termsIn (c .before .args .t))))
 told c =
     let s = c .before in
-    summed (s .args .count) (s .args .many) (s .args .t) (c .linear-terms .result) (s .pre .2) (s .pre .1) (c .linear-terms .ensures) (long c .0) (long c .1)
+    summed (s .args .count) (s .args .many) (s .args .t) (c .linear-terms .result) (s .pre .2) (omega arith) (c .linear-terms .ensures) (long c .0) (long c .1)
 
 -- src/lib.rt:46:9
 linear-terms-requires : tie.Need-linear-terms-requires
