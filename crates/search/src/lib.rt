@@ -1,0 +1,3 @@
+// The search for the scale pair under which two cones become one.
+pub mod energy;
+pub mod score;
