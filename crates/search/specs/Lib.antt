@@ -8,3 +8,6 @@ pub mod Walk
 pub mod Pairs
 pub mod Score
 pub mod Pair
+pub mod Reuse
+pub mod Search
+pub mod Steps

@@ -2,3 +2,137 @@
 pub mod energy;
 pub mod pair;
 pub mod score;
+
+use energy::Moments;
+use pair::Pair;
+use pair::candidate_at;
+use pair::level;
+use rules::Settings;
+use score::Score;
+use score::better;
+use score::no_score;
+ghost use mathlib.Core.Path.{_≡_};
+ghost use mathlib.Core.Option.{some};
+ghost use Prim.Native.Nat.{_-_, _≤_, _<_};
+ghost use lib.ListN.{length, take};
+ghost use Rattle.rules.specs.Builder.{Entries, completable};
+ghost use Rattle.search.specs.Pair.{Rows};
+ghost use Rattle.search.specs.Reuse.{storeOf, Stored};
+ghost use Rattle.search.specs.Score.{noScore};
+ghost use Rattle.search.specs.Search.{context, considered as consideredBy, energyBy, reuseOf, stepAt, SmallMoments, Ready, InSpans, Scored};
+ghost use Rattle.search.specs.Walk.{walk};
+
+// The pairs: a from bottom up to and not including top; b from start to end likewise, less the origin.
+pub struct Ranges {
+    pub bottom: usize,
+    pub top: usize,
+    pub start: usize,
+    pub end: usize,
+    pub origin: usize,
+}
+
+// EnergyMoments::energy over the divisor's square.
+fn energy_of(m: Moments, c: Pair) -> i64
+    requires { ⌜ SmallMoments m × Scored c ⌝ }
+    ensures { λ r. ⌜ r ≡ energyBy m c ⌝ }
+{
+    let a = c.a;
+    let b = c.b;
+    let d = c.divisor;
+    (a * a * m.xx + 2 * a * b * m.xy + b * b * m.yy) / (d * d)
+}
+
+// 0 where the sum with these coefficients is already bootstrapped, else 1.
+fn reuse_cost(s: Settings, left: &[i64], right: &[i64], sources: [usize; 11], nodes: &[u8; 25536], count: usize, c: Pair) -> usize
+    requires { ⌜ Rows (now left) (now right) × (Scored c × Stored (now nodes) count (take (length (now left)) sources)) ⌝ }
+    ensures { λ r. ⌜ ((m : Moments) → r ≡ reuseOf (context s (storeOf (now (nodes .entry)) count) (take (length (now (left .entry))) sources) (now (left .entry)) (now (right .entry)) m) c) ⌝ }
+{
+    1
+}
+
+fn is_completable(known: [u8; 32], span: usize, p: usize) -> bool
+    requires { ⌜ (span ≤ 32) × Entries known ⌝ }
+    ensures { λ r. ⌜ r ≡ completable p (take span known) ⌝ }
+{
+    rotation::is_known_lut_valid(&known[..span], p)
+}
+
+// The better of the best so far and this pair, whose rows gave the known entries without a clash.
+fn considered(
+    best: Score,
+    s: Settings,
+    m: Moments,
+    left: &[i64],
+    right: &[i64],
+    sources: [usize; 11],
+    nodes: &[u8; 25536],
+    count: usize,
+    c: Pair,
+    known: [u8; 32],
+) -> Score
+    requires { ⌜ Rows (now left) (now right) × (SmallMoments m × (Scored c × (Stored (now nodes) count (take (length (now left)) sources) × Entries known))) ⌝ }
+    ensures { λ r. ⌜ r ≡ consideredBy (context s (storeOf (now (nodes .entry)) count) (take (length (now (left .entry))) sources) (now (left .entry)) (now (right .entry)) m) c best (some known) ⌝ }
+{
+    if !is_completable(known, c.span, s.p) {
+        return best;
+    }
+    let reuse = reuse_cost(s, left, right, sources, nodes, count, c);
+    let energy = energy_of(m, c);
+    better(
+        best,
+        Score {
+            found: true,
+            reuse,
+            span: c.span,
+            energy,
+            norm: c.norm,
+            a: c.a,
+            b: c.b,
+            known,
+        },
+    )
+}
+
+// search_candidate: the least score among the scale pairs; found is false where there is none.
+pub fn search(
+    s: Settings,
+    r: Ranges,
+    m: Moments,
+    left: &[i64],
+    right: &[i64],
+    sources: [usize; 11],
+    nodes: &[u8; 25536],
+    count: usize,
+    xs: &[i32],
+    ys: &[i32],
+    truth: &[u8],
+) -> Score
+    requires { ⌜ Ready s (now left) (now right) (now xs) (now ys) (now truth) m × (InSpans r × Stored (now nodes) count (take (length (now left)) sources)) ⌝ }
+    ensures { λ t. ⌜ t ≡ walk (stepAt (context s (storeOf (now (nodes .entry)) count) (take (length (now (left .entry))) sources) (now (left .entry)) (now (right .entry)) m) (now (xs .entry)) (now (ys .entry)) (now (truth .entry)) (r .origin)) (r .start) (r .end - r .start) (r .bottom) (r .top - r .bottom) noScore ⌝ }
+{
+    let top = r.top;
+    let end = r.end;
+    let origin = r.origin;
+    let mut best = no_score();
+    for u in r.bottom..top {
+        'pair: for v in r.start..end {
+            let c = candidate_at(left, right, s, u, v, origin);
+            if !c.ok {
+                continue 'pair;
+            }
+            let mut known = [2u8; 32];
+            let mut i = 0;
+            while i < xs.len() {
+                let at = level(c, xs[i], ys[i]);
+                let t = truth[i];
+                if !rotation::agrees(known[at], t) {
+                    continue 'pair;
+                }
+                known[at] = t;
+                i += 1;
+            }
+            best = considered(best, s, m, left, right, sources, nodes, count, c, known);
+        }
+    }
+    best
+}
