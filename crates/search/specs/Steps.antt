@@ -10,14 +10,14 @@ use native.Mathlib.Omega.{arith}
 use borrow.Author.Tests.{leb-true}
 use lib.Dec.{leb}
 use lib.IntN.{ℤ, pos, natAbs, _+ℤ_, _-ℤ_}
-use lib.ListN.{length, getD, set, drop, replicate, length-replicate}
+use lib.ListN.{length, getD, set, take, drop, replicate}
 use lib.Pow.{pow-pos}
 use lib.Signed.{_≤ℤ_}
 use Rattle.laws.specs.Gcd.{gcd, gcd-is, gcd-zero}
 use Rattle.laws.specs.Integer.{ints, plus, minus, abs-parts, sub-parts, one-part-zero}
 use Rattle.laws.specs.Test.{if_then_else_, decide, both-left, lt-or-le}
 use Rattle.rules.specs.declared.Settings.{Settings}
-use Rattle.rules.specs.Builder.{Entries, agrees, enter}
+use Rattle.rules.specs.Builder.{Entries, agrees, enter, completable}
 use Rattle.rules.specs.Cone.{linearTable, withinNorm}
 use Rattle.rules.specs.Scale.{gcdFrom, divisor, normalised, isScalePair, norm}
 use Rattle.rules.specs.Span.{least, span}
@@ -33,7 +33,8 @@ use Rattle.search.specs.declared.score.Score.{Score}
 use Rattle.search.specs.MergedIntegers.{zipWith-length, zipWith-at}
 use Rattle.search.specs.MergedValues.{combined, mergedValue, merged-values}
 use Rattle.search.specs.Pair.{Rows, Scaling, mergedRow, weighed, measured, noPair, pairOf, levelOf, Level, row-small}
-use Rattle.search.specs.Search.{Context, rowValues, enteredFrom, considered, stepOf, stepAt, SmallMoments, ValuesIn, Ready, Scored}
+use Rattle.search.specs.Score.{betterScore}
+use Rattle.search.specs.Search.{Context, rowValues, enteredFrom, energyBy, reuseOf, scoreOf, considered, stepOf, stepAt, ValuesIn, Ready, Scored}
 
 module _ (k : Context) (xs ys : List ℤ) (ts : List ℕ) (origin u v : ℕ) (best : Score) (c : Pair)
     (e : c ≡ pairOf (k .settings) (k .left) (k .right) (pos u) (pos v -ℤ pos origin)) where
@@ -56,6 +57,24 @@ module _ (k : Context) (xs ys : List ℤ) (ts : List ℕ) (origin u v : ℕ) (be
   pub step-considered : c .ok ≡ true → (known : List ℕ) → some known ≡ enteredFrom c xs ys ts 0 (replicate 32 2)
       → (r : Score) → r ≡ considered k c best (some known) → r ≡ stepAt k xs ys ts origin u v best
   step-considered h known f r g = g ∙ ap (considered k c best) f ∙ step-tried h
+
+-- ---- a pair is considered: its entries can't be completed, or its score is compared
+module _ (k : Context) (c : Pair) (best : Score) (known : List ℕ) where
+  pub considered-no : completable (k .settings .p) (take (c .span) known) ≡ false → best ≡ considered k c best (some known)
+  unfolding considered
+  considered-no h = ap (λ t. if t then betterScore best (scoreOf k c known) else best) (sym h)
+
+  pub considered-yes : completable (k .settings .p) (take (c .span) known) ≡ true → (r s : Score) → r ≡ betterScore best s → s ≡ scoreOf k c known
+      → r ≡ considered k c best (some known)
+  unfolding considered
+  considered-yes h r s e f = e ∙ ap (betterScore best) f ∙ ap (λ t. if t then betterScore best (scoreOf k c known) else best) (sym h)
+
+  pub score-is : (reuse : ℕ) (energy a b : ℤ) → reuse ≡ reuseOf k c → energy ≡ energyBy (k .moments) c → a ≡ c .a → b ≡ c .b
+      → _≡_ {A = Score} (record { found = true; reuse = reuse; span = c .span; energy = energy; norm = c .norm; a = a; b = b; known = known }) (scoreOf k c known)
+  unfolding scoreOf
+  score-is reuse energy a b e f g h =
+      ap₂ (λ (p : ℕ) (q : ℤ). record { found = true; reuse = p; span = c .span; energy = q; norm = c .norm; a = a; b = b; known = known }) e f
+      ∙ ap₂ (λ (p q : ℤ). record { found = true; reuse = reuseOf k c; span = c .span; energy = energyBy (k .moments) c; norm = c .norm; a = p; b = q; known = known }) g h
 
 -- ---- the rows: a turn, a clash, and the end
 module _ (c : Pair) (xs ys : List ℤ) (ts : List ℕ) (y-long : length ys ≡ length xs) (t-long : length ts ≡ length xs) where

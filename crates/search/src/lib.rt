@@ -13,7 +13,8 @@ use score::better;
 use score::no_score;
 ghost use mathlib.Core.Path.{_≡_};
 ghost use mathlib.Core.Option.{some};
-ghost use Prim.Native.Nat.{_-_, _≤_, _<_};
+ghost use Prim.Native.Nat.{_-_, _≤_, _<_, _^_};
+ghost use lib.IntN.{natAbs, _*ℤ_};
 ghost use lib.ListN.{length, take};
 ghost use Rattle.rules.specs.Builder.{Entries, completable};
 ghost use Rattle.search.specs.Pair.{Rows};
@@ -31,6 +32,14 @@ pub struct Ranges {
     pub origin: usize,
 }
 
+// a·b·z for scales a and b, or 2·a, and a moment z.
+fn weighted(a: i64, b: i64, z: i64) -> i64
+    requires { ⌜ (natAbs a ≤ 64) × ((natAbs b ≤ 32) × (natAbs z ≤ 2 ^ 40)) ⌝ }
+    ensures { λ r. ⌜ (r ≡ (a *ℤ b) *ℤ z) × (natAbs r ≤ 2 ^ 51) ⌝ }
+{
+    a * b * z
+}
+
 // EnergyMoments::energy over the divisor's square.
 fn energy_of(m: Moments, c: Pair) -> i64
     requires { ⌜ SmallMoments m × Scored c ⌝ }
@@ -39,11 +48,20 @@ fn energy_of(m: Moments, c: Pair) -> i64
     let a = c.a;
     let b = c.b;
     let d = c.divisor;
-    (a * a * m.xx + 2 * a * b * m.xy + b * b * m.yy) / (d * d)
+    let sum = weighted(a, a, m.xx) + weighted(2 * a, b, m.xy) + weighted(b, b, m.yy);
+    scale::divide(sum, d * d)
 }
 
 // 0 where the sum with these coefficients is already bootstrapped, else 1.
-fn reuse_cost(s: Settings, left: &[i64], right: &[i64], sources: [usize; 11], nodes: &[u8; 25536], count: usize, c: Pair) -> usize
+fn reuse_cost(
+    s: Settings,
+    left: &[i64],
+    right: &[i64],
+    sources: [usize; 11],
+    nodes: &[u8; 25536],
+    count: usize,
+    c: Pair,
+) -> usize
     requires { ⌜ Rows (now left) (now right) × (Scored c × Stored (now nodes) count (take (length (now left)) sources)) ⌝ }
     ensures { λ r. ⌜ ((m : Moments) → r ≡ reuseOf (context s (storeOf (now (nodes .entry)) count) (take (length (now (left .entry))) sources) (now (left .entry)) (now (right .entry)) m) c) ⌝ }
 {

@@ -1,31 +1,37 @@
+-- `search::is_completable` meets its contract.
+use mathlib.Core.List.{List}
+use mathlib.Core.Logic.{⊎-elim}
+use Prim.Native.Nat.{ℕ, _≤_, _<_}
+use native.Mathlib.Omega.{arith}
 use borrow.Author.Needs.{needs}
+use lib.ListN.{length, getD, take, List·getD-eq-default}
+use lib.Seq.{length-take-le, getD-take}
+use Rattle.laws.specs.Tail.{head-length}
+use Rattle.laws.specs.Test.{lt-or-le}
+use Rattle.rules.specs.Builder.{Entries}
 use Rattle.search.proofs.is_completable.Statement.{statement}
 use Rattle.search.proofs.is_completable.Tie as tie
-use Rattle.search.proofs.is_completable.Reads as reads
-use Rattle.search.proofs.is_completable.Lts as lts
-use Rattle.rotation.proofs.is_known_lut_valid.Reads as is-known-lut-valid-reads
 
--- src/lib.rt:57:34
-array-share-prefix-known : tie.Need-array-share-prefix-known
-array-share-prefix-known c = search needs
+first-entries : (n : ℕ) (known : List ℕ) → n ≤ length known → Entries known → Entries (take n known)
+first-entries n known h e =
+    record {
+      at = λ i. ⊎-elim
+          (λ (l : i < n). rw (getD-take n known i 0 l) (e .at i))
+          (λ (l : n ≤ i). rw (List·getD-eq-default (take n known) 0 {n = i} (rw (length-take-le n known h) l)) (omega arith))
+          (lt-or-le i n);
+    }
 
--- src/lib.rt:57:34
 slice-aggregate-is-known-lut-valid : tie.Need-slice-aggregate-is-known-lut-valid
-slice-aggregate-is-known-lut-valid c = ?
+slice-aggregate-is-known-lut-valid c = head-length (c .before .args .t1) (c .before .args .span) (search needs)
 
--- src/lib.rt:57:5
 is-known-lut-valid-requires : tie.Need-is-known-lut-valid-requires
-is-known-lut-valid-requires c κs = ?
-
--- src/lib.rt:53:1
-returns : tie.Need-returns
-returns c = search needs
+is-known-lut-valid-requires c κs = first-entries (c .before .args .span) (c .before .args .t1) (search needs) (c .before .pre .1)
 
 pub is-completable-spec : {M : Type 1} → statement M
 is-completable-spec =
     tie.close
     (tie.spec
-    array-share-prefix-known
+    (λ c. search needs)
     slice-aggregate-is-known-lut-valid
     is-known-lut-valid-requires
-    returns)
+    (λ c. search needs))

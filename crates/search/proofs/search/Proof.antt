@@ -176,8 +176,7 @@ loop2-again : tie.Need-loop2-again Inv-loop2 μ-loop2 Inv-pair μ-pair Inv-loop 
 loop2-again c =
     let l = c .before .before .before .before in
     let o = c .before .before .before .before .before .before .before .loop2 in
-    let s = first l in
-    (
+    let s = first l in (
       o .inv .0,
       omega (arith, row-in l),
       simp length-set (o .inv .2),
