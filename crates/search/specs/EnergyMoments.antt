@@ -1,5 +1,5 @@
 -- The energy of a scale pair by three moments of the rows (EnergyMoments in the Rust).
-use mathlib.Core.Path.{_≡_, refl, sym, ap, ap₂, _∙_}
+use mathlib.Core.Path.{_≡_, refl, sym, ap, ap₂, subst, _∙_}
 use mathlib.Core.List.{List, [], _∷_, zipWith}
 use Prim.Native.Nat.{ℕ, suc, _+_, _*_, _<_, _≤_}
 use native.Mathlib.Nat.{mul-le-mul}
@@ -12,9 +12,10 @@ use Rattle.rules.specs.Scale.{divisor, normalised}
 use Rattle.rules.specs.Cone.{linearTable, energy}
 use Rattle.scale.specs.Divisor.{divisor-not-zero}
 use Rattle.cone.specs.Table.{table-length}
+use Rattle.scale.specs.Limits.{Within}
 use Rattle.search.specs.MergedIntegers.{mul-add, add-mul, quot-of}
 use Rattle.search.specs.MergedValues.{combined, times, table-combined, table-times-divisor}
-use Rattle.search.specs.RowsCompacted.{sumOver}
+use Rattle.search.specs.RowsCompacted.{sumOver, Compacted}
 
 -- What the moments add up.
 unfoldable pub xxOf : ℤ → ℤ → ℤ
@@ -54,9 +55,9 @@ square-combined a b x y =
     let u = a *ℤ x in
     let v = b *ℤ y in
     let w = (a *ℤ b) *ℤ (x *ℤ y) in
-    rw (add-mul (u +ℤ v) u v, mul-add u u v, mul-add v u v, squares a x, squares b y, cross a b x y, cross-back a b x y, twice a b (x *ℤ y))
+    rw (add-mul (u +ℤ v) u v, mul-add u u v, mul-add v u v, squares a x, squares b y, cross a b x y, cross-back a b x y)
     (omega
-    (arith, ints, add-parts (((a *ℤ a) *ℤ (x *ℤ x)) +ℤ w) (w +ℤ ((b *ℤ b) *ℤ (y *ℤ y))), add-parts ((a *ℤ a) *ℤ (x *ℤ x)) w, add-parts w ((b *ℤ b) *ℤ (y *ℤ y)), add-parts (((a *ℤ a) *ℤ (x *ℤ x)) +ℤ (w +ℤ w)) ((b *ℤ b) *ℤ (y *ℤ y)), add-parts ((a *ℤ a) *ℤ (x *ℤ x)) (w +ℤ w), add-parts w w))
+    (arith, ints, twice a b (x *ℤ y), add-parts (((a *ℤ a) *ℤ (x *ℤ x)) +ℤ w) (w +ℤ ((b *ℤ b) *ℤ (y *ℤ y))), add-parts ((a *ℤ a) *ℤ (x *ℤ x)) w, add-parts w ((b *ℤ b) *ℤ (y *ℤ y)), add-parts (((a *ℤ a) *ℤ (x *ℤ x)) +ℤ (((pos 2 *ℤ a) *ℤ b) *ℤ (x *ℤ y))) ((b *ℤ b) *ℤ (y *ℤ y)), add-parts ((a *ℤ a) *ℤ (x *ℤ x)) (((pos 2 *ℤ a) *ℤ b) *ℤ (x *ℤ y)), add-parts w w))
 
 row-energy : (q d a b x y : ℤ) → q *ℤ d ≡ combined a b x y → (q *ℤ q) *ℤ (d *ℤ d) ≡ byMoments a b (xxOf x y) (xyOf x y) (yyOf x y)
 row-energy q d a b x y e = sym (squares q d) ∙ ap (λ z. z *ℤ z) e ∙ square-combined a b x y
@@ -132,3 +133,13 @@ sum-small f k [] ys e h = omega arith
 sum-small f k (x ∷ xs) [] e h = absurd (omega arith)
 sum-small f k (x ∷ xs) (y ∷ ys) e h =
     omega (arith, abs-add (f x y) (sumOver f xs ys), h 0 (omega arith), sum-small f k xs ys (omega arith) (λ i l. h (suc i) (omega arith)))
+
+-- ---- The moments that rows with counts have.
+
+module _ (X Y : List ℤ) (T : List ℕ) (xs ys : List ℤ) (ts counts : List ℕ) (c : Compacted X Y T xs ys ts counts) where
+  -- no value is larger than the largest of all rows
+  pub compacted-left : (k : ℕ) → Within k X → (i : ℕ) → i < length xs → natAbs (getD xs i (pos 0)) ≤ k
+  compacted-left k w i h = let r = c .comes i h in subst (λ v. natAbs v ≤ k) (r .left) (w (r .at))
+
+  pub compacted-right : (k : ℕ) → Within k Y → (i : ℕ) → i < length xs → natAbs (getD ys i (pos 0)) ≤ k
+  compacted-right k w i h = let r = c .comes i h in subst (λ v. natAbs v ≤ k) (r .right) (w (r .at))

@@ -4,6 +4,8 @@ pub mod MergedValues
 pub mod Rows
 pub mod RowsCompacted
 pub mod EnergyMoments
+pub mod RowsFrame
+pub mod EnergyRows
 pub mod Walk
 pub mod Pairs
 pub mod Score

@@ -1,5 +1,5 @@
 -- Products and sums of integers, and two lists taken together.
-use mathlib.Core.Path.{_≡_, refl, sym, ap, ap₂, subst, _∙_}
+use mathlib.Core.Path.{_≡_, refl, sym, ap, subst, _∙_}
 use mathlib.Core.List.{List, [], _∷_, _++_, map, zipWith}
 use Prim.Native.Nat.{ℕ, zero, suc, _+_, _*_, _/_, _<_, _∣_}
 use native.Mathlib.Nat.{not-suc-le-zero, le-of-suc-le-suc, zero-lt-suc, mul-div-cancel, dvd-mul-left}
@@ -20,9 +20,6 @@ pub add-mul : (a x y : ℤ) → (x +ℤ y) *ℤ a ≡ (x *ℤ a) +ℤ (y *ℤ a)
 add-mul a x y =
     omega
     (arith, ints, plus-mul (x +ℤ y) a, minus-mul (x +ℤ y) a, ap (λ k. plus a * k) (add-parts x y), ap (λ k. minus a * k) (add-parts x y), add-parts (x *ℤ a) (y *ℤ a), plus-mul x a, minus-mul x a, plus-mul y a, minus-mul y a)
-
-pub mul-assoc : (a b c : ℤ) → (a *ℤ b) *ℤ c ≡ a *ℤ (b *ℤ c)
-mul-assoc a b c = eq-of (simp (plus-mul, minus-mul) (omega arith))
 
 -- ---- What a divisor other than 0 divides has one quotient.
 

@@ -1,7 +1,7 @@
 -- The values of two cones merged under a scale pair: at each row a·x + b·y, divided by the divisor of the merged coefficients.
 use mathlib.Core.Path.{_≡_, refl, sym, ap, ap₂, _∙_}
-use mathlib.Core.List.{List, [], _∷_, _++_, map, zipWith, map-map}
-use Prim.Native.Nat.{ℕ, zero, suc, _+_, _<_}
+use mathlib.Core.List.{List, [], _∷_, _++_, map, zipWith}
+use Prim.Native.Nat.{ℕ, suc, _+_, _<_}
 use native.Mathlib.Omega.{arith}
 use lib.IntN.{ℤ, pos, natAbs, _+ℤ_, _*ℤ_, zero-*ℤ}
 use lib.ListN.{length, getD, length-map}

@@ -5,7 +5,7 @@ use mathlib.Core.Logic.{⊎-elim}
 use Prim.Native.Nat.{ℕ, zero, suc, _+_, _<_, _≤_}
 use native.Mathlib.Nat.{not-suc-le-zero}
 use native.Mathlib.Omega.{arith}
-use lib.IntN.{ℤ, pos, natAbs, _+ℤ_, _-ℤ_, _*ℤ_}
+use lib.IntN.{ℤ, pos, natAbs, _+ℤ_, _-ℤ_, _*ℤ_, *ℤ-one, one}
 use lib.ListN.{length, getD, set, replicate, length-append, length-set, List·getD-append}
 use lib.Seq.{getD-append-seam}
 use Rattle.laws.specs.Integer.{ints, plus, minus, add-parts, plus-mul, minus-mul}
@@ -92,18 +92,18 @@ sum-last f x y (u ∷ xs) (v ∷ ys) e =
     ap (λ z. f u v +ℤ z) (sum-last f x y xs ys (omega arith))
     ∙ omega (arith, ints, add-parts (f u v) (sumOver f xs ys +ℤ f x y), add-parts (sumOver f xs ys) (f x y), add-parts (f u v +ℤ sumOver f xs ys) (f x y), add-parts (f u v) (sumOver f xs ys))
 
-counted-last : (f : ℤ → ℤ → ℤ) (x y : ℤ) (xs ys : List ℤ) (ns : List ℕ) → length ys ≡ length xs → length ns ≡ length xs
-    → sumCounted f (xs ++ (x ∷ [])) (ys ++ (y ∷ [])) (ns ++ (1 ∷ [])) ≡ sumCounted f xs ys ns +ℤ f x y
+pub counted-last : (f : ℤ → ℤ → ℤ) (x y : ℤ) (n : ℕ) (xs ys : List ℤ) (ns : List ℕ) → length ys ≡ length xs → length ns ≡ length xs
+    → sumCounted f (xs ++ (x ∷ [])) (ys ++ (y ∷ [])) (ns ++ (n ∷ [])) ≡ sumCounted f xs ys ns +ℤ (f x y *ℤ pos n)
 unfolding sumCounted plus minus
-counted-last f x y [] [] [] e d =
-    omega (arith, ints, add-parts (f x y *ℤ pos 1) (pos 0), add-parts (pos 0) (f x y), plus-mul (f x y) (pos 1), minus-mul (f x y) (pos 1))
-counted-last f x y [] [] (n ∷ ns) e d = absurd (omega arith)
-counted-last f x y [] (v ∷ ys) ns e d = absurd (omega arith)
-counted-last f x y (u ∷ xs) [] ns e d = absurd (omega arith)
-counted-last f x y (u ∷ xs) (v ∷ ys) [] e d = absurd (omega arith)
-counted-last f x y (u ∷ xs) (v ∷ ys) (n ∷ ns) e d =
-    ap (λ z. (f u v *ℤ pos n) +ℤ z) (counted-last f x y xs ys ns (omega arith) (omega arith))
-    ∙ omega (arith, ints, add-parts (f u v *ℤ pos n) (sumCounted f xs ys ns +ℤ f x y), add-parts (sumCounted f xs ys ns) (f x y), add-parts ((f u v *ℤ pos n) +ℤ sumCounted f xs ys ns) (f x y), add-parts (f u v *ℤ pos n) (sumCounted f xs ys ns))
+counted-last f x y n [] [] [] e d = omega (arith, ints, add-parts (f x y *ℤ pos n) (pos 0), add-parts (pos 0) (f x y *ℤ pos n))
+counted-last f x y n [] [] (m ∷ ns) e d = absurd (omega arith)
+counted-last f x y n [] (v ∷ ys) ns e d = absurd (omega arith)
+counted-last f x y n (u ∷ xs) [] ns e d = absurd (omega arith)
+counted-last f x y n (u ∷ xs) (v ∷ ys) [] e d = absurd (omega arith)
+counted-last f x y n (u ∷ xs) (v ∷ ys) (m ∷ ns) e d =
+    let g = f x y *ℤ pos n in
+    ap (λ z. (f u v *ℤ pos m) +ℤ z) (counted-last f x y n xs ys ns (omega arith) (omega arith))
+    ∙ omega (arith, ints, add-parts (f u v *ℤ pos m) (sumCounted f xs ys ns +ℤ g), add-parts (sumCounted f xs ys ns) g, add-parts ((f u v *ℤ pos m) +ℤ sumCounted f xs ys ns) g, add-parts (f u v *ℤ pos m) (sumCounted f xs ys ns))
 
 counted-more : (f : ℤ → ℤ → ℤ) (xs ys : List ℤ) (ns : List ℕ) (p : ℕ) → length ys ≡ length xs → length ns ≡ length xs → p < length xs
     → sumCounted f xs ys (set ns p (getD ns p 0 + 1)) ≡ sumCounted f xs ys ns +ℤ f (getD xs p (pos 0)) (getD ys p (pos 0))
@@ -159,6 +159,7 @@ module _ (X Y : List ℤ) (T : List ℕ) (xs ys : List ℤ) (ts counts : List �
     (y-all : length Y ≡ length X) (t-all : length T ≡ length X) (x y : ℤ) (t : ℕ) where
   -- a row that was not met before
   pub compacted-new : Compacted (X ++ (x ∷ [])) (Y ++ (y ∷ [])) (T ++ (t ∷ [])) (xs ++ (x ∷ [])) (ys ++ (y ∷ [])) (ts ++ (t ∷ [])) (counts ++ (1 ∷ []))
+  unfolding one
   compacted-new =
       record {
         y-long = simp length-append (omega (arith, c .y-long));
@@ -171,7 +172,7 @@ module _ (X Y : List ℤ) (T : List ℕ) (xs ys : List ℤ) (ts counts : List �
             (λ i h. row-more (getD xs i (pos 0)) (getD ys i (pos 0)) x y (getD ts i 0) t X Y T y-all t-all (c .comes i h))
             (row-last x y t X Y T y-all t-all);
         sums = λ f.
-            sum-last f x y X Y y-all ∙ ap (λ z. z +ℤ f x y) (c .sums f) ∙ sym (counted-last f x y xs ys counts (c .y-long) (c .c-long));
+            sum-last f x y X Y y-all ∙ ap₂ (λ z w. z +ℤ w) (c .sums f) (sym (*ℤ-one (f x y))) ∙ sym (counted-last f x y 1 xs ys counts (c .y-long) (c .c-long));
       }
 
   -- a row that is the p-th

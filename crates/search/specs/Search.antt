@@ -18,6 +18,7 @@ use Rattle.search.specs.declared.pair.Pair.{Pair}
 use Rattle.search.specs.declared.score.Score.{Score}
 use Rattle.search.specs.declared.Ranges.{Ranges}
 use Rattle.search.specs.EnergyMoments.{byMoments}
+use Rattle.search.specs.EnergyRows.{Small}
 use Rattle.search.specs.MergedValues.{mergedValue}
 use Rattle.search.specs.Pair.{Rows, Scaling, merged, pairOf}
 use Rattle.search.specs.Score.{betterScore}
@@ -83,11 +84,6 @@ unfoldable pub stepAt : Context → List ℤ → List ℤ → List ℕ → ℕ �
 stepAt k xs ys ts origin u v best = stepOf k xs ys ts (pairOf (k .settings) (k .left) (k .right) (pos u) (pos v -ℤ pos origin)) best
 
 -- ---- what the code asks for
-pub record SmallMoments (m : Moments) : Type 0 where
-  pub xx : natAbs (m .xx) ≤ 2 ^ 40
-  pub xy : natAbs (m .xy) ≤ 2 ^ 40
-  pub yy : natAbs (m .yy) ≤ 2 ^ 40
-
 -- Two values that both tables have at one row.
 pub record ValuesIn (x y : ℤ) (left right : List ℤ) : Type 0 where
   pub at : ℕ
@@ -103,7 +99,7 @@ pub record Ready (s : Settings) (left right xs ys : List ℤ) (ts : List ℕ) (m
   pub y-long : length ys ≡ length xs
   pub t-long : length ts ≡ length xs
   pub comes : (j : ℕ) → j < length xs → ValuesIn (getD xs j (pos 0)) (getD ys j (pos 0)) left right
-  pub moments : SmallMoments m
+  pub moments : Small m
 
 -- The pairs lie within the spans.
 pub record InSpans (r : Ranges) : Type 0 where

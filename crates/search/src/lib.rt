@@ -1,6 +1,7 @@
 // The search for the scale pair under which two cones become one.
 pub mod energy;
 pub mod pair;
+pub mod rows;
 pub mod score;
 
 use energy::Moments;
@@ -17,10 +18,11 @@ ghost use Prim.Native.Nat.{_-_, _≤_, _<_, _^_};
 ghost use lib.IntN.{natAbs, _*ℤ_};
 ghost use lib.ListN.{length, take};
 ghost use Rattle.rules.specs.Builder.{Entries, completable};
+ghost use Rattle.search.specs.EnergyRows.{Small};
 ghost use Rattle.search.specs.Pair.{Rows};
 ghost use Rattle.search.specs.Reuse.{storeOf, Stored};
 ghost use Rattle.search.specs.Score.{noScore};
-ghost use Rattle.search.specs.Search.{context, considered as consideredBy, energyBy, reuseOf, stepAt, SmallMoments, Ready, InSpans, Scored};
+ghost use Rattle.search.specs.Search.{context, considered as consideredBy, energyBy, reuseOf, stepAt, Ready, InSpans, Scored};
 ghost use Rattle.search.specs.Walk.{walk};
 
 // The pairs: a from bottom up to and not including top; b from start to end likewise, less the origin.
@@ -42,7 +44,7 @@ fn weighted(a: i64, b: i64, z: i64) -> i64
 
 // EnergyMoments::energy over the divisor's square.
 fn energy_of(m: Moments, c: Pair) -> i64
-    requires { ⌜ SmallMoments m × Scored c ⌝ }
+    requires { ⌜ Small m × Scored c ⌝ }
     ensures { λ r. ⌜ r ≡ energyBy m c ⌝ }
 {
     let a = c.a;
@@ -88,7 +90,7 @@ fn considered(
     c: Pair,
     known: [u8; 32],
 ) -> Score
-    requires { ⌜ Rows (now left) (now right) × (SmallMoments m × (Scored c × (Stored (now nodes) count (take (length (now left)) sources) × Entries known))) ⌝ }
+    requires { ⌜ Rows (now left) (now right) × (Small m × (Scored c × (Stored (now nodes) count (take (length (now left)) sources) × Entries known))) ⌝ }
     ensures { λ r. ⌜ r ≡ consideredBy (context s (storeOf (now (nodes .entry)) count) (take (length (now (left .entry))) sources) (now (left .entry)) (now (right .entry)) m) c best (some known) ⌝ }
 {
     if !is_completable(known, c.span, s.p) {
