@@ -13,3 +13,4 @@ pub mod Pair
 pub mod Reuse
 pub mod Search
 pub mod Steps
+pub mod Found

@@ -19,7 +19,7 @@ none false = refl
 
 returns : tie.Need-returns
 unfolding reuseOf reuseCost hasBootstrap bootstrapInputs storeOf bootSources any
-returns c m = none _
+returns c m = none (c .args .s .many)
 
 pub reuse-cost-spec : {M : Type 1} → statement M
 reuse-cost-spec = tie.close (tie.spec returns)
