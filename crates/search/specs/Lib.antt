@@ -14,3 +14,4 @@ pub mod Reuse
 pub mod Search
 pub mod Steps
 pub mod Found
+pub mod Policies

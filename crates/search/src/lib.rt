@@ -4,22 +4,27 @@ pub mod pair;
 pub mod rows;
 pub mod score;
 
+use cone::compose::Basis;
 use energy::Moments;
 use pair::Pair;
 use pair::candidate_at;
 use pair::level;
+use rules::Policy;
 use rules::Settings;
 use score::Score;
 use score::better;
 use score::no_score;
 ghost use mathlib.Core.Path.{_≡_};
+ghost use mathlib.Core.List.{List};
 ghost use mathlib.Core.Option.{some};
-ghost use Prim.Native.Nat.{_-_, _≤_, _<_, _^_};
+ghost use Prim.Native.Nat.{ℕ, _-_, _≤_, _<_, _^_};
 ghost use lib.IntN.{natAbs, _*ℤ_};
 ghost use lib.ListN.{length, take};
 ghost use Rattle.rules.specs.Builder.{Entries, completable};
+ghost use Rattle.rules.specs.Cone.{Cone};
 ghost use Rattle.search.specs.EnergyRows.{Small};
 ghost use Rattle.search.specs.Pair.{Rows};
+ghost use Rattle.search.specs.Policies.{rangesOf, Attempted, Finds};
 ghost use Rattle.search.specs.Reuse.{storeOf, Stored};
 ghost use Rattle.search.specs.Score.{noScore};
 ghost use Rattle.search.specs.Search.{context, considered as consideredBy, energyBy, reuseOf, stepAt, Ready, InSpans, Scored};
@@ -155,4 +160,53 @@ pub fn search(
         }
     }
     best
+}
+
+// The pairs that a policy tries, by the left and the right span: Naive has one.
+fn ranges_of(policy: Policy, left: usize, right: usize) -> Ranges
+    requires { ⌜ (left ≤ 32) × (right ≤ 32) ⌝ }
+    ensures { λ r. ⌜ r ≡ rangesOf policy left right ⌝ }
+{
+    match policy {
+        Policy::Basic | Policy::Span => Ranges {
+            bottom: 0,
+            top: right + 1,
+            start: 0,
+            end: 2 * left + 1,
+            origin: left,
+        },
+        Policy::Naive => Ranges {
+            bottom: right,
+            top: right + 1,
+            start: 1,
+            end: 2,
+            origin: 0,
+        },
+    }
+}
+
+// find_candidate: for two cones of these spans laid over their sources together, the score of the best scale pair.
+// Asks for rows that are rows of both tables, and what the node store asks for.
+pub fn find_candidate(
+    s: Settings,
+    first: usize,
+    second: usize,
+    basis: Basis,
+    m: Moments,
+    nodes: &[u8; 25536],
+    count: usize,
+    xs: &[i32],
+    ys: &[i32],
+    truth: &[u8],
+) -> Score
+    requires { ⌜ (basis .n ≤ 11) × ((first ≤ 32) × ((second ≤ 32) × (Ready s (take (basis .n) (basis .left)) (take (basis .n) (basis .right)) (now xs) (now ys) (now truth) m × Stored (now nodes) count (take (basis .n) (basis .support))))) ⌝ }
+    ensures { λ r. ⌜ ((left right : Cone) (all counts : List ℕ) → Attempted left right all counts basis first second (now (xs .entry)) (now (ys .entry)) (now (truth .entry)) m → Finds s (storeOf (now (nodes .entry)) count) left right all r) ⌝ }
+{
+    let n = basis.n;
+    let left = basis.left;
+    let right = basis.right;
+    let sources = basis.support;
+    let policy = s.policy;
+    let r = ranges_of(policy, first, second);
+    search(s, r, m, &left[..n], &right[..n], sources, nodes, count, xs, ys, truth)
 }
