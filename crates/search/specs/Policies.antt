@@ -119,3 +119,15 @@ module _ (s : Settings) (nodes : List LutNode) (left right : Cone) (truth counts
             ∙ sym (policy-walked evaluated (s .policy) (coneSpan left) (coneSpan right) r (e ∙ ap₂ (rangesOf (s .policy)) (h .left-span) (h .right-span)));
         found = subst (λ (t : Score). t .found ≡ true → Found s U left right truth t) (sym f) (w .1);
       }
+
+  -- the same over the arrays of the basis
+  pub finds-over : (r : Ranges) (t : Score) (n : ℕ) → r ≡ rangesOf (s .policy) first second → n ≡ basis .n
+      → t ≡ walk (stepAt (context s nodes (take n (basis .support)) (take (basis .n) (basis .left)) (take (basis .n) (basis .right)) m) xs ys ts (r .origin)) (r .start) (r .end - r .start) (r .bottom) (r .top - r .bottom) noScore
+      → Finds s nodes left right truth t
+  finds-over r t n e f g =
+      let b = h .over in
+      let same : context s nodes (take n (basis .support)) (take (basis .n) (basis .left)) (take (basis .n) (basis .right)) m
+          ≡ context s nodes U (coefficientsOver U left) (coefficientsOver U right) m =
+          ap (λ l. context s nodes l (take (basis .n) (basis .left)) (take (basis .n) (basis .right)) m) (ap (λ k. take k (basis .support)) f ∙ b .sources)
+          ∙ ap₂ (λ x y. context s nodes U x y m) (b .lefts) (b .rights) in
+      finds r t e (g ∙ ap (λ k. walk (stepAt k xs ys ts (r .origin)) (r .start) (r .end - r .start) (r .bottom) (r .top - r .bottom) noScore) same)

@@ -21,6 +21,7 @@ ghost use Prim.Native.Nat.{ℕ, _-_, _≤_, _<_, _^_};
 ghost use lib.IntN.{natAbs, _*ℤ_};
 ghost use lib.ListN.{length, take};
 ghost use Rattle.rules.specs.Builder.{Entries, completable};
+ghost use Rattle.rules.specs.declared.Policy.the-variants.{Naive, Span};
 ghost use Rattle.rules.specs.Cone.{Cone};
 ghost use Rattle.search.specs.EnergyRows.{Small};
 ghost use Rattle.search.specs.Pair.{Rows};
@@ -162,26 +163,43 @@ pub fn search(
     best
 }
 
-// The pairs that a policy tries, by the left and the right span: Naive has one.
+// a from 0 to the right span, b from minus to plus the left span.
+fn all_pairs(left: usize, right: usize) -> Ranges
+    requires { ⌜ (left ≤ 32) × (right ≤ 32) ⌝ }
+    ensures { λ r. ⌜ r ≡ rangesOf Span left right ⌝ }
+{
+    Ranges {
+        bottom: 0,
+        top: right + 1,
+        start: 0,
+        end: 2 * left + 1,
+        origin: left,
+    }
+}
+
+// The pair (right, 1).
+fn naive_pair(right: usize) -> Ranges
+    requires { ⌜ right ≤ 32 ⌝ }
+    ensures { λ r. ⌜ ((left : ℕ) → r ≡ rangesOf Naive left right) ⌝ }
+{
+    Ranges {
+        bottom: right,
+        top: right + 1,
+        start: 1,
+        end: 2,
+        origin: 0,
+    }
+}
+
+// The pairs that a policy tries, by the left and the right span.
 fn ranges_of(policy: Policy, left: usize, right: usize) -> Ranges
     requires { ⌜ (left ≤ 32) × (right ≤ 32) ⌝ }
     ensures { λ r. ⌜ r ≡ rangesOf policy left right ⌝ }
 {
     match policy {
-        Policy::Basic | Policy::Span => Ranges {
-            bottom: 0,
-            top: right + 1,
-            start: 0,
-            end: 2 * left + 1,
-            origin: left,
-        },
-        Policy::Naive => Ranges {
-            bottom: right,
-            top: right + 1,
-            start: 1,
-            end: 2,
-            origin: 0,
-        },
+        Policy::Basic => all_pairs(left, right),
+        Policy::Naive => naive_pair(right),
+        Policy::Span => all_pairs(left, right),
     }
 }
 
