@@ -14,3 +14,4 @@ pub mod Admissible
 pub mod AdmissibleLines
 pub mod AdmissionExact
 pub mod AdmittedSafe
+pub mod Interning

@@ -1,0 +1,36 @@
+-- `lut::store::intern` meets its contract: the node was found, or was put at the end.
+use Rattle.lut.specs.Store.{interns-old, interns-new}
+use borrow.Author.Needs.{needs}
+use Rattle.lut.proofs.store.intern.Statement.{statement}
+use Rattle.lut.proofs.store.intern.Tie as tie
+use Rattle.lut.proofs.store.intern.Reads as reads
+use Rattle.lut.proofs.store.intern.Lts as lts
+use Rattle.lut.proofs.store.find.Reads as find-reads
+use Rattle.lut.proofs.store.put_record.Reads as put-record-reads
+
+-- src/store.rt:53:9
+find-requires : tie.Need-find-requires
+find-requires c κs = search needs
+
+-- src/store.rt:55:9
+returns : tie.Need-returns
+returns c =
+    let s = c .before .before .before in
+    interns-old (s .args .nodes .now) (s .args .count) (s .args .bytes .now) (s .pre .0) (s .pre .1) _ (c .before .find .ensures) (c .if1 .taken)
+
+-- src/store.rt:60:5
+put-record-requires : tie.Need-put-record-requires
+put-record-requires c κs = search needs
+
+-- src/store.rt:62:16
+add-t10 : tie.Need-add-t10
+add-t10 c = search needs
+
+-- src/store.rt:49:1
+returns-2 : tie.Need-returns-2
+returns-2 c =
+    let s = c .before .before .before .before .before in
+    interns-new (s .args .nodes .now) (s .args .count) (s .args .bytes .now) (s .pre .0) (s .pre .1) _ (c .before .before .before .find .ensures) (c .before .before .if1 .left) (s .pre .2) _ (c .put-record .ensures)
+
+pub intern-spec : {M : Type 1} → statement M
+intern-spec = tie.close (tie.spec find-requires returns put-record-requires add-t10 returns-2)

@@ -1,0 +1,148 @@
+-- A node among the nodes by its record.
+use mathlib.Core.Path.{_≡_, refl, sym, ap, ap₂, subst, _∙_}
+use mathlib.Core.Bool.{Bool, true, false}
+use mathlib.Core.List.{List, [], _∷_, _++_}
+use mathlib.Core.Logic.{⊎-elim}
+use mathlib.Core.Option.{Option, none, some}
+use Prim.Native.Nat.{ℕ, suc, _+_, _≤_, _<_}
+use native.Mathlib.Omega.{arith}
+use borrow.Author.Tests.{lt-ltb, le-ltb}
+use lib.IntN.{natAbs}
+use lib.ListN.{length, getD, drop, List·getD-eq-default}
+use Rattle.laws.specs.Test.{if_then_else_, lt-or-le}
+use Rattle.rules.specs.Builder.{Entries, completion}
+use Rattle.rules.specs.CircuitText.{sameName}
+use Rattle.rules.specs.Network.{LutNode, Input, Linear, Bootstrap}
+use Rattle.rules.specs.NetworkText.{nodeAt}
+use Rattle.rules.specs.Store.{sameNode, numberOf, intern, linearTerms}
+use Rattle.theorems.specs.Interning.{number-here, number-on, number-end, number-new, node-self, node-is}
+use Rattle.theorems.specs.Completions.{completion-is}
+use Rattle.lut.specs.declared.Linked.{Linked}
+use Rattle.lut.specs.declared.Signal.{Signal}
+use Rattle.lut.specs.declared.Signal.the-variants as Signals
+use Rattle.lut.specs.declared.Terms.{Terms}
+use Rattle.lut.specs.Order.{Arranged}
+use Rattle.lut.specs.Sums.{in-length, fine-linear, fine-more}
+use Rattle.lut.specs.View.{GoodTerms, FineTerms, termsIn, Fine, IsStore, nodeIn, nodeOf, recordOf, recordAt, storeOf, putAt, record-length, node-back, same-record, at-store, store-length, put-store, put-is-store}
+
+-- 38 bytes that are the record of a node that may stand at a place
+pub record IsRecord (i : ℕ) (r : List ℕ) : Type 0 where
+  pub size : length r ≡ 38
+  pub fine : Fine i (nodeIn r)
+  pub kept : r ≡ recordOf (nodeIn r)
+
+-- The node is among the nodes or was appended, and its number is told.
+pub record Interns (n : LutNode) (bytes : List ℕ) (count : ℕ) (after : List ℕ) (r : Linked) : Type 0 where
+  pub store : storeOf after (r .count) ≡ intern n (storeOf bytes count)
+  pub signal : r .signal ≡ Signals.Node (numberOf n (intern n (storeOf bytes count)))
+  pub still : IsStore after (r .count)
+
+-- A table makes a bootstrap; without one nothing changes.
+unfoldable pub Bootstraps : ℕ → Option (List ℕ) → List ℕ → ℕ → List ℕ → Linked → Type 0
+Bootstraps source (some table) bytes count after r = Interns (Bootstrap source table) bytes count after r
+Bootstraps source none bytes count after r = (after ≡ bytes) × (r ≡ record { count = count; signal = Signals.Refused })
+
+-- ---- laws
+
+intern-old : (n : LutNode) (ms : List LutNode) → numberOf n ms < length ms → intern n ms ≡ ms
+unfolding intern
+intern-old n ms h = rw (lt-ltb (numberOf n ms) (length ms) h)
+
+intern-new : (n : LutNode) (ms : List LutNode) → length ms ≤ numberOf n ms → intern n ms ≡ ms ++ (n ∷ [])
+unfolding intern
+intern-new n ms h = rw (le-ltb (numberOf n ms) (length ms) h)
+
+pub is-record : (i : ℕ) (n : LutNode) (r : List ℕ) → Fine i n → r ≡ recordOf n → IsRecord i r × (nodeIn r ≡ n)
+is-record i n r f e =
+    let b : nodeIn r ≡ n = rw e (node-back i n f) in
+    (record { size = rw e (record-length i n f); fine = rw b f; kept = rw b e }, b)
+
+module _ (bytes : List ℕ) (count : ℕ) (r : List ℕ) (s : IsStore bytes count) (q : IsRecord count r) where
+  pub same-here : (i : ℕ) → i < count → sameName r (recordAt bytes i) ≡ sameNode (nodeIn r) (nodeAt (storeOf bytes count) i)
+  same-here i h =
+      rw (at-store bytes i count h)
+      (ap₂ {C = Bool} sameName (q .kept) (s .kept i h) ∙ same-record count i (nodeIn r) (nodeOf bytes i) (q .fine) (s .fine i h))
+
+  -- a turn of the loop that looks for the record
+  pub find-here : (i : ℕ) → i < count → sameName r (recordAt bytes i) ≡ true → numberOf (nodeIn r) (drop i (storeOf bytes count)) ≡ 0
+  find-here i h e = number-here (nodeIn r) (storeOf bytes count) i (rw (store-length bytes count) h) (sym (same-here i h) ∙ e)
+
+  pub find-on : (i : ℕ) → i < count → sameName r (recordAt bytes i) ≡ false
+      → numberOf (nodeIn r) (drop i (storeOf bytes count)) ≡ suc (numberOf (nodeIn r) (drop (i + 1) (storeOf bytes count)))
+  find-on i h e = number-on (nodeIn r) (storeOf bytes count) i (rw (store-length bytes count) h) (sym (same-here i h) ∙ e)
+
+  pub find-end : (i : ℕ) → count ≤ i → numberOf (nodeIn r) (drop i (storeOf bytes count)) ≡ 0
+  find-end i h = number-end (nodeIn r) (storeOf bytes count) i (rw (store-length bytes count) h)
+
+  -- it was found, or is put at the end
+  module _ (at : ℕ) (e : at ≡ numberOf (nodeIn r) (storeOf bytes count)) where
+    pub interns-old : at < count → Interns (nodeIn r) bytes count bytes (record { count = count; signal = Signals.Node at })
+    interns-old h =
+        let l : numberOf (nodeIn r) (storeOf bytes count) < length (storeOf bytes count) = rw (store-length bytes count, ← e) h in
+        let i = intern-old (nodeIn r) (storeOf bytes count) l in
+        record { store = sym i; signal = ap Signals.Node (rw i e); still = s }
+
+    pub interns-new : count ≤ at → count < 672 → (after : List ℕ) → after ≡ putAt bytes count r
+        → Interns (nodeIn r) bytes count after (record { count = count + 1; signal = Signals.Node count })
+    interns-new h k after f =
+        let l : length (storeOf bytes count) ≤ numberOf (nodeIn r) (storeOf bytes count) = rw (store-length bytes count, ← e) h in
+        let i = intern-new (nodeIn r) (storeOf bytes count) l in
+        record {
+          store = rw (f, i) (put-store bytes count r s k (q .size));
+          signal = ap Signals.Node (rw i (sym (number-new (nodeIn r) (storeOf bytes count) l ∙ store-length bytes count)));
+          still = rw f (put-is-store bytes count r s k (q .size) (q .fine) (q .kept));
+        }
+
+-- a node that is put at the end without a look
+pub put-new : (bytes : List ℕ) (count : ℕ) (n : LutNode) (r after : List ℕ) → IsStore bytes count → count < 672 → Fine count n → r ≡ recordOf n → after ≡ putAt bytes count r
+    → (storeOf after (count + 1) ≡ storeOf bytes count ++ (n ∷ [])) × IsStore after (count + 1)
+put-new bytes count n r after s h f e g =
+    let q = is-record count n r f e in
+    (rw g (put-store bytes count r s h (q .0 .size) ∙ ap {B = List LutNode} (λ m. storeOf bytes count ++ (m ∷ [])) (q .1)), rw g (put-is-store bytes count r s h (q .0 .size) (q .0 .fine) (q .0 .kept)))
+
+-- ---- laws: a sum, a bootstrap
+
+pub record Summed (count : ℕ) (s : Terms) (n : LutNode) : Type 0 where
+  pub good : GoodTerms 672 s
+  pub fine : Fine count (Linear (s .constant) (termsIn s))
+  pub is : Linear (s .constant) (termsIn s) ≡ n
+
+pub summed : (count : ℕ) (many : Bool) (t s : Terms) → GoodTerms count t → count ≤ 672 → Arranged (t .n) (t .constant) (linearTerms many (termsIn t)) s
+    → length (s .coefs) ≡ 11 → length (s .sources) ≡ 11 → Summed count s (Linear (t .constant) (linearTerms many (termsIn t)))
+unfolding Fine
+summed count many t s g h a e f =
+    let k : s .n ≤ 11 = omega (arith, a .few, g .few) in
+    let l = in-length s k e f in
+    let q : FineTerms count (termsIn s) = rw (a .are) (fine-linear count many (termsIn t) (g .fine)) in
+    let n : natAbs (s .constant) ≤ 31 = rw (a .same) (g .near) in
+    record {
+      good = record { few = k; near = n; fine = fine-more count 672 (termsIn s) (omega arith) q };
+      fine = (omega arith, n, q);
+      is = ap₂ Linear (a .same) (a .are);
+    }
+
+-- an interned record, by its node
+pub interns-node : (n m : LutNode) (bytes : List ℕ) (count : ℕ) (after : List ℕ) (r : Linked) → Interns n bytes count after r → n ≡ m → Interns m bytes count after r
+interns-node n m bytes count after r i e = subst (λ x. Interns x bytes count after r) e i
+
+pub fine-boot : (count source p : ℕ) (known table : List ℕ) → source < count → length known ≤ 32 → Entries known → some table ≡ completion p known
+    → Fine count (Bootstrap source table)
+unfolding Fine
+fine-boot count source p known table h k e q =
+    let c = completion-is known e p table (sym q) .0 in
+    (h, rw (c .long) k, λ i. ⊎-elim (λ (l : i < length known). c .bits i l) (λ (l : length known ≤ i). rw (List·getD-eq-default table 0 {n = i} (rw (c .long) l)) (omega arith)) (lt-or-le i (length known)))
+
+pub no-table : (b : Bool) (table : List ℕ) (o : Option (List ℕ)) (source : ℕ) (bytes : List ℕ) (count : ℕ) → (if b then some table else none) ≡ o → b ≡ false
+    → Bootstraps source o bytes count bytes (record { count = count; signal = Signals.Refused })
+unfolding Bootstraps
+no-table b table o source bytes count e f =
+    let n : none ≡ o = rw f at e in
+    subst (λ x. Bootstraps source x bytes count bytes (record { count = count; signal = Signals.Refused })) n (refl, refl)
+
+pub table-is : (b : Bool) (table : List ℕ) (o : Option (List ℕ)) → (if b then some table else none) ≡ o → b ≡ true → some table ≡ o
+table-is b table o e f = rw f at e
+
+pub made : (o : Option (List ℕ)) (source : ℕ) (table bytes : List ℕ) (count : ℕ) (after : List ℕ) (r : Linked) → some table ≡ o
+    → Interns (Bootstrap source table) bytes count after r → Bootstraps source o bytes count after r
+unfolding Bootstraps
+made o source table bytes count after r e i = subst (λ x. Bootstraps source x bytes count after r) e i

@@ -1,0 +1,75 @@
+// Records among the nodes: equal nodes are shared.
+ghost use mathlib.Core.Path.{_≡_};
+ghost use mathlib.Core.List.{[], _∷_, _++_};
+ghost use Prim.Native.Nat.{_+_, _≤_, _<_};
+ghost use lib.ListN.{length};
+ghost use Rattle.rules.specs.CircuitText.{sameName};
+ghost use Rattle.rules.specs.Network.{Input};
+ghost use Rattle.rules.specs.Store.{numberOf};
+ghost use Rattle.lut.specs.View.{nodeIn, recordAt, storeOf, putAt, IsStore};
+ghost use Rattle.lut.specs.Store.{IsRecord, Interns};
+use crate::Linked;
+use crate::Signal;
+use crate::record;
+
+pub fn is_record(nodes: &[u8; 25536], i: usize, bytes: &[u8; 38]) -> bool
+    requires { ⌜ (length (now nodes) ≡ 25536) × (i < 672) × (length (now bytes) ≡ 38) ⌝ }
+    ensures { λ r. ⌜ r ≡ sameName (now (bytes .entry)) (recordAt (now (nodes .entry)) i) ⌝ }
+{
+    text::is_same(bytes, 0, 38, nodes, 38 * i, 38 * i + 38)
+}
+
+// The number of the node with this record; the count where there is none.
+fn find(nodes: &[u8; 25536], count: usize, bytes: &[u8; 38]) -> usize
+    requires { ⌜ IsStore (now nodes) count × IsRecord count (now bytes) ⌝ }
+    ensures { λ r. ⌜ r ≡ numberOf (nodeIn (now (bytes .entry))) (storeOf (now (nodes .entry)) count) ⌝ }
+{
+    let mut i = 0;
+    while i < count {
+        if is_record(nodes, i, bytes) {
+            return i;
+        }
+        i += 1;
+    }
+    i
+}
+
+fn put_record(nodes: &mut [u8; 25536], i: usize, bytes: &[u8; 38])
+    requires { ⌜ (length (now nodes) ≡ 25536) × (i < 672) × (length (now bytes) ≡ 38) ⌝ }
+    ensures { λ _. ⌜ now (nodes .exit) ≡ putAt (now (nodes .entry)) i (now (bytes .entry)) ⌝ }
+{
+    let mut k = 0;
+    while k < 38 {
+        nodes[38 * i + k] = bytes[k];
+        k += 1;
+    }
+}
+
+// LutCircuit::intern
+pub fn intern(nodes: &mut [u8; 25536], count: usize, bytes: &[u8; 38]) -> Linked
+    requires { ⌜ IsStore (now nodes) count × IsRecord count (now bytes) × (count < 672) ⌝ }
+    ensures { λ r. ⌜ Interns (nodeIn (now (bytes .entry))) (now (nodes .entry)) count (now (nodes .exit)) r ⌝ }
+{
+    let at = find(nodes, count, bytes);
+    if at < count {
+        return Linked {
+            count,
+            signal: Signal::Node(at),
+        };
+    }
+    put_record(nodes, count, bytes);
+    Linked {
+        count: count + 1,
+        signal: Signal::Node(count),
+    }
+}
+
+// An input is a new node: names are different.
+pub fn put_input(nodes: &mut [u8; 25536], count: usize, name: &[u8])
+    requires { ⌜ IsStore (now nodes) count × (count < 672) × (length (now name) ≤ 16) ⌝ }
+    ensures store { λ _. ⌜ storeOf (now (nodes .exit)) (count + 1) ≡ storeOf (now (nodes .entry)) count ++ (Input (now (name .entry)) ∷ []) ⌝ }
+    ensures still { λ _. ⌜ IsStore (now (nodes .exit)) (count + 1) ⌝ }
+{
+    let bytes = record::input(name);
+    put_record(nodes, count, &bytes);
+}
