@@ -216,3 +216,16 @@ pub total-small : (k : ℕ) (cs : List ℤ) → Within k cs → total cs ≤ len
 unfolding total
 total-small k [] w = omega arith
 total-small k (c ∷ cs) w = omega (arith, total-small k cs (λ i. w (suc i)), w 0)
+
+-- the same for the negative ones
+module _ (cs : List ℤ) (i : ℕ) where
+  pub lower-on : i < length cs → lower (drop i cs) ≡ minus (getD cs i (pos 0)) + lower (drop (i + 1) cs)
+  unfolding lower
+  lower-on h = rw (drop-cons cs i (pos 0) h, add-one)
+
+  pub lower-end : length cs ≤ i → lower (drop i cs) ≡ 0
+  unfolding lower
+  lower-end h = rw (drop-of-length-le cs {i = i} h)
+
+pub lower-small : (k : ℕ) (cs : List ℤ) → Within k cs → lower cs ≤ length cs * k
+lower-small k cs w = omega (arith, total-small k cs w, total-parts cs)

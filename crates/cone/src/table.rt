@@ -6,7 +6,7 @@ ghost use lib.ListN.{length, take};
 ghost use lib.IntN.{natAbs};
 ghost use Rattle.laws.specs.Over.{over};
 ghost use Rattle.rules.specs.Cone.{linearTable};
-ghost use Rattle.rules.specs.Span.{span};
+ghost use Rattle.rules.specs.Span.{least, span};
 ghost use Rattle.scale.specs.Limits.{Within};
 ghost use Rattle.cone.specs.Table.{shifted};
 
@@ -60,6 +60,23 @@ pub fn linear_span(coefs: &[i64]) -> usize
     let mut i = 0;
     while i < coefs.len() {
         sum += scale::magnitude(coefs[i]);
+        i += 1;
+    }
+    sum
+}
+
+// The least value: the negative coefficients added.
+pub fn linear_least(coefs: &[i64]) -> i64
+    requires { ⌜ (length (now coefs) ≤ 11) × Within 1984 (now coefs) ⌝ }
+    ensures { λ r. ⌜ r ≡ least (linearTable (now (coefs .entry))) ⌝ }
+{
+    let mut sum = 0i64;
+    let mut i = 0;
+    while i < coefs.len() {
+        let c = coefs[i];
+        if c < 0 {
+            sum += c;
+        }
         i += 1;
     }
     sum

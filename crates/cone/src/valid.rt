@@ -50,7 +50,7 @@ fn is_table_valid(
 }
 
 // Whether a norm is over its limit.
-fn is_over(limit: Limit, norm: u64) -> bool
+pub fn is_over(limit: Limit, norm: u64) -> bool
     ensures { λ r. ⌜ r ≡ overLimit limit norm ⌝ }
 {
     match limit {

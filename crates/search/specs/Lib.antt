@@ -1,4 +1,4 @@
--- The rows of an attempt, the values of a scale pair at them, and their energy.
+-- The rows of an attempt, the values of a scale pair at them, their energy, and the search over scale pairs.
 pub mod MergedIntegers
 pub mod MergedValues
 pub mod Rows
@@ -6,3 +6,12 @@ pub mod RowsCompacted
 pub mod EnergyMoments
 pub mod RowsFrame
 pub mod EnergyRows
+pub mod Walk
+pub mod Pairs
+pub mod Score
+pub mod Pair
+pub mod Reuse
+pub mod Search
+pub mod Steps
+pub mod Found
+pub mod Policies

@@ -1,3 +1,230 @@
 // The search for the scale pair under which two cones become one.
 pub mod energy;
+pub mod pair;
 pub mod rows;
+pub mod score;
+
+use cone::compose::Basis;
+use energy::Moments;
+use pair::Pair;
+use pair::candidate_at;
+use pair::level;
+use rules::Policy;
+use rules::Settings;
+use score::Score;
+use score::better;
+use score::no_score;
+ghost use mathlib.Core.Path.{_≡_};
+ghost use mathlib.Core.List.{List};
+ghost use mathlib.Core.Option.{some};
+ghost use Prim.Native.Nat.{ℕ, _-_, _≤_, _<_, _^_};
+ghost use lib.IntN.{natAbs, _*ℤ_};
+ghost use lib.ListN.{length, take};
+ghost use Rattle.rules.specs.Builder.{Entries, completable};
+ghost use Rattle.rules.specs.declared.Policy.the-variants.{Naive, Span};
+ghost use Rattle.rules.specs.Cone.{Cone};
+ghost use Rattle.search.specs.EnergyRows.{Small};
+ghost use Rattle.search.specs.Pair.{Rows};
+ghost use Rattle.search.specs.Policies.{rangesOf, Attempted, Finds};
+ghost use Rattle.search.specs.Reuse.{storeOf, Stored};
+ghost use Rattle.search.specs.Score.{noScore};
+ghost use Rattle.search.specs.Search.{context, considered as consideredBy, energyBy, reuseOf, stepAt, Ready, InSpans, Scored};
+ghost use Rattle.search.specs.Walk.{walk};
+
+// The pairs: a from bottom up to and not including top; b from start to end likewise, less the origin.
+pub struct Ranges {
+    pub bottom: usize,
+    pub top: usize,
+    pub start: usize,
+    pub end: usize,
+    pub origin: usize,
+}
+
+// a·b·z for scales a and b, or 2·a, and a moment z.
+fn weighted(a: i64, b: i64, z: i64) -> i64
+    requires { ⌜ (natAbs a ≤ 64) × ((natAbs b ≤ 32) × (natAbs z ≤ 2 ^ 40)) ⌝ }
+    ensures { λ r. ⌜ (r ≡ (a *ℤ b) *ℤ z) × (natAbs r ≤ 2 ^ 51) ⌝ }
+{
+    a * b * z
+}
+
+// EnergyMoments::energy over the divisor's square.
+fn energy_of(m: Moments, c: Pair) -> i64
+    requires { ⌜ Small m × Scored c ⌝ }
+    ensures { λ r. ⌜ r ≡ energyBy m c ⌝ }
+{
+    let a = c.a;
+    let b = c.b;
+    let d = c.divisor;
+    let sum = weighted(a, a, m.xx) + weighted(2 * a, b, m.xy) + weighted(b, b, m.yy);
+    scale::divide(sum, d * d)
+}
+
+// 0 where the sum with these coefficients is already bootstrapped, else 1.
+fn reuse_cost(
+    s: Settings,
+    left: &[i64],
+    right: &[i64],
+    sources: [usize; 11],
+    nodes: &[u8; 25536],
+    count: usize,
+    c: Pair,
+) -> usize
+    requires { ⌜ Rows (now left) (now right) × (Scored c × Stored (now nodes) count (take (length (now left)) sources)) ⌝ }
+    ensures { λ r. ⌜ ((m : Moments) → r ≡ reuseOf (context s (storeOf (now (nodes .entry)) count) (take (length (now (left .entry))) sources) (now (left .entry)) (now (right .entry)) m) c) ⌝ }
+{
+    1
+}
+
+fn is_completable(known: [u8; 32], span: usize, p: usize) -> bool
+    requires { ⌜ (span ≤ 32) × Entries known ⌝ }
+    ensures { λ r. ⌜ r ≡ completable p (take span known) ⌝ }
+{
+    rotation::is_known_lut_valid(&known[..span], p)
+}
+
+// The better of the best so far and this pair, whose rows gave the known entries without a clash.
+fn considered(
+    best: Score,
+    s: Settings,
+    m: Moments,
+    left: &[i64],
+    right: &[i64],
+    sources: [usize; 11],
+    nodes: &[u8; 25536],
+    count: usize,
+    c: Pair,
+    known: [u8; 32],
+) -> Score
+    requires { ⌜ Rows (now left) (now right) × (Small m × (Scored c × (Stored (now nodes) count (take (length (now left)) sources) × Entries known))) ⌝ }
+    ensures { λ r. ⌜ r ≡ consideredBy (context s (storeOf (now (nodes .entry)) count) (take (length (now (left .entry))) sources) (now (left .entry)) (now (right .entry)) m) c best (some known) ⌝ }
+{
+    if !is_completable(known, c.span, s.p) {
+        return best;
+    }
+    let reuse = reuse_cost(s, left, right, sources, nodes, count, c);
+    let energy = energy_of(m, c);
+    better(
+        best,
+        Score {
+            found: true,
+            reuse,
+            span: c.span,
+            energy,
+            norm: c.norm,
+            a: c.a,
+            b: c.b,
+            known,
+        },
+    )
+}
+
+// search_candidate: the least score among the scale pairs; found is false where there is none.
+pub fn search(
+    s: Settings,
+    r: Ranges,
+    m: Moments,
+    left: &[i64],
+    right: &[i64],
+    sources: [usize; 11],
+    nodes: &[u8; 25536],
+    count: usize,
+    xs: &[i32],
+    ys: &[i32],
+    truth: &[u8],
+) -> Score
+    requires { ⌜ Ready s (now left) (now right) (now xs) (now ys) (now truth) m × (InSpans r × Stored (now nodes) count (take (length (now left)) sources)) ⌝ }
+    ensures { λ t. ⌜ t ≡ walk (stepAt (context s (storeOf (now (nodes .entry)) count) (take (length (now (left .entry))) sources) (now (left .entry)) (now (right .entry)) m) (now (xs .entry)) (now (ys .entry)) (now (truth .entry)) (r .origin)) (r .start) (r .end - r .start) (r .bottom) (r .top - r .bottom) noScore ⌝ }
+{
+    let top = r.top;
+    let end = r.end;
+    let origin = r.origin;
+    let mut best = no_score();
+    for u in r.bottom..top {
+        'pair: for v in r.start..end {
+            let c = candidate_at(left, right, s, u, v, origin);
+            if !c.ok {
+                continue 'pair;
+            }
+            let mut known = [2u8; 32];
+            let mut i = 0;
+            while i < xs.len() {
+                let at = level(c, xs[i], ys[i]);
+                let t = truth[i];
+                if !rotation::agrees(known[at], t) {
+                    continue 'pair;
+                }
+                known[at] = t;
+                i += 1;
+            }
+            best = considered(best, s, m, left, right, sources, nodes, count, c, known);
+        }
+    }
+    best
+}
+
+// a from 0 to the right span, b from minus to plus the left span.
+fn all_pairs(left: usize, right: usize) -> Ranges
+    requires { ⌜ (left ≤ 32) × (right ≤ 32) ⌝ }
+    ensures { λ r. ⌜ r ≡ rangesOf Span left right ⌝ }
+{
+    Ranges {
+        bottom: 0,
+        top: right + 1,
+        start: 0,
+        end: 2 * left + 1,
+        origin: left,
+    }
+}
+
+// The pair (right, 1).
+fn naive_pair(right: usize) -> Ranges
+    requires { ⌜ right ≤ 32 ⌝ }
+    ensures { λ r. ⌜ ((left : ℕ) → r ≡ rangesOf Naive left right) ⌝ }
+{
+    Ranges {
+        bottom: right,
+        top: right + 1,
+        start: 1,
+        end: 2,
+        origin: 0,
+    }
+}
+
+// The pairs that a policy tries, by the left and the right span.
+fn ranges_of(policy: Policy, left: usize, right: usize) -> Ranges
+    requires { ⌜ (left ≤ 32) × (right ≤ 32) ⌝ }
+    ensures { λ r. ⌜ r ≡ rangesOf policy left right ⌝ }
+{
+    match policy {
+        Policy::Basic => all_pairs(left, right),
+        Policy::Naive => naive_pair(right),
+        Policy::Span => all_pairs(left, right),
+    }
+}
+
+// find_candidate: for two cones of these spans laid over their sources together, the score of the best scale pair.
+// Asks for rows that are rows of both tables, and what the node store asks for.
+pub fn find_candidate(
+    s: Settings,
+    first: usize,
+    second: usize,
+    basis: Basis,
+    m: Moments,
+    nodes: &[u8; 25536],
+    count: usize,
+    xs: &[i32],
+    ys: &[i32],
+    truth: &[u8],
+) -> Score
+    requires { ⌜ (basis .n ≤ 11) × ((first ≤ 32) × ((second ≤ 32) × (Ready s (take (basis .n) (basis .left)) (take (basis .n) (basis .right)) (now xs) (now ys) (now truth) m × Stored (now nodes) count (take (basis .n) (basis .support))))) ⌝ }
+    ensures { λ r. ⌜ ((left right : Cone) (all counts : List ℕ) → Attempted left right all counts basis first second (now (xs .entry)) (now (ys .entry)) (now (truth .entry)) m → Finds s (storeOf (now (nodes .entry)) count) left right all r) ⌝ }
+{
+    let n = basis.n;
+    let left = basis.left;
+    let right = basis.right;
+    let sources = basis.support;
+    let policy = s.policy;
+    let r = ranges_of(policy, first, second);
+    search(s, r, m, &left[..n], &right[..n], sources, nodes, count, xs, ys, truth)
+}
