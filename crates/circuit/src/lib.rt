@@ -1,4 +1,7 @@
 // The circuit's text: its lines, the refusals 1 to 7, and a run of the circuit.
+mod gate;
+mod settings;
+
 use rules::Settings;
 
 // The settings and the counts of a circuit. Its gates, names and outputs stand in two arrays that `read` fills:

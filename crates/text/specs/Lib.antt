@@ -5,6 +5,7 @@ pub mod Judged
 pub mod Cap
 pub mod Many
 pub mod FirstLine
+pub mod LineForms
 pub mod Gives
 pub mod Exactly
 pub mod Run
