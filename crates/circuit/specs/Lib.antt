@@ -6,3 +6,4 @@ pub mod WiresRead
 pub mod Brief
 pub mod Bits
 pub mod GateLine
+pub mod Sound
