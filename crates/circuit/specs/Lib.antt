@@ -7,3 +7,4 @@ pub mod Brief
 pub mod Bits
 pub mod GateLine
 pub mod Sound
+pub mod LineRead

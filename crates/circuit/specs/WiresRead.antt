@@ -17,7 +17,7 @@ use Rattle.circuit.specs.Wires.{withWire, withWires}
 unfoldable pub spacedWire : Reader Wire
 spacedWire = word " " >> wire
 
-takes-spaced : Takes spacedWire
+pub takes-spaced : Takes spacedWire
 unfolding spacedWire
 takes-spaced = takes-then (takes-word _ _) (λ _. keeps-wire)
 

@@ -1,5 +1,6 @@
 // The circuit's text: its lines, the refusals 1 to 7, and a run of the circuit.
 mod gate;
+mod line;
 mod settings;
 
 use rules::Settings;
