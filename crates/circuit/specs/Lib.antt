@@ -8,3 +8,4 @@ pub mod Bits
 pub mod GateLine
 pub mod Sound
 pub mod LineRead
+pub mod Slots

@@ -1,7 +1,9 @@
 // The circuit's text: its lines, the refusals 1 to 7, and a run of the circuit.
 mod gate;
 mod line;
+mod number;
 mod settings;
+pub mod slot;
 
 use rules::Settings;
 
