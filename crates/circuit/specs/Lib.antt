@@ -9,3 +9,5 @@ pub mod GateLine
 pub mod Sound
 pub mod LineRead
 pub mod Slots
+pub mod Below
+pub mod GateBytes

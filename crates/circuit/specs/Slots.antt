@@ -20,7 +20,7 @@ unfolding wireIn wireNumber noNode
 wire-back m (Const b) e = rw (le-ltb (m + b) m (omega arith), add-sub-cancel-left)
 wire-back m (Node i) e = rw (lt-ltb i m (leb-false m i e))
 
-number-small : (m : ℕ) (w : Wire) → noNode m w ≡ false → isBitWire w ≡ true → wireNumber m w ≤ m + 1
+pub number-small : (m : ℕ) (w : Wire) → noNode m w ≡ false → isBitWire w ≡ true → wireNumber m w ≤ m + 1
 unfolding wireNumber noNode isBitWire
 number-small m (Const b) e h = omega (arith, leb-true b 1 h)
 number-small m (Node i) e h = omega (arith, leb-false m i e)
