@@ -49,7 +49,7 @@ module _ (gs hs : List ℕ) (inputs : ℕ) where
 -- ---- The names: two numbers each.
 
 module _ (s ps qs : List ℕ) where
-  name-same : (m j : ℕ) → Below m ps qs → j + 1 < m → nameAt s qs j ≡ nameAt s ps j
+  pub name-same : (m j : ℕ) → Below m ps qs → j + 1 < m → nameAt s qs j ≡ nameAt s ps j
   unfolding nameAt
   name-same m j b h = rw (b .same j (omega arith), b .same (j + 1) h)
 
@@ -94,11 +94,13 @@ named-same k ps qs m j b h n = rw (b .same j (omega arith), b .same (j + 1) h) n
 module _ (d s : List ℕ) (at n : ℕ) (h : at ≤ length d) (k : n ≤ length s) where
   pub below-paste : Below at d (paste d at s n)
   below-paste =
-      record { same = λ j i.
-        let l : length (take at d) ≡ at = length-take-le at d h in
-        let m : length (take at d ++ take n s) ≡ at + n = length-paste-head d at s n h k in
-        List·getD-append (take at d ++ take n s) (drop (at + n) d) 0 j (omega arith)
-        ∙ (List·getD-append (take at d) (take n s) 0 j (omega arith) ∙ getD-take at d j 0 i) }
+      record {
+        same = λ j i.
+            let l : length (take at d) ≡ at = length-take-le at d h in
+            let m : length (take at d ++ take n s) ≡ at + n = length-paste-head d at s n h k in
+            List·getD-append (take at d ++ take n s) (drop (at + n) d) 0 j (omega arith)
+            ∙ (List·getD-append (take at d) (take n s) 0 j (omega arith) ∙ getD-take at d j 0 i);
+      }
 
   pub paste-at : (j i : ℕ) → i ≡ at + j → j < n → getD (paste d at s n) i 0 ≡ getD s j 0
   paste-at j i q f =

@@ -7,8 +7,8 @@ use native.Mathlib.Numerals.{add-one}
 use native.Mathlib.Omega.{arith}
 use borrow.Author.Tests.{ne-eqb, eqb-true}
 use lib.Dec.{eqb}
-use lib.ListN.{length, getD, take, drop}
-use lib.Seq.{drop-cons, paste}
+use lib.ListN.{length, getD, take, drop, set}
+use lib.Seq.{drop-cons, paste, paste-suc}
 use Rattle.laws.specs.Test.{if_then_else_, zero≢one}
 use Rattle.rules.specs.declared.Wire.{Wire}
 use Rattle.rules.specs.Circuit as C
@@ -48,7 +48,7 @@ module _ (s : List ℕ) (d : ℕ) (v : Wires) {l a b : ℕ} (e : l ≡ wireNumbe
   unfolding gateBytes
   two-wires p q t h = rw (e, f, g, p, q, t, ne-eqb (v .count) 1 h)
 
-bytes-length : (s : List ℕ) (d : ℕ) (v : Wires) → length (gateBytes s d v) ≡ 6
+pub bytes-length : (s : List ℕ) (d : ℕ) (v : Wires) → length (gateBytes s d v) ≡ 6
 unfolding gateBytes
 bytes-length s d v = by (eqb (v .count) 1)
   where
@@ -73,6 +73,14 @@ module _ (s : List ℕ) (d : ℕ) where
       let p : d + 1 + 1 ≡ d + 2 = omega arith in
       let q : d + 2 + 1 ≡ d + 3 = omega arith in
       rw (more-bits s d 3 (omega arith), more-bits s (d + 1) 2 (omega arith), p, more-bits s (d + 2) 1 (omega arith), q, more-bits s (d + 3) 0 (omega arith))
+
+-- The bytes are put one by one.
+module _ (gs : List ℕ) (k : ℕ) (w hs : List ℕ) (j : ℕ) where
+  pub put-next : length gs ≡ 576 → k < 96 → j < 6 → j < length w → hs ≡ paste gs (6 * k) w j → set hs (6 * k + j) (getD w j 0) ≡ paste gs (6 * k) w (j + 1)
+  put-next l h f g e = rw (e, add-one j) (paste-suc gs (6 * k) w j 0 (omega arith) g)
+
+  pub put-done : 6 ≡ j → hs ≡ paste gs (6 * k) w j → hs ≡ paste gs (6 * k) w 6
+  put-done q e = e ∙ ap (paste gs (6 * k) w) (sym q)
 
 -- The gate k after its bytes are put.
 module _ (gs : List ℕ) (k : ℕ) (long : length gs ≡ 576) (room : k < 96) (s : List ℕ) (d : ℕ) (v : Wires) where

@@ -11,3 +11,9 @@ pub mod LineRead
 pub mod Slots
 pub mod Below
 pub mod GateBytes
+pub mod Listed
+pub mod Took
+pub mod TookGate
+pub mod TookPorts
+pub mod TookLine
+pub mod Reading

@@ -1,10 +1,10 @@
 -- Wires as numbers, and back.
-use mathlib.Core.Path.{_≡_, sym, ap, _∙_}
+use mathlib.Core.Path.{_≡_, refl, sym, ap, _∙_}
 use mathlib.Core.Bool.{true, false}
 use Prim.Native.Nat.{ℕ, _+_, _-_, _<_, _≤_}
 use native.Mathlib.Nat.{add-sub-cancel-left}
 use native.Mathlib.Omega.{arith}
-use borrow.Author.Tests.{leb-false, leb-true, lt-ltb, le-ltb}
+use borrow.Author.Tests.{leb-false, leb-true, lt-leb, lt-ltb, le-ltb}
 use Rattle.rules.specs.declared.Wire.{Wire}
 use Rattle.rules.specs.declared.Wire.the-variants.{Const, Node}
 use Rattle.rules.specs.CircuitText.{noNode}
@@ -35,3 +35,8 @@ wire-node m n h = rw (lt-ltb n m h)
 pub wire-const : (m n : ℕ) → m ≤ n → Const (n - m) ≡ wireIn m n
 unfolding wireIn
 wire-const m n h = rw (le-ltb n m h)
+
+pub node-more : (n m : ℕ) (w : Wire) → n ≤ m → noNode n w ≡ false → noNode m w ≡ false
+unfolding noNode
+node-more n m (Const b) h e = refl
+node-more n m (Node i) h e = lt-leb m i (omega (arith, leb-false))

@@ -4,7 +4,15 @@ mod line;
 mod number;
 mod settings;
 pub mod slot;
+mod take;
 
+ghost use mathlib.Core.Path.{_≡_};
+ghost use lib.ListN.{length};
+ghost use Rattle.rules.specs.CircuitText.{readCircuit};
+ghost use Rattle.circuit.specs.View.{readingOf, Held};
+use crate::take::take_line;
+use rules::Limit;
+use rules::Policy;
 use rules::Settings;
 
 // The settings and the counts of a circuit. Its gates, names and outputs stand in two arrays that `read` fills:
@@ -22,4 +30,40 @@ pub struct Circuit {
 pub enum Reading {
     Good(Circuit),
     Refused(usize, usize),
+}
+
+// The circuit that a text describes. The arrays are those of `Circuit`; a refusal leaves anything in them.
+pub fn read(s: &[u8], gates: &mut [u8; 576], ports: &mut [usize; 160]) -> Reading
+    requires { ⌜ (length (now gates) ≡ 576) × (length (now ports) ≡ 160) ⌝ }
+    ensures { λ r. ⌜ readingOf r (now (s .entry)) (now (gates .exit)) (now (ports .exit)) ≡ readCircuit (now (s .entry)) ⌝ }
+    ensures { λ r. ⌜ Held (length (now (s .entry))) (now (gates .exit)) (now (ports .exit)) r ⌝ }
+{
+    let mut c = Circuit {
+        settings: Settings {
+            p: 0,
+            m: 0,
+            t: 0,
+            norm: Limit::Unlimited,
+            policy: Policy::Basic,
+            many: false,
+        },
+        inputs: 0,
+        gates: 0,
+        outs: 0,
+    };
+    let mut at = 0;
+    let mut line = 1;
+    while at < s.len() {
+        let next = take_line(c, line, s, at, gates, ports);
+        if next.number != 0 {
+            return Reading::Refused(next.number, line);
+        }
+        c = next.circuit;
+        at = next.end;
+        line += 1;
+    }
+    if line == 1 {
+        return Reading::Refused(4, line);
+    }
+    Reading::Good(c)
 }
