@@ -4,10 +4,10 @@ use mathlib.Core.Bool.{Bool, true, false, _&&_, _||_, not, true≢false}
 use mathlib.Core.List.{List, [], _∷_}
 use Prim.Native.Nat.{ℕ, suc, _*_, _≤_}
 use native.Mathlib.Omega.{arith}
-use borrow.Author.Tests.{lt-ltb, leb-false}
-use lib.Dec.{leb, ltb, leb→le}
+use borrow.Author.Tests.{lt-ltb, leb-false, not-false}
+use lib.Dec.{leb, ltb, eqb, leb→le}
 use lib.ListN.{length}
-use Rattle.laws.specs.Test.{isSome, is-T, and-left, and-right}
+use Rattle.laws.specs.Test.{if_then_else_, isSome, or-false-left, or-false-right, is-T, and-left, and-right}
 use Rattle.rules.specs.declared.Settings.{Settings}
 use Rattle.rules.specs.declared.Wire.{Wire}
 use Rattle.rules.specs.declared.Wire.the-variants.{Const, Node}
@@ -18,9 +18,8 @@ use Rattle.rules.specs.Form.{Condition, _when_}
 use Rattle.text.specs.Cap.{cap-table, cap-ten, cap-small}
 use Rattle.text.specs.Wire.{capWire}
 use Rattle.text.specs.Judged.{lowest, unmet}
-use Rattle.circuit.specs.declared.Wires.{Wires}
+use Rattle.circuit.specs.declared.gate.Wires.{Wires}
 use Rattle.circuit.specs.Settings.{capSettings}
-use Rattle.circuit.specs.View.{twoWires}
 use Rattle.circuit.specs.Wires.{noWires, withWire, withWires, shape, cap-noNode, astray-is, shape-is, long-unmatched}
 
 pub data Brief : Type 0 where
@@ -75,6 +74,10 @@ brief-conditions c (OutLine o) h = ap (λ t. (3 when leb 32 (length (c .outputs)
 
 -- ---- A line that meets no condition is kept whole.
 
+-- The wires of a gate of n, one or two.
+unfoldable pub twoWires : ℕ → Wire → Wire → List Wire
+twoWires n u v = if eqb n 1 then u ∷ [] else u ∷ v ∷ []
+
 unfoldable pub told : Brief → CircuitLine
 told (FbsBrief s) = FbsLine s
 told (InBrief n) = InLine n
@@ -96,23 +99,11 @@ limits-small s e =
     let p = leb→le (s .p) 16 (and-right (leb 2 (s .p)) _ (and-left (leb 2 (s .p) && leb (s .p) 16) _ (and-left (leb 2 (s .p) && leb (s .p) 16 && leb (s .p) (s .m)) _ table))) in
     rw (cap-small (s .p) (omega arith), cap-small (s .m) (omega arith), cap-small (s .t) (omega arith))
 
-pub or-left : (a b : Bool) → (a || b) ≡ false → a ≡ false
-or-left true b e = e
-or-left false b e = refl
-
-pub or-right : (a b : Bool) → (a || b) ≡ false → b ≡ false
-or-right true b e = absurd (true≢false e)
-or-right false b e = e
-
-pub not-false : (b : Bool) → not b ≡ false → b ≡ true
-not-false true e = refl
-not-false false e = absurd (true≢false e)
-
 gate-told : (n : ℕ) (b : List ℕ) (ws : List Wire) → n ≤ 65536 → anyNoNode n ws ≡ false → matching b ws ≡ true → told (brief n (GateLine b ws)) ≡ GateLine b ws
 unfolding told brief twoWires noWires withWires withWire anyNoNode matching
 gate-told n b [] h a m = absurd (true≢false (sym m))
-gate-told n b (u ∷ []) h a m = ap (λ x. GateLine b (x ∷ [])) (cap-same n u h (or-left _ _ a))
-gate-told n b (u ∷ v ∷ []) h a m = ap₂ (λ x y. GateLine b (x ∷ y ∷ [])) (cap-same n u h (or-left _ _ a)) (cap-same n v h (or-left (noNode n v) false (or-right (noNode n u) (noNode n v || false) a)))
+gate-told n b (u ∷ []) h a m = ap (λ x. GateLine b (x ∷ [])) (cap-same n u h (or-false-left _ _ a))
+gate-told n b (u ∷ v ∷ []) h a m = ap₂ (λ x y. GateLine b (x ∷ y ∷ [])) (cap-same n u h (or-false-left _ _ a)) (cap-same n v h (or-false-left (noNode n v) false (or-false-right (noNode n u) (noNode n v || false) a)))
 gate-told n b (u ∷ v ∷ w ∷ ws) h a m = absurd (true≢false (sym m ∙ long-unmatched b u v w ws))
 
 pub brief-told : (c : Prefix) (l : CircuitLine) → nodeCount c ≤ 65536 → lowest (conditions c l) ≡ 0 → told (brief (nodeCount c) l) ≡ l

@@ -1,15 +1,19 @@
 -- What the code keeps of a circuit's text, and how that stands for the definitions of crates/rules.
+pub mod View
 pub mod Settings
 pub mod Wires
 pub mod WiresRead
 pub mod Brief
-pub mod Line
-pub mod LineRead
 pub mod Bits
-pub mod View
-pub mod Added
-pub mod Took
-pub mod Reading
+pub mod GateLine
 pub mod Sound
-pub mod Run
-pub mod Entry
+pub mod LineRead
+pub mod Slots
+pub mod Below
+pub mod GateBytes
+pub mod Listed
+pub mod Took
+pub mod TookGate
+pub mod TookPorts
+pub mod TookLine
+pub mod Reading

@@ -10,14 +10,14 @@ use Rattle.rules.specs.declared.Policy.{Policy}
 use Rattle.rules.specs.declared.Settings.{Settings}
 use Rattle.rules.specs.CircuitText.{policy, tables}
 use Rattle.rules.specs.Form.{Piece, Reader, give, _>>=_, _>>_, word, norm}
-use Rattle.circuit.specs.declared.FbsRead.{FbsRead}
-use Rattle.circuit.specs.declared.FbsRead.the-variants.{At as FbsAt, Nothing as NoFbs}
-use Rattle.circuit.specs.declared.PolicyRead.{PolicyRead}
-use Rattle.circuit.specs.declared.PolicyRead.the-variants.{At as PolicyAt, Nothing as NoPolicy}
-use Rattle.circuit.specs.declared.TailRead.{TailRead}
-use Rattle.circuit.specs.declared.TailRead.the-variants.{At as TailAt, Nothing as NoTail}
-use Rattle.circuit.specs.declared.TablesRead.{TablesRead}
-use Rattle.circuit.specs.declared.TablesRead.the-variants.{At as TablesAt, Nothing as NoTables}
+use Rattle.circuit.specs.declared.settings.FbsRead.{FbsRead}
+use Rattle.circuit.specs.declared.settings.FbsRead.the-variants.{At as FbsAt, Nothing as NoFbs}
+use Rattle.circuit.specs.declared.settings.PolicyRead.{PolicyRead}
+use Rattle.circuit.specs.declared.settings.PolicyRead.the-variants.{At as PolicyAt, Nothing as NoPolicy}
+use Rattle.circuit.specs.declared.settings.TailRead.{TailRead}
+use Rattle.circuit.specs.declared.settings.TailRead.the-variants.{At as TailAt, Nothing as NoTail}
+use Rattle.circuit.specs.declared.settings.TablesRead.{TablesRead}
+use Rattle.circuit.specs.declared.settings.TablesRead.the-variants.{At as TablesAt, Nothing as NoTables}
 
 abbrev pub policyEnd : PolicyRead → ℕ
 policyEnd (PolicyAt q e) = e

@@ -10,14 +10,14 @@ use Rattle.rules.specs.Form.{Piece, Reader, give, onward, _>>=_, _>>_, word, ma
 use Rattle.text.specs.Capped.{capped, exact-some, exact-none}
 use Rattle.text.specs.Many.{Takes, takes-then, takes-word, keeps-wire, many-none, many-some}
 use Rattle.text.specs.Wire.{capWire}
-use Rattle.circuit.specs.declared.Wires.{Wires}
-use Rattle.circuit.specs.declared.WiresRead.{WiresRead}
+use Rattle.circuit.specs.declared.gate.Wires.{Wires}
+use Rattle.circuit.specs.declared.gate.WiresRead.{WiresRead}
 use Rattle.circuit.specs.Wires.{withWire, withWires}
 
 unfoldable pub spacedWire : Reader Wire
 spacedWire = word " " >> wire
 
-takes-spaced : Takes spacedWire
+pub takes-spaced : Takes spacedWire
 unfolding spacedWire
 takes-spaced = takes-then (takes-word _ _) (λ _. keeps-wire)
 

@@ -4,6 +4,8 @@ pub mod Line
 pub mod Judged
 pub mod Cap
 pub mod Many
+pub mod FirstLine
+pub mod LineForms
 pub mod Gives
 pub mod Exactly
 pub mod Run

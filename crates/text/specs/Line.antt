@@ -64,10 +64,10 @@ module _ (s : List ℕ) (i : ℕ) where
   unfolding lineStop lineLength
   line-over h = rw (drop-of-length-le s {i = i} h) (omega arith)
 
-within : (l : List ℕ) → lineLength l ≤ length l
+pub line-within : (l : List ℕ) → lineLength l ≤ length l
 unfolding lineLength
-within [] = omega arith
-within (b ∷ s) = let h = within s in if-both (λ n. n ≤ suc (length s)) (eqb b 10) (omega arith) (omega arith)
+line-within [] = omega arith
+line-within (b ∷ s) = let h = line-within s in if-both (λ n. n ≤ suc (length s)) (eqb b 10) (omega arith) (omega arith)
 
 some-bytes : (l : List ℕ) → 0 < length l → 0 < lineLength l
 unfolding lineLength
@@ -86,6 +86,6 @@ line-end s a e h k =
     let n : lineLength l ≡ e - a = omega arith in
     record {
       later = omega (arith, some-bytes l some);
-      inside = omega (arith, within l, length-drop a s);
+      inside = omega (arith, line-within l, length-drop a s);
       line = rw (← n, first-line l some, drop-drop, k);
     }

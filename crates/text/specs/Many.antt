@@ -89,7 +89,7 @@ keeps-wire =
 -- ---- The pieces one by one.
 
 module _ {A : Type 0} (r : Reader A) (takes : Takes r) where
-  enough : (k j : ℕ) (s : List ℕ) → length s ≤ k → length s ≤ j → upTo k r s ≡ upTo j r s
+  pub enough : (k j : ℕ) (s : List ℕ) → length s ≤ k → length s ≤ j → upTo k r s ≡ upTo j r s
   unfolding upTo gather
   enough zero zero s h i = refl
   enough zero (suc j) s h i = by (r s) refl

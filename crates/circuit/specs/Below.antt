@@ -1,0 +1,111 @@
+-- Two arrays that agree up to an index: what is read there is the same.
+use mathlib.Core.Path.{_≡_, refl, sym, ap, ap₂, _∙_}
+use mathlib.Core.List.{List, [], _∷_, _++_}
+use mathlib.Core.Logic.{⊎-elim}
+use Prim.Native.Nat.{ℕ, suc, _+_, _*_, _-_, _<_, _≤_}
+use native.Mathlib.Numerals.{add-one}
+use native.Mathlib.Omega.{arith}
+use lib.ListN.{length, getD, take, drop, set, length-set, length-take, List·getD-append}
+use lib.Seq.{getD-set-same, getD-set-other, paste, getD-take, getD-append-add, length-paste-head, length-take-le}
+use Rattle.laws.specs.Tabulate.{tabulate, tabulate-same, tabulate-snoc}
+use Rattle.laws.specs.Test.{if_then_else_, lt-or-le}
+use Rattle.rules.specs.Circuit as C
+use Rattle.text.specs.Forms.{Named}
+use Rattle.circuit.specs.declared.Circuit.{Circuit}
+use Rattle.circuit.specs.View.{wireIn, wiresIn, answersIn, gateIn, gatesIn, nameAt, inputName, inputNames, outputIn, outputsIn, portWire, NamedAt, NamesIn}
+
+pub record Below (m : ℕ) (l t : List ℕ) : Type 0 where
+  pub same : (j : ℕ) → j < m → getD t j 0 ≡ getD l j 0
+
+pub below-self : (m : ℕ) (l : List ℕ) → Below m l l
+below-self m l = record { same = λ j h. refl }
+
+pub below-set : (m : ℕ) (l t : List ℕ) (i x : ℕ) → m ≤ i → Below m l t → Below m l (set t i x)
+below-set m l t i x h b = record { same = λ j k. getD-set-other t i j x 0 (λ (e : j ≡ i). omega arith) ∙ b .same j k }
+
+pub below-less : (m n : ℕ) {l t : List ℕ} → n ≤ m → Below m l t → Below n l t
+below-less m n h b = record { same = λ j k. b .same j (omega arith) }
+
+-- what was there, and one more
+snoc : {A : Type 0} (n : ℕ) (f g : ℕ → A) (x : A) → ((i : ℕ) → i < n → g i ≡ f i) → g n ≡ x → tabulate (n + 1) g ≡ tabulate n f ++ (x ∷ [])
+snoc {A} n f g x h e = rw add-one (tabulate-snoc n g ∙ ap₂ {C = List A} (λ a b. a ++ (b ∷ [])) (tabulate-same n g f h) e)
+
+-- ---- The gates: six bytes each.
+
+module _ (gs hs : List ℕ) (inputs : ℕ) where
+  gate-same : (k i : ℕ) → Below (6 * k) gs hs → i < k → gateIn hs inputs i ≡ gateIn gs inputs i
+  unfolding gateIn wiresIn answersIn
+  gate-same k i b h =
+      rw (b .same (6 * i) (omega arith), b .same (6 * i + 1) (omega arith), b .same (6 * i + 2) (omega arith), b .same (6 * i + 3) (omega arith), b .same (6 * i + 4) (omega arith), b .same (6 * i + 5) (omega arith))
+
+  pub gates-same : (n : ℕ) → Below (6 * n) gs hs → gatesIn hs inputs n ≡ gatesIn gs inputs n
+  unfolding gatesIn
+  gates-same n b = tabulate-same n _ _ (λ i h. gate-same n i b h)
+
+  pub gates-more : (n : ℕ) (g : C.Gate) → Below (6 * n) gs hs → gateIn hs inputs n ≡ g → gatesIn hs inputs (n + 1) ≡ gatesIn gs inputs n ++ (g ∷ [])
+  unfolding gatesIn
+  gates-more n g b e = snoc n _ _ g (λ i h. gate-same n i b h) e
+
+-- ---- The names: two numbers each.
+
+module _ (s ps qs : List ℕ) where
+  pub name-same : (m j : ℕ) → Below m ps qs → j + 1 < m → nameAt s qs j ≡ nameAt s ps j
+  unfolding nameAt
+  name-same m j b h = rw (b .same j (omega arith), b .same (j + 1) h)
+
+  pub names-same : (n : ℕ) → Below (2 * n) ps qs → inputNames s qs n ≡ inputNames s ps n
+  unfolding inputNames inputName
+  names-same n b = tabulate-same n _ _ (λ i h. name-same (2 * n) (2 * i) b (omega arith))
+
+  pub names-more : (n : ℕ) (w : C.Name) → Below (2 * n) ps qs → nameAt s qs (2 * n) ≡ w → inputNames s qs (n + 1) ≡ inputNames s ps n ++ (w ∷ [])
+  unfolding inputNames inputName
+  names-more n w b e = snoc n _ _ w (λ i h. name-same (2 * n) (2 * i) b (omega arith)) e
+
+  out-same : (n i : ℕ) → Below (64 + 3 * n) ps qs → i < n → outputIn s qs i ≡ outputIn s ps i
+  unfolding outputIn
+  out-same n i b h =
+      ap₂ (λ a w. record { name = a; wire = portWire w }) (name-same (64 + 3 * n) (64 + 3 * i) b (omega arith)) (b .same (64 + 3 * i + 2) (omega arith))
+
+  pub outs-more : (n : ℕ) (o : C.Output) → Below (64 + 3 * n) ps qs → outputIn s qs n ≡ o → outputsIn s qs (n + 1) ≡ outputsIn s ps n ++ (o ∷ [])
+  unfolding outputsIn
+  outs-more n o b e = snoc n _ _ o (λ i h. out-same n i b h) e
+
+-- ---- A name put at j.
+
+module _ (ps : List ℕ) (j a b : ℕ) (h : j + 1 < length ps) where
+  put-start : getD (set (set ps j a) (j + 1) b) j 0 ≡ a
+  put-start = getD-set-other (set ps j a) (j + 1) j b 0 (λ (e : j ≡ j + 1). omega arith) ∙ getD-set-same ps j a 0 (omega arith)
+
+  put-end : getD (set (set ps j a) (j + 1) b) (j + 1) 0 ≡ b
+  put-end = getD-set-same (set ps j a) (j + 1) b 0 (simp length-set h)
+
+  pub put-name : (s : List ℕ) → nameAt s (set (set ps j a) (j + 1) b) j ≡ take (b - a) (drop a s)
+  unfolding nameAt
+  put-name s = rw (put-start, put-end)
+
+  pub put-named : (k : ℕ) → Named k a b → NamedAt k (set (set ps j a) (j + 1) b) j
+  put-named k n = rw (put-start, put-end) n
+
+pub named-same : (k : ℕ) (ps qs : List ℕ) (m j : ℕ) → Below m ps qs → j + 1 < m → NamedAt k ps j → NamedAt k qs j
+named-same k ps qs m j b h n = rw (b .same j (omega arith), b .same (j + 1) h) n
+
+-- ---- A copy into the middle.
+
+module _ (d s : List ℕ) (at n : ℕ) (h : at ≤ length d) (k : n ≤ length s) where
+  pub below-paste : Below at d (paste d at s n)
+  below-paste =
+      record {
+        same = λ j i.
+            let l : length (take at d) ≡ at = length-take-le at d h in
+            let m : length (take at d ++ take n s) ≡ at + n = length-paste-head d at s n h k in
+            List·getD-append (take at d ++ take n s) (drop (at + n) d) 0 j (omega arith)
+            ∙ (List·getD-append (take at d) (take n s) 0 j (omega arith) ∙ getD-take at d j 0 i);
+      }
+
+  pub paste-at : (j i : ℕ) → i ≡ at + j → j < n → getD (paste d at s n) i 0 ≡ getD s j 0
+  paste-at j i q f =
+      let l : length (take at d) ≡ at = length-take-le at d h in
+      let m : length (take at d ++ take n s) ≡ at + n = length-paste-head d at s n h k in
+      let e : i ≡ length (take at d) + j = omega arith in
+      List·getD-append (take at d ++ take n s) (drop (at + n) d) 0 i (omega arith)
+      ∙ (ap (λ x. getD (take at d ++ take n s) x 0) e ∙ (getD-append-add (take at d) (take n s) j 0 ∙ getD-take n s j 0 f))
