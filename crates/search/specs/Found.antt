@@ -297,8 +297,8 @@ module _ (s : Settings) (nodes : List LutNode) (support : List ℕ) (left right 
           let new = scoreOf known-by c long in
           let first = known-first few k e in
           let tested : considered known-by c best (enteredFrom c xs ys ts 0 (replicate 32 2)) ≡ (if completable (s .p) k then betterScore best new else best) =
-              ap (considered known-by c best) (known-is few ∙ ap (Option·map (λ k. k ++ rest (least all) all truth (span all) few inside)) e)
-              ∙ ap (λ l. if completable (s .p) l then betterScore best new else best) first in
+          ap (considered known-by c best) (known-is few ∙ ap (Option·map (λ k. k ++ rest (least all) all truth (span all) few inside)) e)
+          ∙ ap (λ l. if completable (s .p) l then betterScore best new else best) first in
           ⊎-elim
           (λ (f : completable (s .p) k ≡ true).
           let fit = fits-by ∙ ap (λ o. isSome (completed (s .p) o)) e ∙ f in
@@ -343,4 +343,3 @@ module _ (s : Settings) (nodes : List LutNode) (support : List ℕ) (left right 
       walks-keep Same (stepAt known-by xs ys ts (r .origin)) (triedAt evaluated (r .origin)) (r .start) (r .end - r .start) (r .bottom) (r .top - r .bottom) noScore none
       (λ i j h k l n. pair-step (pos i) (pos j -ℤ pos (r .origin)) (scaling-at i j (r .origin) (omega (arith, w .first)) (w .origin) (omega (arith, w .second))))
       (refl, λ e. absurd (true≢false (sym e)))
-
