@@ -13,5 +13,6 @@ pub mod Pair
 pub mod Search
 pub mod Reuse
 pub mod Steps
+pub mod Candidates
 pub mod Found
 pub mod Policies

@@ -25,7 +25,8 @@ use Rattle.search.specs.declared.Ranges.{Ranges}
 use Rattle.search.specs.declared.energy.Moments.{Moments}
 use Rattle.search.specs.declared.score.Score.{Score}
 use Rattle.search.specs.EnergyRows.{momentsOf}
-use Rattle.search.specs.Found.{candidateOf, Found, walks-same}
+use Rattle.search.specs.Candidates.{candidateOf, Found}
+use Rattle.search.specs.Found.{walks-same}
 use Rattle.search.specs.Pairs.{tried, triedAt, pairs-walked}
 use Rattle.search.specs.RowsCompacted.{Compacted}
 use Rattle.search.specs.Score.{noScore}
