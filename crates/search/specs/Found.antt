@@ -1,26 +1,24 @@
 -- What the search finds is what `findCandidate` finds.
 use mathlib.Core.Path.{_≡_, refl, sym, ap, ap₂, subst, _∙_}
 use mathlib.Core.Bool.{Bool, true, false, _&&_, true≢false}
-use mathlib.Core.List.{List, [], _∷_, _++_, zipWith, flatMap}
+use mathlib.Core.List.{List, [], _∷_, _++_, zipWith}
 use mathlib.Core.Logic.{⊎-elim}
 use mathlib.Core.Option.{Option, none, some, Option·map}
-use Prim.Native.Nat.{ℕ, zero, suc, _+_, _*_, _-_, _≤_, _<_}
+use Prim.Native.Nat.{ℕ, suc, _+_, _*_, _-_, _≤_, _<_}
 use native.Mathlib.Omega.{arith}
 use borrow.Author.Tests.{leb-true}
 use lib.Dec.{leb}
 use lib.IntN.{ℤ, pos, natAbs, _-ℤ_, _*ℤ_}
 use lib.Signed.{quotZ}
-use lib.ListN.{length, getD, set, take, drop, replicate, length-replicate, length-set, List·getD-append, replicate-append-replicate}
+use lib.ListN.{length, getD, set, take, replicate, length-replicate, length-set, List·getD-append, replicate-append-replicate}
 use lib.Seq.{set-append-left, take-at}
-use Rattle.laws.specs.Test.{if_then_else_, isSome, decide, if-both, both-left}
-use Rattle.rules.specs.declared.Policy.{Policy}
-use Rattle.rules.specs.declared.Policy.the-variants.{Basic, Naive, Span}
+use Rattle.laws.specs.Test.{if_then_else_, isSome, decide, both-left}
 use Rattle.rules.specs.declared.Settings.{Settings}
-use Rattle.rules.specs.Builder.{agrees, enter, knownEntries, completion, completable}
-use Rattle.rules.specs.Cone.{Cone, Candidate, linearTable, values, coneSpan, norm2, energy, completed, bootstrapTable, isLutValid, withinNorm, fits, less, better, bestFrom, best}
-use Rattle.rules.specs.Composition.{Scales, scales, triedPairs, mergedCoefficients, reuseCost, score, evaluate, findCandidate}
+use Rattle.rules.specs.Builder.{agrees, enter, knownEntries, completable}
+use Rattle.rules.specs.Cone.{Cone, Candidate, linearTable, values, coneSpan, norm2, energy, completed, bootstrapTable, isLutValid, withinNorm, fits, better, bestFrom, best}
+use Rattle.rules.specs.Composition.{Scales, scales, mergedCoefficients, reuseCost, score, evaluate}
 use Rattle.rules.specs.Network.{LutNode}
-use Rattle.rules.specs.Scale.{divisor, normalised, isScalePair, norm}
+use Rattle.rules.specs.Scale.{divisor, isScalePair, norm}
 use Rattle.rules.specs.Span.{least, span}
 use Rattle.rules.specs.Store.{linearOf, terms}
 use Rattle.theorems.specs.Rows.{Within, entered-entries, unknown-entries}
@@ -31,31 +29,16 @@ use Rattle.search.specs.declared.Ranges.{Ranges}
 use Rattle.search.specs.declared.energy.Moments.{Moments}
 use Rattle.search.specs.declared.pair.Pair.{Pair}
 use Rattle.search.specs.declared.score.Score.{Score}
-use Rattle.search.specs.EnergyMoments.{xxOf, xyOf, yyOf, byMoments, energy-by-moments}
+use Rattle.search.specs.EnergyMoments.{byMoments, energy-by-moments}
 use Rattle.search.specs.EnergyRows.{momentsOf, moments-compacted}
-use Rattle.search.specs.MergedValues.{combined, mergedValue, merged-values, merged-coefficients}
-use Rattle.search.specs.Pair.{Rows, Scaling, mergedRow, merged, weighed, measured, noPair, pairOf, scaling-at}
-use Rattle.search.specs.Pairs.{tried, triedAt, pairs-walked}
-use Rattle.search.specs.RowsCompacted.{Compacted, sumOver, known-compacted}
+use Rattle.search.specs.MergedValues.{mergedValue, merged-values, merged-coefficients}
+use Rattle.search.specs.Pair.{Scaling, mergedRow, merged, weighed, measured, noPair, pairOf, scaling-at}
+use Rattle.search.specs.Pairs.{tried, triedAt}
+use Rattle.search.specs.RowsCompacted.{Compacted, known-compacted}
 use Rattle.search.specs.Score.{scoreList, noScore, betterScore}
 use Rattle.search.specs.Search.{Context, context, rowValues, enteredFrom, energyBy, coneBy, reuseOf, scoreOf, considered, stepOf, stepAt, InSpans}
 use Rattle.search.specs.Walk.{walk, walks-keep}
-
--- The merged cone of a pair, and the candidate that a score stands for.
-unfoldable pub mergedCone : List ℕ → Cone → Cone → List ℕ → ℤ → ℤ → Cone
-mergedCone support left right truth a b = coneBy support (mergedCoefficients support left right (scales a b)) truth
-
-unfoldable pub candidateOf : List ℕ → Cone → Cone → List ℕ → Score → Option Candidate
-candidateOf support left right truth r =
-    let d : Candidate = record { score = scoreList r; cone = mergedCone support left right truth (r .a) (r .b) } in
-    if r .found then some d else none
-
--- What is known of a score that was found: its entries are those of its cone, and the table is no longer than allowed.
-pub record Found (s : Settings) (support : List ℕ) (left right : Cone) (truth : List ℕ) (r : Score) : Type 0 where
-  pub scaling : Scaling (r .a) (r .b)
-  pub entries : knownEntries (values (mergedCone support left right truth (r .a) (r .b))) truth ≡ some (take (r .span) (r .known))
-  pub span-is : r .span ≡ coneSpan (mergedCone support left right truth (r .a) (r .b))
-  pub short : r .span ≤ s .m
+use Rattle.search.specs.Candidates.{mergedCone, candidateOf, Found, one, better-candidate, found-better}
 
 -- ---- entries behind those of the rows are kept
 enter-longer : (low : ℤ) (vs : List ℤ) (T known rest : List ℕ) → Within low vs (length known)
@@ -84,51 +67,6 @@ module _ (low : ℤ) (vs : List ℤ) (T : List ℕ) (n : ℕ) (h : n ≤ 32) (w 
   enter-first : (k : List ℕ) → enter low vs T (replicate n 2) ≡ some k → take n (k ++ rest) ≡ k
   enter-first k e =
       take-at k rest n (entered-entries low vs T (replicate n 2) k e (unknown-entries n) .1 ∙ length-replicate {A = ℕ} n 2)
-
--- ---- the better of two scores is the better of two candidates
-module _ (support : List ℕ) (left right : Cone) (truth : List ℕ) where
-  abbrev cone : Score → Cone
-  cone r = mergedCone support left right truth (r .a) (r .b)
-
-  abbrev one : Score → Candidate
-  one r = record { score = scoreList r; cone = cone r }
-
-  candidate-yes : (r : Score) → r .found ≡ true → candidateOf support left right truth r ≡ some (one r)
-  unfolding candidateOf
-  candidate-yes r e = ap (λ t. if t then some (one r) else none) e
-
-  candidate-no : (r : Score) → r .found ≡ false → candidateOf support left right truth r ≡ none
-  unfolding candidateOf
-  candidate-no r e = ap (λ t. if t then some (one r) else none) e
-
-  better-candidate : (best r : Score) → r .found ≡ true
-      → candidateOf support left right truth (betterScore best r) ≡ some (better (candidateOf support left right truth best) (one r))
-  unfolding betterScore better
-  better-candidate best r f =
-      ⊎-elim
-      (λ (e : best .found ≡ true).
-      ap (λ t. candidateOf support left right truth (if t then (if less (scoreList r) (scoreList best) then r else best) else r)) e
-      ∙ by (less (scoreList r) (scoreList best)) (candidate-yes best e)
-      ∙ ap (λ o. some (better o (one r))) (sym (candidate-yes best e)))
-      (λ (e : best .found ≡ false).
-      ap (λ t. candidateOf support left right truth (if t then (if less (scoreList r) (scoreList best) then r else best) else r)) e
-      ∙ candidate-yes r f
-      ∙ ap (λ o. some (better o (one r))) (sym (candidate-no best e)))
-      (decide (best .found))
-    where
-      by : (t : Bool) → candidateOf support left right truth best ≡ some (one best)
-          → candidateOf support left right truth (if t then r else best) ≡ some (if t then one r else one best)
-      by true e = candidate-yes r f
-      by false e = e
-
-  found-better : (s : Settings) (best r : Score) → (best .found ≡ true → Found s support left right truth best) → Found s support left right truth r
-      → betterScore best r .found ≡ true → Found s support left right truth (betterScore best r)
-  unfolding betterScore
-  found-better s best r old new =
-      ⊎-elim
-      (λ (e : best .found ≡ true). λ f. subst (Found s support left right truth) (sym (ap (λ t. if t then (if less (scoreList r) (scoreList best) then r else best) else r) e)) (if-both (Found s support left right truth) (less (scoreList r) (scoreList best)) new (old e)))
-      (λ (e : best .found ≡ false). λ f. subst (Found s support left right truth) (sym (ap (λ t. if t then (if less (scoreList r) (scoreList best) then r else best) else r) e)) new)
-      (decide (best .found))
 
 -- ---- the two tests of a pair, and the third
 both-hold : (x y z : Bool) → (y && x) ≡ true → (x && (y && z)) ≡ z
@@ -297,8 +235,8 @@ module _ (s : Settings) (nodes : List LutNode) (support : List ℕ) (left right 
           let new = scoreOf known-by c long in
           let first = known-first few k e in
           let tested : considered known-by c best (enteredFrom c xs ys ts 0 (replicate 32 2)) ≡ (if completable (s .p) k then betterScore best new else best) =
-              ap (considered known-by c best) (known-is few ∙ ap (Option·map (λ k. k ++ rest (least all) all truth (span all) few inside)) e)
-              ∙ ap (λ l. if completable (s .p) l then betterScore best new else best) first in
+          ap (considered known-by c best) (known-is few ∙ ap (Option·map (λ k. k ++ rest (least all) all truth (span all) few inside)) e)
+          ∙ ap (λ l. if completable (s .p) l then betterScore best new else best) first in
           ⊎-elim
           (λ (f : completable (s .p) k ≡ true).
           let fit = fits-by ∙ ap (λ o. isSome (completed (s .p) o)) e ∙ f in
@@ -343,4 +281,3 @@ module _ (s : Settings) (nodes : List LutNode) (support : List ℕ) (left right 
       walks-keep Same (stepAt known-by xs ys ts (r .origin)) (triedAt evaluated (r .origin)) (r .start) (r .end - r .start) (r .bottom) (r .top - r .bottom) noScore none
       (λ i j h k l n. pair-step (pos i) (pos j -ℤ pos (r .origin)) (scaling-at i j (r .origin) (omega (arith, w .first)) (w .origin) (omega (arith, w .second))))
       (refl, λ e. absurd (true≢false (sym e)))
-

@@ -10,8 +10,9 @@ pub mod Walk
 pub mod Pairs
 pub mod Score
 pub mod Pair
-pub mod Reuse
 pub mod Search
+pub mod Reuse
 pub mod Steps
+pub mod Candidates
 pub mod Found
 pub mod Policies

@@ -94,7 +94,7 @@ times-of d [] (y ∷ l) e h = absurd (omega arith)
 times-of d (x ∷ q) [] e h = absurd (omega arith)
 times-of d (x ∷ q) (y ∷ l) e h = ap₂ {C = List ℤ} (λ v r. v ∷ r) (h 0) (times-of d q l (omega arith) (λ i. h (suc i)))
 
-normalised-length : (cs : List ℤ) → length (normalised cs) ≡ length cs
+pub normalised-length : (cs : List ℤ) → length (normalised cs) ≡ length cs
 unfolding normalised quotients
 normalised-length cs = length-map cs (λ (x : ℤ). quotZ x (divisor cs))
 

@@ -22,7 +22,7 @@ use Rattle.scale.specs.Divisor.{divisor-not-zero}
 use Rattle.cone.specs.Span.{total, within-total}
 use Rattle.search.specs.declared.pair.Pair.{Pair}
 use Rattle.search.specs.MergedIntegers.{zipWith-length, zipWith-at}
-use Rattle.search.specs.MergedValues.{combined, mergedValue}
+use Rattle.search.specs.MergedValues.{combined, mergedValue, normalised-length}
 
 -- Two rows of coefficients over the same sources, each of a cone within the limits.
 pub record Rows (left right : List ℤ) : Type 0 where
@@ -159,10 +159,6 @@ pub normalised-small : (cs : List ℤ) → Within 1984 cs → Within 1984 (norma
 unfolding normalised
 normalised-small cs w = quotients-small (divisor cs) cs w
 
-pub normalised-length : (cs : List ℤ) → length (normalised cs) ≡ length cs
-unfolding normalised quotients
-normalised-length cs = length-map cs (λ (x : ℤ). quotZ x (divisor cs))
-
 -- ---- what the code puts together: each number is the one that is meant
 pub weighed-is : (s : Settings) (a b d : ℤ) (cs : List ℤ) (ok : Bool) (a′ b′ d′ low : ℤ) (sp n : ℕ)
     → sp ≡ span (linearTable cs) → n ≡ norm cs → ok ≡ (leb sp (s .m) && withinNorm s n) → a′ ≡ a → b′ ≡ b → d′ ≡ d → low ≡ least (linearTable cs)
@@ -222,3 +218,6 @@ merged-row left right a b t out e f = f ∙ ap normalised e
 pub merged-length : (left right : List ℤ) → Rows left right → (a b : ℤ) → length (merged a b left right) ≡ length left
 unfolding merged
 merged-length left right r a b = normalised-length (mergedRow a b left right) ∙ row-length left right r a b
+
+pub row-same : (left right : List ℤ) (a b a′ b′ : ℤ) → a′ ≡ a → b′ ≡ b → mergedRow a′ b′ left right ≡ mergedRow a b left right
+row-same left right a b a′ b′ e f = rw (e, f)

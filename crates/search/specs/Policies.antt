@@ -25,7 +25,8 @@ use Rattle.search.specs.declared.Ranges.{Ranges}
 use Rattle.search.specs.declared.energy.Moments.{Moments}
 use Rattle.search.specs.declared.score.Score.{Score}
 use Rattle.search.specs.EnergyRows.{momentsOf}
-use Rattle.search.specs.Found.{candidateOf, Found, walks-same}
+use Rattle.search.specs.Candidates.{candidateOf, Found}
+use Rattle.search.specs.Found.{walks-same}
 use Rattle.search.specs.Pairs.{tried, triedAt, pairs-walked}
 use Rattle.search.specs.RowsCompacted.{Compacted}
 use Rattle.search.specs.Score.{noScore}
@@ -127,7 +128,7 @@ module _ (s : Settings) (nodes : List LutNode) (left right : Cone) (truth counts
   finds-over r t n e f g =
       let b = h .over in
       let same : context s nodes (take n (basis .support)) (take (basis .n) (basis .left)) (take (basis .n) (basis .right)) m
-          ≡ context s nodes U (coefficientsOver U left) (coefficientsOver U right) m =
-          ap (λ l. context s nodes l (take (basis .n) (basis .left)) (take (basis .n) (basis .right)) m) (ap (λ k. take k (basis .support)) f ∙ b .sources)
-          ∙ ap₂ (λ x y. context s nodes U x y m) (b .lefts) (b .rights) in
+      ≡ context s nodes U (coefficientsOver U left) (coefficientsOver U right) m =
+      ap (λ l. context s nodes l (take (basis .n) (basis .left)) (take (basis .n) (basis .right)) m) (ap (λ k. take k (basis .support)) f ∙ b .sources)
+      ∙ ap₂ (λ x y. context s nodes U x y m) (b .lefts) (b .rights) in
       finds r t e (g ∙ ap (λ k. walk (stepAt k xs ys ts (r .origin)) (r .start) (r .end - r .start) (r .bottom) (r .top - r .bottom) noScore) same)

@@ -13,6 +13,7 @@ use Rattle.rules.specs.Builder.{enter, completable}
 use Rattle.rules.specs.Cone.{Cone, linearTable}
 use Rattle.rules.specs.Composition.{reuseCost}
 use Rattle.rules.specs.Network.{LutNode}
+use Rattle.rules.specs.Span.{least, span}
 use Rattle.search.specs.declared.energy.Moments.{Moments}
 use Rattle.search.specs.declared.pair.Pair.{Pair}
 use Rattle.search.specs.declared.score.Score.{Score}
@@ -114,3 +115,8 @@ pub record Scored (c : Pair) : Type 0 where
   pub divisor-small : natAbs (c .divisor) ≤ 1984
   pub low-small : natAbs (c .low) ≤ 31
   pub narrow : c .span ≤ 32
+
+-- The pair's least value and span are those of its coefficients.
+pub record Merges (left right : List ℤ) (c : Pair) : Type 0 where
+  pub low-is : c .low ≡ least (linearTable (merged (c .a) (c .b) left right))
+  pub span-is : c .span ≡ span (linearTable (merged (c .a) (c .b) left right))

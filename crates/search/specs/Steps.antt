@@ -32,9 +32,9 @@ use Rattle.search.specs.declared.pair.Pair.{Pair}
 use Rattle.search.specs.declared.score.Score.{Score}
 use Rattle.search.specs.MergedIntegers.{zipWith-length, zipWith-at}
 use Rattle.search.specs.MergedValues.{combined, mergedValue, merged-values}
-use Rattle.search.specs.Pair.{Rows, Scaling, mergedRow, weighed, measured, noPair, pairOf, levelOf, Level, row-small}
+use Rattle.search.specs.Pair.{Rows, Scaling, mergedRow, merged, weighed, measured, noPair, pairOf, levelOf, Level, row-small}
 use Rattle.search.specs.Score.{betterScore}
-use Rattle.search.specs.Search.{Context, rowValues, enteredFrom, energyBy, reuseOf, scoreOf, considered, stepOf, stepAt, ValuesIn, Ready, Scored}
+use Rattle.search.specs.Search.{Context, rowValues, enteredFrom, energyBy, reuseOf, scoreOf, considered, stepOf, stepAt, ValuesIn, Ready, Scored, Merges}
 
 module _ (k : Context) (xs ys : List ℤ) (ts : List ℕ) (origin u v : ℕ) (best : Score) (c : Pair)
     (e : c ≡ pairOf (k .settings) (k .left) (k .right) (pos u) (pos v -ℤ pos origin)) where
@@ -177,6 +177,10 @@ module _ (s : Settings) (left right xs ys : List ℤ) (ts : List ℕ) (m : Momen
         narrow = fits-span h;
       }
 
+  merges-measured : Merges left right (measured s a b cs)
+  unfolding measured weighed merged
+  merges-measured = record { low-is = refl; span-is = refl }
+
   module _ (x y : ℤ) (r : ValuesIn x y left right) where
     x-near : natAbs x ≤ 31
     x-near = subst (λ z. natAbs z ≤ 31) (r .x-is) (omega (arith, table-within-total left (r .at), ready .rows .lefts))
@@ -216,6 +220,9 @@ module _ (s : Settings) (left right xs ys : List ℤ) (ts : List ℕ) (m : Momen
 
     pub scored : Scored c
     scored = subst Scored (sym is-measured) (scored-measured measured-ok)
+
+    pub merges : Merges left right c
+    merges = subst (Merges left right) (sym is-measured) merges-measured
 
     module _ (i : ℕ) (h : i < length xs) (x y : ℤ) (ex : x ≡ getD xs i (pos 0)) (ey : y ≡ getD ys i (pos 0)) where
       pub row-level : Level c x y

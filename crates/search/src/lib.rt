@@ -6,9 +6,11 @@ pub mod score;
 
 use cone::compose::Basis;
 use energy::Moments;
+use lut::Terms;
 use pair::Pair;
 use pair::candidate_at;
 use pair::level;
+use pair::prepare_coefficients;
 use rules::Policy;
 use rules::Settings;
 use score::Score;
@@ -18,7 +20,7 @@ ghost use mathlib.Core.Path.{_≡_};
 ghost use mathlib.Core.List.{List};
 ghost use mathlib.Core.Option.{some};
 ghost use Prim.Native.Nat.{ℕ, _-_, _≤_, _<_, _^_};
-ghost use lib.IntN.{natAbs, _*ℤ_};
+ghost use lib.IntN.{natAbs, negℤ, _*ℤ_};
 ghost use lib.ListN.{length, take};
 ghost use Rattle.rules.specs.Builder.{Entries, completable};
 ghost use Rattle.rules.specs.declared.Policy.the-variants.{Naive, Span};
@@ -26,9 +28,10 @@ ghost use Rattle.rules.specs.Cone.{Cone};
 ghost use Rattle.search.specs.EnergyRows.{Small};
 ghost use Rattle.search.specs.Pair.{Rows};
 ghost use Rattle.search.specs.Policies.{rangesOf, Attempted, Finds};
-ghost use Rattle.search.specs.Reuse.{storeOf, Stored};
+ghost use Rattle.lut.specs.View.{storeOf};
+ghost use Rattle.search.specs.Reuse.{Stored, SumOf};
 ghost use Rattle.search.specs.Score.{noScore};
-ghost use Rattle.search.specs.Search.{context, considered as consideredBy, energyBy, reuseOf, stepAt, Ready, InSpans, Scored};
+ghost use Rattle.search.specs.Search.{context, considered as consideredBy, energyBy, reuseOf, stepAt, Ready, InSpans, Scored, Merges};
 ghost use Rattle.search.specs.Walk.{walk};
 
 // The pairs: a from bottom up to and not including top; b from start to end likewise, less the origin.
@@ -60,7 +63,28 @@ fn energy_of(m: Moments, c: Pair) -> i64
     scale::divide(sum, d * d)
 }
 
-// 0 where the sum with these coefficients is already bootstrapped, else 1.
+fn negated(x: i64) -> i64
+    requires { ⌜ natAbs x ≤ 31 ⌝ }
+    ensures { λ r. ⌜ r ≡ negℤ x ⌝ }
+{
+    -x
+}
+
+// The sum of a pair: its values less the least one.
+fn sum_of(left: &[i64], right: &[i64], sources: [usize; 11], c: Pair) -> Terms
+    requires { ⌜ Rows (now left) (now right) × Scored c ⌝ }
+    ensures { λ r. ⌜ SumOf (now (left .entry)) (now (right .entry)) sources c r ⌝ }
+{
+    let coefs = prepare_coefficients(left, right, c.a, c.b);
+    Terms {
+        n: left.len(),
+        constant: negated(c.low),
+        coefs,
+        sources,
+    }
+}
+
+// 0 where the pair's sum is already bootstrapped, with many tables a sum; else 1.
 fn reuse_cost(
     s: Settings,
     left: &[i64],
@@ -70,9 +94,16 @@ fn reuse_cost(
     count: usize,
     c: Pair,
 ) -> usize
-    requires { ⌜ Rows (now left) (now right) × (Scored c × Stored (now nodes) count (take (length (now left)) sources)) ⌝ }
+    requires { ⌜ Rows (now left) (now right) × (Scored c × (Merges (now left) (now right) c × Stored (now nodes) count (take (length (now left)) sources))) ⌝ }
     ensures { λ r. ⌜ ((m : Moments) → r ≡ reuseOf (context s (storeOf (now (nodes .entry)) count) (take (length (now (left .entry))) sources) (now (left .entry)) (now (right .entry)) m) c) ⌝ }
 {
+    if !s.many {
+        return 1;
+    }
+    let t = sum_of(left, right, sources, c);
+    if lut::reuse::has_bootstrap(nodes, count, t) {
+        return 0;
+    }
     1
 }
 
@@ -96,7 +127,7 @@ fn considered(
     c: Pair,
     known: [u8; 32],
 ) -> Score
-    requires { ⌜ Rows (now left) (now right) × (Small m × (Scored c × (Stored (now nodes) count (take (length (now left)) sources) × Entries known))) ⌝ }
+    requires { ⌜ Rows (now left) (now right) × (Small m × (Scored c × (Merges (now left) (now right) c × (Stored (now nodes) count (take (length (now left)) sources) × Entries known)))) ⌝ }
     ensures { λ r. ⌜ r ≡ consideredBy (context s (storeOf (now (nodes .entry)) count) (take (length (now (left .entry))) sources) (now (left .entry)) (now (right .entry)) m) c best (some known) ⌝ }
 {
     if !is_completable(known, c.span, s.p) {
@@ -226,5 +257,17 @@ pub fn find_candidate(
     let sources = basis.support;
     let policy = s.policy;
     let r = ranges_of(policy, first, second);
-    search(s, r, m, &left[..n], &right[..n], sources, nodes, count, xs, ys, truth)
+    search(
+        s,
+        r,
+        m,
+        &left[..n],
+        &right[..n],
+        sources,
+        nodes,
+        count,
+        xs,
+        ys,
+        truth,
+    )
 }

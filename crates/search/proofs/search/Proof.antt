@@ -14,10 +14,10 @@ use Rattle.rules.specs.declared.Settings.{Settings}
 use Rattle.search.specs.declared.energy.Moments.{Moments}
 use Rattle.search.specs.declared.score.Score.{Score}
 use Rattle.search.specs.Pair.{Scaling, Level, levelOf, scaling-at}
-use Rattle.search.specs.Reuse.{storeOf}
+use Rattle.lut.specs.View.{storeOf}
 use Rattle.search.specs.Score.{noScore}
-use Rattle.search.specs.Search.{Context, context, enteredFrom, stepAt, Scored}
-use Rattle.search.specs.Steps.{step-skipped, step-clashed, step-considered, rows-turn, rows-clash, rows-end, rows-entries, scored, row-level, row-inside}
+use Rattle.search.specs.Search.{Context, context, enteredFrom, stepAt, Scored, Merges}
+use Rattle.search.specs.Steps.{step-skipped, step-clashed, step-considered, rows-turn, rows-clash, rows-end, rows-entries, scored, merges, row-level, row-inside}
 use Rattle.search.specs.Walk.{walkRow, walk, row-turn, row-end, walk-turn, walk-end}
 use Rattle.search.proofs.search.Statement.{statement}
 use Rattle.search.proofs.search.Tie as tie
@@ -99,6 +99,9 @@ module _ (e : tie.Else1 Inv-loop2 μ-loop2 Inv-pair μ-pair Inv-loop μ-loop) wh
 
   is-scored : Scored (e .before .before .candidate-at .result)
   is-scored = scored _ _ _ _ _ _ _ (start pair .pre .0) _ _ (scaling pair) _ (e .before .before .candidate-at .ensures) is-ok
+
+  is-merged : Merges (start pair .args .left .now) (start pair .args .right .now) (e .before .before .candidate-at .result)
+  is-merged = merges _ _ _ _ _ _ _ (start pair .pre .0) _ _ (scaling pair) _ (e .before .before .candidate-at .ensures) is-ok
 
 -- ---- a row
 module _ (l : tie.After-level-arg2 Inv-loop2 μ-loop2 Inv-pair μ-pair Inv-loop μ-loop) where
@@ -189,7 +192,7 @@ considered-requires c κs =
     let s = c .before .before .before .before .before .before .before .before .before .before .before in
     let o = c .before .loop2 in
     let entered = rows-end _ _ _ _ (s .pre .0 .y-long) (s .pre .0 .t-long) (o .i) (o .known) (c .loop2-test .left) ∙ o .inv .3 in
-    (s .pre .0 .rows, (s .pre .0 .moments, (is-scored (c .before .before), (s .pre .1 .1, rows-entries _ _ _ _ (s .pre .0 .y-long) (s .pre .0 .t-long) _ entered))))
+    (s .pre .0 .rows, (s .pre .0 .moments, (is-scored (c .before .before), (is-merged (c .before .before), (s .pre .1 .1, rows-entries _ _ _ _ (s .pre .0 .y-long) (s .pre .0 .t-long) _ entered)))))
 
 add-v-3 : tie.Need-add-v-3 Inv-loop2 μ-loop2 Inv-pair μ-pair Inv-loop μ-loop
 add-v-3 c = omega (arith, c .before .before .loop2 .inv .0, v-small (c .before .before .before .before .before .before), start (c .before .before .before .before .before .before) .pre .1 .0 .origin)

@@ -1,32 +1,27 @@
 -- `search::pair::prepare_coefficients` meets its contract.
 use mathlib.Core.Path.{_≡_, sym, ap, _∙_}
-use mathlib.Core.List.{List}
-use lib.IntN.{ℤ}
 use lib.ListN.{length, take}
 use lib.Seq.{take-at}
 use borrow.Author.Needs.{needs}
 use mir.Facts.{toZ-ofZ}
-use Rattle.search.specs.Pair.{mergedRow, row-fit, row-long, merged-row, merged-length}
+use Rattle.search.specs.Pair.{row-fit, row-long, row-same, merged-row, merged-length}
 use Rattle.search.proofs.pair.prepare_coefficients.Statement.{statement}
 use Rattle.search.proofs.pair.prepare_coefficients.Tie as tie
-
-stripped : (left right : List ℤ) (a b a′ b′ : ℤ) → a′ ≡ a → b′ ≡ b → mergedRow a′ b′ left right ≡ mergedRow a b left right
-stripped left right a b a′ b′ e f = rw (e, f)
 
 slice-aggregate-normalise : tie.Need-slice-aggregate-normalise
 slice-aggregate-normalise c =
     let s = c .before .before in
-    row-long _ _ (s .pre .0) _ _ (s .pre .1) _ (c .before .merge-rows .ensures ∙ stripped _ _ _ _ _ _ (toZ-ofZ (s .fits .a)) (toZ-ofZ (s .fits .b)))
+    row-long _ _ (s .pre .0) _ _ (s .pre .1) _ (c .before .merge-rows .ensures ∙ row-same _ _ _ _ _ _ (toZ-ofZ (s .fits .a)) (toZ-ofZ (s .fits .b)))
 
 normalise-requires : tie.Need-normalise-requires
 normalise-requires c κs =
     let s = c .before .before in
-    row-fit _ _ (s .pre .0) _ _ (s .pre .1) _ (c .before .merge-rows .ensures ∙ stripped _ _ _ _ _ _ (toZ-ofZ (s .fits .a)) (toZ-ofZ (s .fits .b))) .1
+    row-fit _ _ (s .pre .0) _ _ (s .pre .1) _ (c .before .merge-rows .ensures ∙ row-same _ _ _ _ _ _ (toZ-ofZ (s .fits .a)) (toZ-ofZ (s .fits .b))) .1
 
 returns : tie.Need-returns
 returns c =
     let s = c .before .before .before .before in
-    let row = c .before .before .before .merge-rows .ensures ∙ stripped _ _ _ _ _ _ (toZ-ofZ (s .fits .a)) (toZ-ofZ (s .fits .b)) in
+    let row = c .before .before .before .merge-rows .ensures ∙ row-same _ _ _ _ _ _ (toZ-ofZ (s .fits .a)) (toZ-ofZ (s .fits .b)) in
     let out = merged-row _ _ _ _ _ _ row (c .before .normalise .ensures .1) in
     take-at _ _ _ (ap length out ∙ merged-length _ _ (s .pre .0) _ _) ∙ out
 
