@@ -3,6 +3,9 @@ pub mod RotationRule
 pub mod Completions
 pub mod Spans
 pub mod Rows
+pub mod KnownRows
+pub mod LinearTables
+pub mod Truths
 pub mod BuilderExact
 pub mod Worked
 pub mod Refusals

@@ -27,7 +27,7 @@ unfolding agrees
 agrees-yes x t h f =
     ⊎-elim (λ i. rw (le-leb t 1 h, eq-eqb x 2 i)) (λ i. rw (le-leb t 1 h, ne-eqb x 2 i, eq-eqb x t (f i))) (eq-or-ne x 2)
 
-agrees-is : (x t : ℕ) → agrees x t ≡ true → (t ≤ 1) × (x ≢ 2 → x ≡ t)
+pub agrees-is : (x t : ℕ) → agrees x t ≡ true → (t ≤ 1) × (x ≢ 2 → x ≡ t)
 unfolding agrees
 agrees-is x t e =
     ⊎-elim
@@ -86,10 +86,10 @@ pub record Agrees (low : ℤ) (values : List ℤ) (truths t : List ℕ) : Type 0
   pub at : (i : ℕ) → i < length values → getD t (offset low values i) 0 ≡ getD truths i 0
 
 -- no row, the rows but the first, and what a row that fits or does not fit leads to
-some-is : (x y : List ℕ) → some x ≡ some y → x ≡ y
+pub some-is : (x y : List ℕ) → some x ≡ some y → x ≡ y
 some-is x y e = cc
 
-none-not : {A : Type 0} (x : List ℕ) → none ≡ some x → A
+pub none-not : {A : Type 0} (x : List ℕ) → none ≡ some x → A
 none-not x e = absurd (let q : _≡_ {A = ℕ} 0 1 = cc in omega arith)
 
 module _ (low v : ℤ) (values : List ℤ) where
