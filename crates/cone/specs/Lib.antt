@@ -9,3 +9,5 @@ pub mod Basis
 pub mod Simplify
 pub mod Order
 pub mod Valid
+pub mod Unary
+pub mod Wires

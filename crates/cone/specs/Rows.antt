@@ -65,7 +65,7 @@ changed (m ∷ U) z s = let r = changed U z s in if eqb m s then digit (leb (len
 unfoldable pub toggleMask : List ℕ → List ℕ → ℕ → ℕ
 toggleMask U rs z = rowFrom 0 (map (changed U z) rs)
 
-assigned-digit : (U : List ℕ) (i s : ℕ) → assigned U (digits (length U) i) s < 2
+pub assigned-digit : (U : List ℕ) (i s : ℕ) → assigned U (digits (length U) i) s < 2
 unfolding assigned digits
 assigned-digit [] i s = omega arith
 assigned-digit (m ∷ U) i s = if-both (λ d. d < 2) (eqb m s) (bit-lt (length U) i) (assigned-digit U i s)
@@ -151,7 +151,7 @@ unfolding assigned member
 other-map m b U bs [] h = refl
 other-map m b U bs (r ∷ rs) h = rw (neither-left (eqb m r) (member m rs) h, other-map m b U bs rs (neither-right (eqb m r) (member m rs) h))
 
-own-digits : (ls new bs : List ℕ) → allDifferent ls ≡ true → length bs ≡ length ls + length new → map (assigned (ls ++ new) bs) ls ≡ take (length ls) bs
+pub own-digits : (ls new bs : List ℕ) → allDifferent ls ≡ true → length bs ≡ length ls + length new → map (assigned (ls ++ new) bs) ls ≡ take (length ls) bs
 unfolding allDifferent assigned
 own-digits [] new bs h e = refl
 own-digits (m ∷ ls) new [] h e = absurd (omega arith)

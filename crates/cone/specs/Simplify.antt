@@ -2,30 +2,29 @@
 use mathlib.Core.Path.{_≡_, refl, sym, ap, _∙_}
 use mathlib.Core.Bool.{Bool, true, false}
 use mathlib.Core.List.{List, [], _∷_, map, zipWith, append-nil}
-use mathlib.Core.Logic.{⊎-elim}
-use Prim.Native.Nat.{ℕ, suc, _+_, _≤_, _<_, _^_, zero-le}
-use native.Mathlib.Nat.{div-one, add-zero}
+use Prim.Native.Nat.{ℕ, zero, suc, _+_, _≤_, _<_, _^_, zero-le}
+use native.Mathlib.Nat.{add-zero, le-refl, mod-eq-of-lt}
 use native.Mathlib.Numerals.{add-one}
 use native.Mathlib.Omega.{arith}
 use borrow.Author.Tests.{ne-eqb}
 use lib.IntN.{ℤ, pos, natAbs}
-use lib.ListN.{length, getD, take, drop, drop-of-length-le, List·getD-eq-default}
-use lib.Seq.{drop-cons, ext-getD}
+use lib.ListN.{length, getD, take, drop, drop-of-length-le, length-map}
+use lib.Seq.{drop-cons, take-all}
+use Rattle.laws.specs.Digits.{digits, digits-length, bit-lt}
+use Rattle.laws.specs.Integer.{minus, abs-parts}
 use Rattle.laws.specs.Select.{select}
 use Rattle.laws.specs.Tabulate.{tabulate-at, tabulate-length}
-use Rattle.laws.specs.Test.{if_then_else_, lt-or-le}
-use Rattle.rules.specs.Cone.{Cone, coneBit}
+use Rattle.laws.specs.Test.{if_then_else_}
+use Rattle.rules.specs.Cone.{Cone, coneBit, linearTable, rowFrom}
 use Rattle.rules.specs.Network.{Term}
 use Rattle.rules.specs.NetworkText.{sources, allDifferent}
 use Rattle.rules.specs.Store.{terms, isUsed}
-use Rattle.rules.specs.Composition.{overRows, simplifyCone}
+use Rattle.rules.specs.Composition.{assigned, overRows, simplifyCone}
+use Rattle.theorems.specs.ZeroSources.{coefs, Bits, weigh, value-at, weigh-selected, unused-zero}
 use Rattle.cone.specs.declared.simplify.Retained.{Retained}
-use Rattle.cone.specs.Rows.{rowOver, overRows-are, rowOver-own}
-use Rattle.cone.specs.Span.{total}
+use Rattle.cone.specs.Rows.{rowOver, overRows-are, rowFrom-digits, own-digits, assigned-digit}
+use Rattle.cone.specs.Span.{total, lower}
 use Rattle.cone.specs.Support.{termsOver, different-select}
-
-unfoldable pub coefs : List Term → List ℤ
-coefs = map (λ (t : Term). t .coef)
 
 -- The arrays hold these terms.
 pub record IsRetained (ts : List Term) (r : Retained) : Type 0 where
@@ -46,24 +45,6 @@ pub truthOver-at : (U : List ℕ) (c : Cone) (i : ℕ) → i < 2 ^ length U → 
 unfolding truthOver coneBit rowOver
 truthOver-at U c i h = rw (overRows-are U) (tabulate-at (2 ^ length U) _ i 0 h)
 
-pub truthOver-bits : (U : List ℕ) (c : Cone) → ((i : ℕ) → getD (c .truth) i 0 < 2) → (i : ℕ) → getD (truthOver U c) i 0 < 2
-truthOver-bits U c b i =
-    ⊎-elim
-    (λ (h : i < 2 ^ length U). rw (truthOver-at U c i h) (b (rowOver U (c .support) i)))
-    (λ (h : 2 ^ length U ≤ i). rw (List·getD-eq-default (truthOver U c) 0 {n = i} (rw truthOver-length h)) (omega arith))
-    (lt-or-le i (2 ^ length U))
-
--- over its own sources a cone has its own truth
-pub truthOver-own : (c : Cone) → allDifferent (c .support) ≡ true → length (c .truth) ≡ 2 ^ length (c .support) → truthOver (c .support) c ≡ c .truth
-truthOver-own c d e =
-    ext-getD 0 (truthOver (c .support) c) (c .truth) (truthOver-length (c .support) c ∙ sym e) (λ i h. same i (rw truthOver-length at h))
-  where
-    same : (i : ℕ) → i < 2 ^ length (c .support) → getD (truthOver (c .support) c) i 0 ≡ getD (c .truth) i 0
-    same i h =
-        let own : rowOver (c .support) (c .support) i ≡ i =
-        (rw (append-nil, div-one) at (rowOver-own (c .support) [] i d (rw add-zero h))) in
-        rw (truthOver-at (c .support) c i h, own)
-
 -- ---- the terms that are used
 module _ {A : Type 0} (f : A → Bool) where
   pub select-le : (l : List A) → length (select f l) ≤ length l
@@ -74,16 +55,6 @@ module _ {A : Type 0} (f : A → Bool) where
       by : (t : Bool) → length (select f l) ≤ length l → length (if t then x ∷ select f l else select f l) ≤ suc (length l)
       by true r = omega arith
       by false r = omega arith
-
-  pub select-all : (l : List A) → length (select f l) ≡ length l → select f l ≡ l
-  unfolding select
-  select-all [] e = refl
-  select-all (x ∷ l) e = by (f x) e (select-all l)
-    where
-      by : (t : Bool) → length (if t then x ∷ select f l else select f l) ≡ suc (length l) → (length (select f l) ≡ length l → select f l ≡ l)
-          → (if t then x ∷ select f l else select f l) ≡ x ∷ l
-      by true e r = ap {B = List A} (λ s. x ∷ s) (r (omega arith))
-      by false e r = absurd (omega (arith, select-le l))
 
 pub sources-of : (cs : List ℤ) (ns : List ℕ) → length cs ≡ length ns → sources (termsOver cs ns) ≡ ns
 unfolding sources termsOver zipWith
@@ -98,6 +69,11 @@ coefs-of [] [] e = refl
 coefs-of [] (n ∷ ns) e = absurd (omega arith)
 coefs-of (c ∷ cs) [] e = absurd (omega arith)
 coefs-of (c ∷ cs) (n ∷ ns) e = ap {B = List ℤ} (λ l. c ∷ l) (coefs-of cs ns (omega arith))
+
+pub coefs-long : (ts : List Term) → length (sources ts) ≡ length (coefs ts)
+unfolding sources coefs
+coefs-long [] = refl
+coefs-long (t ∷ ts) = ap suc (coefs-long ts)
 
 pub terms-length : (cs : List ℤ) (ns : List ℕ) → length cs ≡ length ns → length (termsOver cs ns) ≡ length ns
 unfolding termsOver zipWith
@@ -139,26 +115,68 @@ module _ (f : Term → Bool) where
   pub different-sources : (ts : List Term) → allDifferent (sources ts) ≡ true → allDifferent (sources (select f ts)) ≡ true
   different-sources ts d = rw (sources-are (select f ts)) (different-select (λ (t : Term). t .node) f ts (rw (sources-are ts) at d))
 
-  pub total-select : (ts : List Term) → total (coefs (select f ts)) ≤ total (coefs ts)
-  unfolding select coefs total
-  total-select [] = zero-le
-  total-select (t ∷ ts) = by (f t) (total-select ts)
+  pub near-sources : (k : ℕ) → 0 < k → (ts : List Term) → ((i : ℕ) → getD (sources ts) i 0 < k) → (i : ℕ) → getD (sources (select f ts)) i 0 < k
+  unfolding select sources
+  near-sources k h [] near i = h
+  near-sources k h (t ∷ ts) near i = by (f t) (near-sources k h ts (λ j. near (suc j))) i
     where
-      by : (u : Bool) → total (coefs (select f ts)) ≤ total (coefs ts) → total (coefs (if u then t ∷ select f ts else select f ts)) ≤ natAbs (t .coef) + total (coefs ts)
-      by true r = omega arith
-      by false r = omega arith
+      by : (u : Bool) → ((i : ℕ) → getD (sources (select f ts)) i 0 < k) → (i : ℕ) → getD (sources (if u then t ∷ select f ts else select f ts)) i 0 < k
+      by true r zero = near 0
+      by true r (suc i) = r i
+      by false r i = r i
+
+-- the other ones add nothing to the span, on either side of 0
+pub total-used : (ts : List Term) → total (coefs (select isUsed ts)) ≡ total (coefs ts)
+unfolding select coefs total
+total-used [] = refl
+total-used (t ∷ ts) = by (isUsed t) refl (total-used ts)
+  where
+    by : (u : Bool) → isUsed t ≡ u → total (coefs (select isUsed ts)) ≡ total (coefs ts) → total (coefs (if u then t ∷ select isUsed ts else select isUsed ts)) ≡ natAbs (t .coef) + total (coefs ts)
+    by true e r = omega arith
+    by false e r = omega (arith, unused-zero t e)
+
+pub lower-used : (ts : List Term) → lower (coefs (select isUsed ts)) ≡ lower (coefs ts)
+unfolding select coefs lower
+lower-used [] = refl
+lower-used (t ∷ ts) = by (isUsed t) refl (lower-used ts)
+  where
+    by : (u : Bool) → isUsed t ≡ u → lower (coefs (select isUsed ts)) ≡ lower (coefs ts) → lower (coefs (if u then t ∷ select isUsed ts else select isUsed ts)) ≡ minus (t .coef) + lower (coefs ts)
+    by true e r = omega arith
+    by false e r = omega (arith, unused-zero t e, abs-parts (t .coef))
+
+-- ---- the value at a row over the used sources is the value at that row of all sources
+bits-digits : (n i : ℕ) → Bits (digits n i)
+unfolding digits Bits
+bits-digits zero i = tt
+bits-digits (suc n) i = (omega (arith, bit-lt n i), bits-digits n i)
+
+bits-assigned : (U : List ℕ) (i : ℕ) (ns : List ℕ) → Bits (map (assigned U (digits (length U) i)) ns)
+unfolding Bits
+bits-assigned U i [] = tt
+bits-assigned U i (n ∷ ns) = (omega (arith, assigned-digit U i n), bits-assigned U i ns)
+
+module _ (ts : List Term) (different : allDifferent (sources (select isUsed ts)) ≡ true) (i : ℕ) (h : i < 2 ^ length (sources (select isUsed ts))) where
+  pub used-value : getD (linearTable (coefs ts)) (rowOver (sources (select isUsed ts)) (sources ts) i) (pos 0) ≡ getD (linearTable (coefs (select isUsed ts))) i (pos 0)
+  unfolding rowOver
+  used-value =
+      let U = sources (select isUsed ts) in
+      value-at (coefs ts) (map (assigned U (digits (length U) i)) (sources ts)) (length-map (sources ts) (assigned U (digits (length U) i)) ∙ coefs-long ts) (bits-assigned U i (sources ts))
+      ∙ sym (weigh-selected (assigned U (digits (length U) i)) ts)
+      ∙ ap (weigh (coefs (select isUsed ts))) own
+      ∙ sym (value-at (coefs (select isUsed ts)) (digits (length U) i) (digits-length (length U) i ∙ coefs-long (select isUsed ts)) (bits-digits (length U) i))
+      ∙ ap (λ r. getD (linearTable (coefs (select isUsed ts))) r (pos 0)) row
+    where
+      own : map (assigned (sources (select isUsed ts)) (digits (length (sources (select isUsed ts))) i)) (sources (select isUsed ts)) ≡ digits (length (sources (select isUsed ts))) i
+      own =
+          let U = sources (select isUsed ts) in
+          rw append-nil at (own-digits U [] (digits (length U) i) different (digits-length (length U) i ∙ sym (add-zero (length U))))
+          ∙ take-all (length U) (digits (length U) i) (rw (digits-length (length U) i) (le-refl _))
+
+      row : rowFrom 0 (digits (length (sources (select isUsed ts))) i) ≡ i
+      row = rowFrom-digits 0 (length (sources (select isUsed ts))) i ∙ rw (mod-eq-of-lt h) (omega arith)
 
 -- ---- the whole cone
 pub simplified : (c : Cone) → let used = select isUsed (termsOver (c .coefficients) (c .support)) in
     simplifyCone c ≡ record { support = sources used; coefficients = coefs used; truth = truthOver (sources used) c }
 unfolding simplifyCone coefs truthOver terms termsOver
 simplified c = refl
-
--- where each coefficient is used, nothing changes
-pub simplified-same : (c : Cone) → length (c .coefficients) ≡ length (c .support) → allDifferent (c .support) ≡ true → length (c .truth) ≡ 2 ^ length (c .support)
-    → length (select isUsed (termsOver (c .coefficients) (c .support))) ≡ length (c .support) → simplifyCone c ≡ c
-simplified-same c s d t e =
-    let all : select isUsed (termsOver (c .coefficients) (c .support)) ≡ termsOver (c .coefficients) (c .support) =
-    select-all isUsed _ (e ∙ sym (terms-length (c .coefficients) (c .support) s)) in
-    simplified c
-    ∙ rw (all, sources-of (c .coefficients) (c .support) s, coefs-of (c .coefficients) (c .support) s, truthOver-own c d t)

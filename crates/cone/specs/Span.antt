@@ -165,7 +165,7 @@ unfolding linearTable upper greatest greatestFrom
 greatest-table [] = refl
 greatest-table (c ∷ cs) = greatest-doubled c (linearTable cs) (table-some cs) ∙ rw (greatest-table cs) (one-upper c (upper cs))
 
-total-parts : (cs : List ℤ) → total cs ≡ upper cs + lower cs
+pub total-parts : (cs : List ℤ) → total cs ≡ upper cs + lower cs
 unfolding total upper lower
 total-parts [] = refl
 total-parts (c ∷ cs) = omega (arith, total-parts cs, abs-parts c)

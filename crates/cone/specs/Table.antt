@@ -1,11 +1,12 @@
 -- The values of a linear form: how long its table is, how large its values are, and one coefficient more.
-use mathlib.Core.Path.{_≡_, refl}
+use mathlib.Core.Path.{_≡_, refl, _∙_}
 use mathlib.Core.List.{List, [], _∷_, _++_, map}
 use Prim.Native.Nat.{ℕ, zero, suc, _+_, _*_, _^_, _≤_, zero-le}
 use native.Mathlib.Nat.{two-pow-succ}
 use native.Mathlib.Omega.{arith}
 use lib.IntN.{ℤ, pos, natAbs, _+ℤ_}
-use lib.ListN.{length, length-append, length-map}
+use lib.ListN.{length, getD, length-append, length-map, List·getD-append}
+use lib.Pow.{pow-pos}
 use Rattle.laws.specs.Integer.{abs-add}
 use Rattle.rules.specs.Cone.{linearTable}
 use Rattle.scale.specs.Limits.{Within}
@@ -27,6 +28,13 @@ unfolding linearTable
 table-length [] = refl
 table-length (c ∷ cs) =
     rw (length-append, length-map, two-pow-succ) (let ih = table-length cs in omega arith)
+
+-- the first assignment is all zeros
+pub table-first : (cs : List ℤ) → getD (linearTable cs) 0 (pos 0) ≡ pos 0
+unfolding linearTable
+table-first [] = refl
+table-first (c ∷ cs) =
+    List·getD-append (linearTable cs) (map (λ v. c +ℤ v) (linearTable cs)) (pos 0) 0 (rw table-length (pow-pos (length cs))) ∙ table-first cs
 
 pub within-append : (k : ℕ) (s t : List ℤ) → Within k s → Within k t → Within k (s ++ t)
 within-append k [] t h g i = g i

@@ -4,13 +4,15 @@ use crate::support::Support;
 use crate::support::coefficients_over;
 use crate::support::toggle_masks;
 use crate::support::union_support;
+use crate::table::rows_of;
+use crate::table::truths_of;
 use crate::table::values_of;
 ghost use mathlib.Core.Path.{_≡_};
 ghost use mathlib.Core.List.{map};
 ghost use Prim.Native.Nat.{_+_, _≤_, _<_, _^_};
-ghost use lib.IntN.{pos};
-ghost use lib.ListN.{length, take, replicate};
+ghost use lib.ListN.{length, take};
 ghost use Rattle.laws.specs.Over.{over};
+ghost use Rattle.rules.specs.Cone.{values};
 ghost use Rattle.rules.specs.Composition.{unionSupport, gateTruth};
 ghost use Rattle.rules.specs.Store.{coefficientOf};
 ghost use Rattle.cone.specs.Support.{termsOver};
@@ -63,9 +65,18 @@ pub fn basis_of(left: Cone, right: Cone) -> Basis
     }
 }
 
-// The gate's answer at each row over the union of the sources.
-pub fn composed_truth(left: Cone, right: Cone, support: &[usize], gate: [u8; 4], truth: &mut [u8])
+// The gate's answer at each row over the union of the sources, by the truths of both cones' rows.
+fn composed_truth(
+    left: Cone,
+    right: Cone,
+    lefts: &[u8],
+    rights: &[u8],
+    support: &[usize],
+    gate: [u8; 4],
+    truth: &mut [u8],
+)
     requires { ⌜ IsCone left × (IsCone right × ((now support ≡ unionSupport (coneOf left .support) (coneOf right .support)) × ((length (now support) ≤ 11) × (2 ^ length (now support) ≤ length (now truth))))) ⌝ }
+    requires { ⌜ (now lefts ≡ coneOf left .truth) × (now rights ≡ coneOf right .truth) ⌝ }
     ensures { λ _. ⌜ now (truth .exit) ≡ over (gateTruth (now (support .entry)) (coneOf left) (coneOf right) gate) (now (truth .entry)) ⌝ }
 {
     let sources = right.support;
@@ -77,12 +88,34 @@ pub fn composed_truth(left: Cone, right: Cone, support: &[usize], gate: [u8; 4],
     let mut i = 0;
     while i < rows {
         let l = i >> new;
-        let g = 2 * (left.truth[l] as usize) + (right.truth[r] as usize);
+        let g = 2 * (lefts[l] as usize) + (rights[r] as usize);
         truth[i] = gate[g];
         i += 1;
         // The next row changes the digits up to its trailing zeros.
         r = r ^ masks[usize::trailing_zeros(i) as usize];
     }
+}
+
+// The truths of both cones' rows, and the gate's answers by them; xs and ys are to work in.
+fn gate_truths(
+    left: Cone,
+    right: Cone,
+    support: &[usize],
+    gate: [u8; 4],
+    xs: &mut [i32],
+    ys: &mut [i32],
+    truth: &mut [u8],
+)
+    requires { ⌜ IsCone left × (IsCone right × ((now support ≡ unionSupport (coneOf left .support) (coneOf right .support)) × ((length (now support) ≤ 11) × Room (length (now support)) (now xs) (now ys) (now truth)))) ⌝ }
+    ensures { λ _. ⌜ (now (xs .exit) ≡ over (values (coneOf left)) (now (xs .entry))) × ((now (ys .exit) ≡ over (values (coneOf right)) (now (ys .entry))) × (now (truth .exit) ≡ over (gateTruth (now (support .entry)) (coneOf left) (coneOf right) gate) (now (truth .entry)))) ⌝ }
+{
+    let mut lefts = [0u8; 2048];
+    let mut rights = [0u8; 2048];
+    truths_of(left, xs, &mut lefts);
+    truths_of(right, ys, &mut rights);
+    let a = rows_of(left.n);
+    let b = rows_of(right.n);
+    composed_truth(left, right, &lefts[..a], &rights[..b], support, gate, truth);
 }
 
 // For each row over the union, the values of both cones and the gate's answer.
@@ -102,26 +135,7 @@ pub fn cone_composition_tables(
     let l = basis.left;
     let r = basis.right;
     let support = basis.support;
+    gate_truths(left, right, &support[..n], gate, xs, ys, truth);
     values_of(l, n, xs);
     values_of(r, n, ys);
-    composed_truth(left, right, &support[..n], gate, truth);
-}
-
-// The tables of a composition: the first 2^n rows over the union; 0 past them.
-pub struct Tables {
-    pub xs: [i32; 2048],
-    pub ys: [i32; 2048],
-    pub truth: [u8; 2048],
-}
-
-// The tables of an attempt, which it owns: each is cleared once and lent to be filled.
-pub fn compose(left: Cone, right: Cone, basis: Basis, gate: [u8; 4]) -> Tables
-    requires { ⌜ IsCone left × (IsCone right × IsBasis (coneOf left) (coneOf right) basis) ⌝ }
-    ensures { λ r. ⌜ Composed (coneOf left) (coneOf right) gate (replicate 2048 (pos 0)) (replicate 2048 (pos 0)) (replicate 2048 0) (r .xs) (r .ys) (r .truth) ⌝ }
-{
-    let mut xs = [0i32; 2048];
-    let mut ys = [0i32; 2048];
-    let mut truth = [0u8; 2048];
-    cone_composition_tables(left, right, basis, gate, &mut xs, &mut ys, &mut truth);
-    Tables { xs, ys, truth }
 }

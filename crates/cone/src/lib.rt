@@ -4,19 +4,23 @@ pub mod order;
 pub mod simplify;
 pub mod support;
 pub mod table;
+pub mod unary;
 pub mod valid;
+pub mod wires;
 
 ghost use mathlib.Core.Path.{_≡_};
-ghost use Prim.Native.Nat.{_<_};
+ghost use Prim.Native.Nat.{_≤_, _<_};
 ghost use Rattle.rules.specs.Cone as rules;
+ghost use Rattle.rules.specs.Span.{least};
 ghost use Rattle.cone.specs.View.{coneOf, IsCone, constantOf};
 
-// The first n sources and coefficients, and 2^n truths; what stands past them does not matter.
+// The first n sources and coefficients, and the truth of the rows at each value, the least value first: 0, 1, or 2 where no row has it.
+// What stands past the sources and past the span does not matter.
 pub struct Cone {
     pub n: usize,
     pub support: [usize; 11],
     pub coefs: [i64; 11],
-    pub truth: [u8; 2048],
+    pub known: [u8; 32],
 }
 
 // What a cone with no source is.
@@ -28,32 +32,33 @@ pub enum Constant {
 impl Cone {
     // A cone with no source.
     pub fn constant(value: u8) -> Cone
-        requires { ⌜ value < 2 ⌝ }
+        requires { ⌜ value ≤ 1 ⌝ }
         ensures { λ r. ⌜ IsCone r × (coneOf r ≡ rules.constant value) ⌝ }
     {
         Cone {
             n: 0,
             support: [0usize; 11],
             coefs: [0i64; 11],
-            truth: [value; 2048],
+            known: [value; 32],
         }
     }
 
     // The cone of one source.
     pub fn identity(node: usize) -> Cone
+        requires { ⌜ node < 672 ⌝ }
         ensures { λ r. ⌜ IsCone r × (coneOf r ≡ rules.identity node) ⌝ }
     {
         let mut support = [0usize; 11];
         support[0] = node;
         let mut coefs = [0i64; 11];
         coefs[0] = 1;
-        let mut truth = [0u8; 2048];
-        truth[1] = 1;
+        let mut known = [0u8; 32];
+        known[1] = 1;
         Cone {
             n: 1,
             support,
             coefs,
-            truth,
+            known,
         }
     }
 
@@ -63,10 +68,20 @@ impl Cone {
         ensures { λ r. ⌜ r ≡ constantOf (coneOf self) ⌝ }
     {
         if self.n == 0 {
-            Constant::Bit(self.truth[0])
+            Constant::Bit(self.known[0])
         } else {
             Constant::No
         }
+    }
+
+    // The least value.
+    pub fn least(self) -> i64
+        requires { ⌜ IsCone self ⌝ }
+        ensures { λ r. ⌜ r ≡ least (rules.values (coneOf self)) ⌝ }
+    {
+        let coefs = self.coefs;
+        let n = self.n;
+        table::linear_least(&coefs[..n])
     }
 
     // The least and the greatest value, and all between: so many.

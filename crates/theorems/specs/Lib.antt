@@ -3,6 +3,8 @@ pub mod RotationRule
 pub mod Completions
 pub mod Spans
 pub mod Rows
+pub mod KnownRows
+pub mod Truths
 pub mod BuilderExact
 pub mod Worked
 pub mod Refusals
@@ -28,6 +30,7 @@ pub mod ConeRows
 pub mod ConeTruths
 pub mod ConeValues
 pub mod LinearTables
+pub mod ZeroSources
 pub mod Interned
 pub mod Decimals
 pub mod Pieces

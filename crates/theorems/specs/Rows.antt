@@ -27,7 +27,7 @@ unfolding agrees
 agrees-yes x t h f =
     ⊎-elim (λ i. rw (le-leb t 1 h, eq-eqb x 2 i)) (λ i. rw (le-leb t 1 h, ne-eqb x 2 i, eq-eqb x t (f i))) (eq-or-ne x 2)
 
-agrees-is : (x t : ℕ) → agrees x t ≡ true → (t ≤ 1) × (x ≢ 2 → x ≡ t)
+pub agrees-is : (x t : ℕ) → agrees x t ≡ true → (t ≤ 1) × (x ≢ 2 → x ≡ t)
 unfolding agrees
 agrees-is x t e =
     ⊎-elim

@@ -1,22 +1,22 @@
 -- `cone::Cone::constant_value` meets its contract.
-use mathlib.Core.Path.{_≡_, sym, ap, _∙_}
+use mathlib.Core.Path.{_≡_, sym, _∙_}
 use borrow.Author.Needs.{needs}
 use borrow.Author.Tests.{eq-eqb, ne-eqb}
-use lib.ListN.{length, getD}
-use lib.Pow.{pow-pos}
+use lib.ListN.{length, getD, take}
+use Rattle.rules.specs.Cone.{linearTable}
+use Rattle.rules.specs.Span.{least, leastFrom}
 use Rattle.rules.specs.Mapper.{isConstant, constantValue}
 use Rattle.cone.specs.declared.Cone.{Cone}
 use Rattle.cone.specs.declared.Constant.the-variants.{Bit, No}
-use Rattle.cone.specs.View.{coneOf, IsCone, constantOf, view-sources, truth-at}
+use Rattle.cone.specs.View.{coneOf, IsCone, constantOf, view-sources, truthAt, entryAt}
 use Rattle.cone.proofs.Cone.constant_value.Statement.{statement}
 use Rattle.cone.proofs.Cone.constant_value.Tie as tie
 
 module _ (k : Cone) (is : IsCone k) (long : length (k .support) ≡ 11) where
-  none : k .n ≡ 0 → Bit (getD (k .truth) 0 0) ≡ constantOf (coneOf k)
-  unfolding constantOf isConstant constantValue
-  none e =
-      rw (eq-eqb (length (coneOf k .support)) 0 (view-sources k is long ∙ e))
-      (ap Bit (sym (truth-at k is 0 (pow-pos (k .n)))))
+  -- the first row has the value 0, whose entry is the first where there is no source
+  none : k .n ≡ 0 → Bit (getD (k .known) 0 0) ≡ constantOf (coneOf k)
+  unfolding constantOf isConstant constantValue coneOf linearTable truthAt entryAt least leastFrom
+  none e = rw (eq-eqb (length (take (k .n) (k .support))) 0 (view-sources k is long ∙ e), e)
 
   some : (k .n ≡ 0 → ⊥) → No ≡ constantOf (coneOf k)
   unfolding constantOf isConstant

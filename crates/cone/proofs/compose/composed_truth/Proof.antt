@@ -1,110 +1,115 @@
 -- `cone::compose::composed_truth` meets its contract: the right row steps with the assignment, and the rows passed have the gate's answers.
 mod Turn
-use Turn.{AtRow, left-within, in-truths, bits, answer}
+use Turn.{Feeds, left-within, in-lefts, in-rights, bits, turn}
 use mathlib.Core.Path.{_≡_, refl, sym, _∙_}
-use Prim.Native.Nat.{ℕ, _+_, _-_, _^_, _≤_, _<_}
+use Prim.Native.Nat.{ℕ, _+_, _-_, _/_, _^_, _≤_, _<_}
 use native.Mathlib.Omega.{arith}
 use borrow.Author.Needs.{needs}
 use lib.Count.{trailingZeros}
 use lib.ListN.{length, getD, length-set}
 use lib.Seq.{length-take-le}
-use Rattle.laws.specs.Front.{front, front-zero, front-step}
+use Rattle.laws.specs.Front.{front, front-zero}
 use Rattle.laws.specs.Over.{front-over}
 use Rattle.rules.specs.Composition.{gateTruth}
-use Rattle.cone.specs.Rows.{rowOver, rowOver-zero, toggleMask, zeros, next-row}
+use Rattle.cone.specs.declared.Cone.{Cone}
+use Rattle.cone.specs.Rows.{rowOver, rowOver-zero, zeros}
 use Rattle.cone.specs.View.{coneOf}
 use Rattle.cone.specs.Compose.{gateTruth-length}
 use Rattle.cone.proofs.compose.composed_truth.Statement.{statement}
 use Rattle.cone.proofs.compose.composed_truth.Tie as tie
 
 abbrev Inv-loop : tie.InvT-loop
-Inv-loop support truth₀ left right gate count masks new rows r₀ i₀ truth r i =
-    (i ≤ 2 ^ length support) × (length truth ≡ length truth₀) × (r ≡ rowOver support (coneOf right .support) i)
-    × (truth ≡ front (gateTruth support (coneOf left) (coneOf right) gate) truth₀ i)
+Inv-loop lefts rights support truth₀ gate count masks new rows r₀ i₀ truth r i =
+    (i ≤ 2 ^ length support) × (length truth ≡ length truth₀)
+    × ((left right : Cone) → Feeds left right lefts rights support masks new
+    → (r ≡ rowOver support (coneOf right .support) i) × (truth ≡ front (gateTruth support (coneOf left) (coneOf right) gate) truth₀ i))
 
 abbrev μ-loop : tie.MeasureT-loop
-μ-loop support truth₀ left right gate count masks new rows r₀ i₀ truth r i = 2 ^ length support - i
+μ-loop lefts rights support truth₀ gate count masks new rows r₀ i₀ truth r i = 2 ^ length support - i
 
-left-long : (c : tie.Start Inv-loop μ-loop) → length (c .args .t1 .support) ≡ 11
-left-long c = search needs
+support-long : (c : tie.Start Inv-loop μ-loop) → (length (c .args .left .support) ≡ 11) × (length (c .args .right .support) ≡ 11)
+support-long c = (search needs, search needs)
 
-right-long : (c : tie.Start Inv-loop μ-loop) → length (c .args .t2 .support) ≡ 11
-right-long c = search needs
+coefs-long : (c : tie.Start Inv-loop μ-loop) → (length (c .args .left .coefs) ≡ 11) × (length (c .args .right .coefs) ≡ 11)
+coefs-long c = (search needs, search needs)
 
 array-share-prefix-sources : tie.Need-array-share-prefix-sources Inv-loop μ-loop
-array-share-prefix-sources c =
-    let s = c .before .before .before in
-    omega (arith, s .pre .1 .0 .few, right-long s)
+array-share-prefix-sources c = let s = c .before .before .before .before .before in omega (arith, s .pre .0 .1 .0 .few, support-long s .1)
 
 slice-aggregate-toggle-masks : tie.Need-slice-aggregate-toggle-masks Inv-loop μ-loop
-slice-aggregate-toggle-masks c =
-    let s = c .before .before .before .before in
-    sym (length-take-le (s .args .t2 .n) (s .args .t2 .support) (omega (arith, s .pre .1 .0 .few, right-long s)))
+slice-aggregate-toggle-masks c = let s = c .before .before .before .before .before .before in sym (length-take-le (s .args .right .n) (s .args .right .support) (omega (arith, s .pre .0 .1 .0 .few, support-long s .1)))
 
 toggle-masks-requires : tie.Need-toggle-masks-requires Inv-loop μ-loop
-toggle-masks-requires c κs =
-    let s = c .before .before .before .before in
-    (s .pre .1 .1 .1 .0, rw (← slice-aggregate-toggle-masks c) (s .pre .1 .0 .few))
+toggle-masks-requires c κs = let s = c .before .before .before .before .before .before in (s .pre .0 .1 .1 .1 .0, rw (← slice-aggregate-toggle-masks c) (s .pre .0 .1 .0 .few))
 
--- the masks that the call gave
-masks-are : (c : tie.After-toggle-masks Inv-loop μ-loop) → (z : ℕ) → z < 12
-    → getD (c .toggle-masks .result) z 0 ≡ toggleMask (c .before .before .before .before .before .args .support .now) (coneOf (c .before .before .before .before .before .args .t2) .support) z
+-- what the loop works on is the two cones'
+feeds : (c : tie.After-toggle-masks Inv-loop μ-loop) → let s = c .before .before .before .before .before .before .before in
+    Feeds (s .args .left) (s .args .right) (s .args .lefts .now) (s .args .rights .now) (s .args .support .now) (c .toggle-masks .result) (length (s .args .support .now) - s .args .left .n)
 unfolding coneOf
-masks-are c = c .toggle-masks .ensures
+feeds c =
+    let s = c .before .before .before .before .before .before .before in
+    record {
+      is-left = s .pre .0 .0;
+      is-right = s .pre .0 .1 .0;
+      left-long = support-long s .0;
+      right-long = support-long s .1;
+      left-rows = coefs-long s .0;
+      right-rows = coefs-long s .1;
+      union = s .pre .0 .1 .1 .0;
+      few = s .pre .0 .1 .1 .1 .0;
+      lefts-are = s .pre .1 .0;
+      rights-are = s .pre .1 .1;
+      masks-are = c .toggle-masks .ensures;
+      new-is = refl;
+    }
+
+row-is : (c : tie.In-loop Inv-loop μ-loop) → let s = c .before .before .before .before .before .before .before .before .before .before in c .before .loop .r ≡ rowOver (s .args .support .now) (coneOf (s .args .right) .support) (c .before .loop .i)
+row-is c = let s = c .before .before .before .before .before .before .before .before .before .before in c .before .loop .inv .2 (s .args .left) (s .args .right) (feeds (c .before .before .before)) .0
+
+below : (c : tie.In-loop Inv-loop μ-loop) → c .before .loop .i < 2 ^ length (c .before .before .before .before .before .before .before .before .before .before .args .support .now)
+below c = search needs
+
+reads : (c : tie.In-loop Inv-loop μ-loop) → let s = c .before .before .before .before .before .before .before .before .before .before in let l = c .before .loop .i / 2 ^ (length (s .args .support .now) - s .args .left .n) in
+    (l < length (s .args .lefts .now)) × ((c .before .loop .r < length (s .args .rights .now)) × ((getD (s .args .lefts .now) l 0 < 2) × (getD (s .args .rights .now) (c .before .loop .r) 0 < 2)))
+reads c =
+    let w = feeds (c .before .before .before) in
+    (in-lefts w (below c) (row-is c), (in-rights w (below c) (row-is c), bits w (below c) (row-is c)))
+
+zeros-left : (c : tie.In-loop Inv-loop μ-loop) → trailingZeros 64 (c .before .loop .i + 1) < 12
+zeros-left c = zeros _ _ (c .before .loop .i) (c .before .loop .r) (feeds (c .before .before .before) .few) (below c) (row-is c)
 
 sub-new : tie.Need-sub-new Inv-loop μ-loop
-sub-new c =
-    let s = c .before .before .before .before .before in
-    left-within (s .args .t1) (s .args .t2) (s .args .support .now) (s .pre .0) (left-long s) (s .pre .1 .1 .0)
+sub-new c = let s = c .before .before .before .before .before .before .before .before in left-within (s .args .left) (s .args .right) (s .args .support .now) (s .pre .0 .0) (support-long s .0) (s .pre .0 .1 .1 .0)
 
 shl-rows : tie.Need-shl-rows Inv-loop μ-loop
 shl-rows c = search needs
 
 loop-holds : tie.Need-loop-holds Inv-loop μ-loop
-loop-holds c = (omega arith, refl, sym (rowOver-zero _ _), sym (front-zero _ _))
+loop-holds c = (omega arith, refl, λ l r w. (sym (rowOver-zero _ _), sym (front-zero _ _)))
 
 shr-l : tie.Need-shr-l Inv-loop μ-loop
 shr-l c = search needs
 
--- in a turn
-at-row : (c : tie.In-loop Inv-loop μ-loop) → let s = c .before .before .before .before .before .before .before in
-    AtRow (s .args .t1) (s .args .t2) (s .args .support .now) (c .before .loop .i) (c .before .loop .r)
-at-row c =
-    let s = c .before .before .before .before .before .before .before in
-    record {
-      is-left = s .pre .0;
-      is-right = s .pre .1 .0;
-      left-long = left-long s;
-      right-long = right-long s;
-      union = s .pre .1 .1 .0;
-      few = s .pre .1 .1 .1 .0;
-      below = search needs;
-      row = c .before .loop .inv .2;
-    }
-
-zeros-left : (c : tie.In-loop Inv-loop μ-loop) → trailingZeros 64 (c .before .loop .i + 1) < 12
-zeros-left c = let w = at-row c in zeros _ _ (c .before .loop .i) (c .before .loop .r) (w .few) (w .below) (w .row)
-
-element-copy-out-g : tie.Need-element-copy-out-g Inv-loop μ-loop
-element-copy-out-g c = in-truths (at-row c) .0
+shared-slice-read-g : tie.Need-shared-slice-read-g Inv-loop μ-loop
+shared-slice-read-g c = reads (c .before) .0
 
 cast-g : tie.Need-cast-g Inv-loop μ-loop
-cast-g c = search needs
+cast-g c = record { fits = omega (arith, reads (c .before) .1 .1 .0) }
 
 mul-g : tie.Need-mul-g Inv-loop μ-loop
-mul-g c = record { fits = omega (arith, bits (at-row (c .before)) .0) }
+mul-g c = record { fits = omega (arith, reads (c .before) .1 .1 .0) }
 
-element-copy-out-g-2 : tie.Need-element-copy-out-g-2 Inv-loop μ-loop
-element-copy-out-g-2 c = in-truths (at-row (c .before)) .1
+shared-slice-read-g-2 : tie.Need-shared-slice-read-g-2 Inv-loop μ-loop
+shared-slice-read-g-2 c = reads (c .before .before) .1 .0
 
 cast-g-2 : tie.Need-cast-g-2 Inv-loop μ-loop
-cast-g-2 c = record { fits = omega (arith, bits (at-row (c .before .before)) .1) }
+cast-g-2 c = record { fits = omega (arith, reads (c .before .before) .1 .1 .1) }
 
 add-g : tie.Need-add-g Inv-loop μ-loop
-add-g c = record { fits = omega (arith, bits (at-row (c .before .before))) }
+add-g c = record { fits = omega (arith, reads (c .before .before) .1 .1) }
 
 array-read-truth : tie.Need-array-read-truth Inv-loop μ-loop
-array-read-truth c = omega (arith, bits (at-row (c .before .before)))
+array-read-truth c = omega (arith, reads (c .before .before) .1 .1)
 
 slice-write-truth : tie.Need-slice-write-truth Inv-loop μ-loop
 slice-write-truth c = search needs
@@ -127,13 +132,11 @@ loop-less c = search needs
 loop-again : tie.Need-loop-again Inv-loop μ-loop
 loop-again c =
     let b = c .before .before in
-    let s = b .before .before .before .before .before .before .before in
-    let o = b .before .loop in
-    let w = at-row b in (
-      omega (arith, w .below),
+    let s = b .before .before .before .before .before .before .before .before .before .before in
+    let o = b .before .loop in (
+      omega (arith, below b),
       simp length-set (o .inv .1),
-      next-row _ _ (o .i) (o .r) (w .few) (w .below) (w .row) (b .before .before .toggle-masks .result) (masks-are (b .before .before)),
-      front-step _ _ (o .truth) (o .i) _ 0 (o .inv .3) (answer w (s .args .t4)) (rw gateTruth-length (w .below)) (omega (arith, w .below)),
+      λ l r w. let k = o .inv .2 l r w in turn w (below b) (k .0) _ (o .truth) _ (k .1) (omega (arith, below b, s .pre .0 .1 .1 .1 .1)),
     )
 
 same-length : tie.Need-same-length Inv-loop μ-loop
@@ -141,11 +144,11 @@ same-length c = search needs
 
 returns : tie.Need-returns Inv-loop μ-loop
 returns c =
-    let s = c .before .before .before .before .before .before .before in
+    let s = c .before .before .before .before .before .before .before .before .before .before in
     let o = c .before .loop in
     let done : 2 ^ length (s .args .support .now) ≤ o .i = search needs in
-    let long = gateTruth-length (s .args .support .now) (coneOf (s .args .t1)) (coneOf (s .args .t2)) (s .args .t4) in
-    o .inv .3 ∙ front-over _ _ (o .i) (omega arith) (omega arith)
+    let long = gateTruth-length (s .args .support .now) (coneOf (s .args .left)) (coneOf (s .args .right)) (s .args .t6) in
+    o .inv .2 (s .args .left) (s .args .right) (feeds (c .before .before .before)) .1 ∙ front-over _ _ (o .i) (omega arith) (omega arith)
 
 pub composed-truth-spec : {M : Type 1} → statement M
 composed-truth-spec =
@@ -160,10 +163,10 @@ composed-truth-spec =
     shl-rows
     loop-holds
     shr-l
-    element-copy-out-g
+    shared-slice-read-g
     cast-g
     mul-g
-    element-copy-out-g-2
+    shared-slice-read-g-2
     cast-g-2
     add-g
     array-read-truth

@@ -1,6 +1,6 @@
 -- `cone::simplify::simplify_cone` meets its contract.
 mod Result
-use Result.{few, same, rebuilt, usedOf}
+use Result.{rebuilt, usedOf}
 use mathlib.Core.Path.{_≡_, sym, _∙_}
 use Prim.Native.Nat.{_≤_}
 use native.Mathlib.Omega.{arith}
@@ -18,8 +18,8 @@ support-long c = search needs
 coefs-long : (c : tie.Start) → length (c .args .cone .coefs) ≡ 11
 coefs-long c = search needs
 
-truth-long : (c : tie.Start) → length (c .args .cone .truth) ≡ 2048
-truth-long c = search needs
+known-long : (c : tie.Start) → length (c .args .cone .known) ≡ 32
+known-long c = search needs
 
 sources-part : (c : tie.Start) → c .args .cone .n ≡ length (take (c .args .cone .n) (c .args .cone .support))
 sources-part c = head-length (c .args .cone .support) (c .args .cone .n) (omega (arith, c .pre .few, support-long c))
@@ -28,60 +28,32 @@ coefs-part : (c : tie.Start) → c .args .cone .n ≡ length (take (c .args .con
 coefs-part c = head-length (c .args .cone .coefs) (c .args .cone .n) (omega (arith, c .pre .few, coefs-long c))
 
 array-share-prefix-support : tie.Need-array-share-prefix-support
-array-share-prefix-support c = let s = c .before .before in omega (arith, s .pre .few, support-long s)
+array-share-prefix-support c = let s = c .before .before .before in omega (arith, s .pre .few, support-long s)
 
 slice-aggregate-retain : tie.Need-slice-aggregate-retain
-slice-aggregate-retain c = sources-part (c .before .before .before)
+slice-aggregate-retain c = sources-part (c .before .before .before .before)
 
 array-share-prefix-coefs : tie.Need-array-share-prefix-coefs
-array-share-prefix-coefs c = let s = c .before .before .before in omega (arith, s .pre .few, coefs-long s)
+array-share-prefix-coefs c = let s = c .before .before .before .before in omega (arith, s .pre .few, coefs-long s)
 
 slice-aggregate-retain-2 : tie.Need-slice-aggregate-retain-2
-slice-aggregate-retain-2 c = coefs-part (c .before .before .before .before)
+slice-aggregate-retain-2 c = coefs-part (c .before .before .before .before .before)
 
 retain-requires : tie.Need-retain-requires
 retain-requires c κs =
-    let s = c .before .before .before .before in
+    let s = c .before .before .before .before .before in
     (rw (← sources-part s) (s .pre .few), sym (coefs-part s) ∙ sources-part s)
 
 -- what the call kept
-kept : (c : tie.After-retain) → IsRetained (usedOf (coneOf (c .before .before .before .before .before .args .cone))) (c .retain .result)
+kept : (c : tie.After-retain) → IsRetained (usedOf (coneOf (c .before .before .before .before .before .before .args .cone))) (c .retain .result)
 unfolding coneOf
 kept c = c .retain .ensures
 
-few-kept : (c : tie.After-retain) → c .retain .result .n ≤ 11
-few-kept c =
-    let s = c .before .before .before .before .before in
-    few (s .args .cone) (s .pre) (support-long s) (coefs-long s) (c .retain .result) (kept c)
-
-kept-long : (c : tie.After-retain) → length (c .retain .result .support) ≡ 11
-kept-long c = search needs
-
-kept-part : (c : tie.After-retain) → c .retain .result .n ≡ length (take (c .retain .result .n) (c .retain .result .support))
-kept-part c = head-length (c .retain .result .support) (c .retain .result .n) (omega (arith, few-kept c, kept-long c))
-
 returns : tie.Need-returns
 returns c =
-    let a = c .before in
-    let s = a .before .before .before .before .before in
-    (s .pre, same (s .args .cone) (s .pre) (support-long s) (coefs-long s) (a .retain .result) (kept a) (truth-long s) (c .if1 .taken))
-
-array-share-prefix-nodes : tie.Need-array-share-prefix-nodes
-array-share-prefix-nodes c = let a = c .before .before .before in omega (arith, few-kept a, kept-long a)
-
-slice-aggregate-kept-truth : tie.Need-slice-aggregate-kept-truth
-slice-aggregate-kept-truth c = kept-part (c .before .before .before .before)
-
-kept-truth-requires : tie.Need-kept-truth-requires
-kept-truth-requires c κs =
-    let a = c .before .before .before .before in
-    (a .before .before .before .before .before .pre, rw (← kept-part a) (few-kept a))
-
-returns-2 : tie.Need-returns-2
-returns-2 c =
-    let a = c .before .before .before .before .before in
-    let s = a .before .before .before .before .before in
-    rebuilt (s .args .cone) (s .pre) (support-long s) (coefs-long s) (a .retain .result) (kept a) (c .kept-truth .result) (c .kept-truth .ensures) (kept-long a)
+    let a = c .before .before in
+    let s = a .before .before .before .before .before .before in
+    rebuilt (s .args .cone) (s .pre) (support-long s) (coefs-long s) (a .retain .result) (kept a) (known-long s)
 
 pub simplify-cone-spec : {M : Type 1} → statement M
 simplify-cone-spec =
@@ -92,8 +64,4 @@ simplify-cone-spec =
     array-share-prefix-coefs
     slice-aggregate-retain-2
     retain-requires
-    returns
-    array-share-prefix-nodes
-    slice-aggregate-kept-truth
-    kept-truth-requires
-    returns-2)
+    returns)

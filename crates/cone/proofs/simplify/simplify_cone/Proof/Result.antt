@@ -1,72 +1,132 @@
 -- What `simplify_cone` answers, on the values: k is the cone, r the sources and coefficients that are kept.
-use mathlib.Core.Path.{_≡_, sym, ap, _∙_}
-use mathlib.Core.List.{List}
-use Prim.Native.Nat.{ℕ, _≤_, _^_}
+use mathlib.Core.Path.{_≡_, sym, ap, ap₂, _∙_}
+use mathlib.Core.Bool.{true, false}
+use mathlib.Core.List.{List, map}
+use Prim.Native.Nat.{ℕ, _+_, _≤_, _<_, _^_}
 use native.Mathlib.Omega.{arith}
-use lib.IntN.{ℤ}
-use lib.ListN.{length, take}
-use lib.Seq.{length-take-le}
-use Rattle.laws.specs.Select.{select}
-use Rattle.laws.specs.Tail.{head-length}
+use lib.IntN.{ℤ, pos, negℤ, natAbs, _-ℤ_}
+use lib.ListN.{length, getD, take, length-map}
+use lib.Seq.{ext-getD}
+use Rattle.laws.specs.Select.{select, any}
 use Rattle.rules.specs.Cone as rules
-use Rattle.rules.specs.NetworkText.{sources}
-use Rattle.rules.specs.Network.{Term}
-use Rattle.rules.specs.Store.{isUsed}
+use Rattle.rules.specs.Cone.{linearTable}
 use Rattle.rules.specs.Composition.{simplifyCone}
+use Rattle.rules.specs.Network.{Term}
+use Rattle.rules.specs.NetworkText.{sources, allDifferent}
+use Rattle.rules.specs.Span.{least, span}
+use Rattle.rules.specs.Store.{isUsed}
+use Rattle.theorems.specs.KnownRows.{hits, isAt}
+use Rattle.theorems.specs.ZeroSources.{coefs, map-at, linearTable-length, any-selected}
 use Rattle.cone.specs.declared.Cone.{Cone}
 use Rattle.cone.specs.declared.simplify.Retained.{Retained}
-use Rattle.cone.specs.Span.{total}
+use Rattle.cone.specs.Rows.{rowOver, rowOver-lt}
+use Rattle.cone.specs.Span.{lower, total, least-table, span-table}
 use Rattle.cone.specs.Support.{termsOver}
-use Rattle.cone.specs.View.{coneOf, IsCone, is-cone, narrow-total, view-sources, view-coefs, rows-fit}
-use Rattle.cone.specs.Simplify.{coefs, IsRetained, truthOver, truthOver-bits, select-le, terms-length, sources-of, coefs-of, different-sources, total-select, simplified, simplified-same}
+use Rattle.cone.specs.View.{coneOf, IsCone, is-cone, truthAt, entryAt, narrow-total, view-sources, view-coefs, truth-entry, rows-are, truth-bit, unknown}
+use Rattle.cone.specs.Simplify.{IsRetained, truthOver, truthOver-length, truthOver-at, select-le, terms-length, sources-of, coefs-of, coefs-long, different-sources, near-sources, total-used, lower-used, used-value, simplified}
 
 -- the terms that are used
 abbrev pub usedOf : rules.Cone → List Term
 usedOf v = select isUsed (termsOver (v .coefficients) (v .support))
 
-same-fields : (k : Cone) {s : List ℕ} {c : List ℤ} {t : List ℕ} → take (k .n) (k .support) ≡ s → take (k .n) (k .coefs) ≡ c → take (2 ^ k .n) (k .truth) ≡ t
-    → coneOf k ≡ record { support = s; coefficients = c; truth = t }
+same-fields : (k : Cone) {s : List ℕ} {c : List ℤ} {t : List ℕ} → take (k .n) (k .support) ≡ s → take (k .n) (k .coefs) ≡ c
+    → map (truthAt (take (k .n) (k .coefs)) (k .known)) (linearTable (take (k .n) (k .coefs))) ≡ t → coneOf k ≡ record { support = s; coefficients = c; truth = t }
 unfolding coneOf
 same-fields k e f g = cc
-
-view-truth : (k : Cone) → IsCone k → length (k .support) ≡ 11 → length (k .truth) ≡ 2048 → length (coneOf k .truth) ≡ 2 ^ length (coneOf k .support)
-unfolding coneOf
-view-truth k is ls lt =
-    rw (length-take-le (2 ^ k .n) (k .truth) (omega (arith, rows-fit k is)), length-take-le (k .n) (k .support) (omega (arith, is .few)))
 
 module _ (k : Cone) (is : IsCone k) (ls : length (k .support) ≡ 11) (lc : length (k .coefs) ≡ 11) (r : Retained) (kept : IsRetained (usedOf (coneOf k)) r) where
   long : length (coneOf k .coefficients) ≡ length (coneOf k .support)
   long = view-coefs k is lc ∙ sym (view-sources k is ls)
 
+  all : List Term
+  all = termsOver (coneOf k .coefficients) (coneOf k .support)
+
+  used : List Term
+  used = usedOf (coneOf k)
+
+  sources-are : sources all ≡ coneOf k .support
+  unfolding all
+  sources-are = sources-of (coneOf k .coefficients) (coneOf k .support) long
+
+  coefs-are : coefs all ≡ coneOf k .coefficients
+  unfolding all
+  coefs-are = coefs-of (coneOf k .coefficients) (coneOf k .support) long
+
   pub few : r .n ≤ 11
   few =
       omega (arith, kept .count, select-le isUsed (termsOver (coneOf k .coefficients) (coneOf k .support)), terms-length (coneOf k .coefficients) (coneOf k .support) long, view-sources k is ls, is .few)
 
-  -- no source is left out
-  pub same : length (k .truth) ≡ 2048 → r .n ≡ k .n → coneOf k ≡ simplifyCone (coneOf k)
-  same lt e =
-      sym (simplified-same (coneOf k) long (is .different) (view-truth k is ls lt) (sym (kept .count) ∙ e ∙ sym (view-sources k is ls)))
+  different : allDifferent (sources used) ≡ true
+  unfolding used all
+  different = different-sources isUsed all (rw sources-are (is .different))
 
-  -- some are
-  module _ (truth : List ℕ) (t : take (2 ^ length (take (r .n) (r .support))) truth ≡ truthOver (take (r .n) (r .support)) (coneOf k)) (wide : length (r .support) ≡ 11) where
-    abbrev built : Cone
-    built = record { n = r .n; support = r .support; coefs = r .coefs; truth = truth }
+  -- the kept coefficients have the same least value and span
+  same-low : least (linearTable (coefs used)) ≡ least (rules.values (coneOf k))
+  unfolding used all rules.values
+  same-low = least-table (coefs used) ∙ ap (λ n. negℤ (pos n)) (lower-used all ∙ ap lower coefs-are) ∙ sym (least-table (coneOf k .coefficients))
 
-    abbrev seen : rules.Cone
-    seen = record { support = sources (usedOf (coneOf k)); coefficients = coefs (usedOf (coneOf k)); truth = truthOver (sources (usedOf (coneOf k))) (coneOf k) }
+  same-total : total (coefs used) ≡ total (coneOf k .coefficients)
+  unfolding used all
+  same-total = total-used all ∙ ap total coefs-are
 
-    truths : take (2 ^ r .n) truth ≡ truthOver (sources (usedOf (coneOf k))) (coneOf k)
-    truths =
-        ap (λ n. take (2 ^ n) truth) (head-length (r .support) (r .n) (omega (arith, few))) ∙ t ∙ ap (λ U. truthOver U (coneOf k)) (kept .nodes)
+  same-span : span (linearTable (coefs used)) ≡ span (rules.values (coneOf k))
+  unfolding rules.values
+  same-span = span-table (coefs used) ∙ ap (λ n. n + 1) same-total ∙ sym (span-table (coneOf k .coefficients))
 
-    view : coneOf built ≡ seen
-    view = same-fields built (kept .nodes) (kept .values) truths
+  -- and at each row the value, and so the truth, of the cone's row
+  module _ (i : ℕ) (h : i < 2 ^ length (sources used)) where
+    row : ℕ
+    row = rowOver (sources used) (coneOf k .support) i
 
-    pub rebuilt : IsCone built × (coneOf built ≡ simplifyCone (coneOf k))
-    rebuilt = (
-      is-cone built seen view few
-          (different-sources isUsed (termsOver (coneOf k .coefficients) (coneOf k .support)) (rw (sources-of (coneOf k .coefficients) (coneOf k .support) long) (is .different)))
-          (omega (arith, total-select isUsed (termsOver (coneOf k .coefficients) (coneOf k .support)), ap total (coefs-of (coneOf k .coefficients) (coneOf k .support) long), narrow-total k is))
-          (truthOver-bits (sources (usedOf (coneOf k))) (coneOf k) (is .bits)),
-      view ∙ sym (simplified (coneOf k)),
-    )
+    row-in : row < length (rules.values (coneOf k))
+    unfolding row
+    row-in = rw (rows-are k, long) (rowOver-lt (sources used) (coneOf k .support) i)
+
+    value-of : getD (rules.values (coneOf k)) row (pos 0) ≡ getD (linearTable (coefs used)) i (pos 0)
+    unfolding row used all rules.values
+    value-of = rw (sources-are, coefs-are) at (used-value all different i h)
+
+    truth-of : getD (map (truthAt (coefs used) (k .known)) (linearTable (coefs used))) i 0 ≡ getD (truthOver (sources used) (coneOf k)) i 0
+    unfolding truthAt entryAt row
+    truth-of =
+        map-at (truthAt (coefs used) (k .known)) (linearTable (coefs used)) i 0 (pos 0) (rw (linearTable-length (coefs used), ← coefs-long used) h)
+        ∙ ap₂ (λ v l. getD (k .known) (natAbs (v -ℤ l)) 0) (sym value-of) same-low
+        ∙ sym (truth-entry k row row-in)
+        ∙ sym (truthOver-at (sources used) (coneOf k) i h)
+
+    truth-small : getD (truthOver (sources used) (coneOf k)) i 0 ≤ 1
+    truth-small = rw (truthOver-at (sources used) (coneOf k) i h) (let b = truth-bit k is (rowOver (sources used) (coneOf k .support) i) in omega arith)
+
+  truths : map (truthAt (coefs used) (k .known)) (linearTable (coefs used)) ≡ truthOver (sources used) (coneOf k)
+  truths =
+      let e : length (map (truthAt (coefs used) (k .known)) (linearTable (coefs used))) ≡ 2 ^ length (sources used) =
+      (length-map (linearTable (coefs used)) (truthAt (coefs used) (k .known)) ∙ linearTable-length (coefs used) ∙ ap (λ n. 2 ^ n) (sym (coefs-long used))) in
+      ext-getD 0 _ _ (e ∙ sym (truthOver-length (sources used) (coneOf k))) (λ i h. truth-of i (rw e at h))
+
+  abbrev built : Cone
+  built = record { n = r .n; support = r .support; coefs = r .coefs; known = k .known }
+
+  abbrev seen : rules.Cone
+  seen = record { support = sources used; coefficients = coefs used; truth = truthOver (sources used) (coneOf k) }
+
+  view : coneOf built ≡ seen
+  unfolding used
+  view = same-fields built (kept .nodes) (kept .values) (ap (λ l. map (truthAt l (k .known)) (linearTable l)) (kept .values) ∙ truths)
+
+  -- no value that had a row is without one
+  unhit : (j : ℕ) → hits (least (linearTable (coefs used))) (linearTable (coefs used)) j ≡ false → hits (least (rules.values (coneOf k))) (rules.values (coneOf k)) j ≡ false
+  unfolding hits used all rules.values
+  unhit j h =
+      ap (λ l. any (isAt l j) (linearTable (coneOf k .coefficients))) (sym same-low)
+      ∙ ap (λ l. any (isAt (least (linearTable (coefs used))) j) (linearTable l)) (sym coefs-are)
+      ∙ sym (any-selected (isAt (least (linearTable (coefs used))) j) all) ∙ h
+
+  pub rebuilt : length (k .known) ≡ 32 → IsCone built × (coneOf built ≡ simplifyCone (coneOf k))
+  unfolding rules.values used all
+  rebuilt lk = (
+    is-cone built seen view lk few different (omega (arith, same-total, narrow-total k is))
+        (near-sources isUsed 672 (omega arith) all (λ i. rw sources-are (is .near i)))
+        (λ i h. truth-small i (rw (linearTable-length (coefs used), ← coefs-long used) at h))
+        (λ j l h. unknown k is j (rw (← same-span) l) (unhit j h)),
+    view ∙ sym (simplified (coneOf k)),
+  )
