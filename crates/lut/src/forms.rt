@@ -5,6 +5,8 @@ ghost use lib.ListN.{length};
 ghost use Rattle.rules.specs.Store.{termsOf};
 ghost use Rattle.lut.specs.View.{nodeOf, IsNode};
 ghost use Rattle.lut.specs.Forms.{placeOf, AlignedTo, FormOf, formTerms, NodesTo};
+use crate::node::BOOTSTRAP;
+use crate::node::LINEAR;
 use crate::node::coef_of;
 use crate::node::kind_of;
 use crate::node::size_of;
@@ -21,7 +23,7 @@ fn term_count(nodes: &[u8; 25536], i: usize) -> usize
     requires { ⌜ IsNode (now nodes) i ⌝ }
     ensures { λ r. ⌜ r ≡ length (termsOf (nodeOf (now (nodes .entry)) i)) ⌝ }
 {
-    if kind_of(nodes, i) != 1 {
+    if kind_of(nodes, i) != LINEAR {
         return 0;
     }
     size_of(nodes, i)
@@ -69,7 +71,7 @@ pub fn form_at(nodes: &[u8; 25536], i: usize, support: &[usize]) -> Aligned
     requires { ⌜ NodesTo (now nodes) i × (length (now support) ≤ 11) ⌝ }
     ensures { λ r. ⌜ FormOf (now (support .entry)) (formTerms (now (nodes .entry)) (nodeOf (now (nodes .entry)) i)) r ⌝ }
 {
-    if kind_of(nodes, i) != 2 {
+    if kind_of(nodes, i) != BOOTSTRAP {
         return Aligned {
             ok: false,
             coefs: [0i64; 11],
