@@ -7,3 +7,4 @@ pub mod Order
 pub mod Nodes
 pub mod Reuse
 pub mod Prune
+pub mod Forms

@@ -191,10 +191,6 @@ module _ (bytes : List ℕ) (i : ℕ) where
   unfolding recordAt
   byte-at k h = getD-take 38 (drop (38 * i) bytes) k 0 h ∙ getD-drop (38 * i) bytes k 0
 
-  pub at-length : length bytes ≡ 25536 → i < 672 → length (recordAt bytes i) ≡ 38
-  unfolding recordAt
-  at-length e h = simp (length-take, length-drop) (omega arith)
-
   pub at-store : (count : ℕ) → i < count → nodeAt (storeOf bytes count) i ≡ nodeOf bytes i
   unfolding nodeAt storeOf
   at-store count h = tabulate-at count (nodeOf bytes) i (Input []) h

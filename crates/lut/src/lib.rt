@@ -5,6 +5,7 @@
 //   3   three bytes for each source: its coefficient + 32, its node's number / 256 and % 256 (a bootstrap: coefficient 1)
 //   6   an input's name, a bootstrap's table
 // Bytes that are not used are 0, so equal nodes have equal records.
+pub mod forms;
 pub mod node;
 mod order;
 pub mod prune;

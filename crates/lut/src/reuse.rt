@@ -9,6 +9,7 @@ ghost use Rattle.lut.specs.View.{nodeIn, nodeOf, storeOf, termsIn, GoodT
 ghost use Rattle.lut.specs.Store.{IsRecord};
 ghost use Rattle.lut.specs.Reuse.{takesRecord};
 use crate::Terms;
+use crate::node::BOOTSTRAP;
 use crate::node::kind_of;
 use crate::node::source_of;
 use crate::order::linear_terms;
@@ -20,7 +21,7 @@ fn takes(nodes: &[u8; 25536], i: usize, bytes: &[u8; 38]) -> bool
     requires { ⌜ IsNode (now nodes) i × (length (now bytes) ≡ 38) ⌝ }
     ensures { λ r. ⌜ r ≡ takesRecord (now (bytes .entry)) (now (nodes .entry)) (nodeOf (now (nodes .entry)) i) ⌝ }
 {
-    if kind_of(nodes, i) != 2 {
+    if kind_of(nodes, i) != BOOTSTRAP {
         return false;
     }
     let source = source_of(nodes, i, 0);
