@@ -1,16 +1,16 @@
 -- What a scale pair gives, as the code holds it.
 use mathlib.Core.Path.{_≡_, refl, sym, ap, ap₂, subst, _∙_}
 use mathlib.Core.Bool.{Bool, true, false, _&&_}
-use mathlib.Core.List.{List, [], _∷_, map, zipWith}
-use Prim.Native.Nat.{ℕ, zero, suc, _+_, _*_, _≤_, _<_, _^_, _/_}
+use mathlib.Core.List.{List, [], _∷_, zipWith}
+use Prim.Native.Nat.{ℕ, zero, suc, _+_, _≤_, _<_}
 use native.Mathlib.Nat.{div-le-self, div-one}
 use native.Mathlib.Omega.{arith}
 use lib.Dec.{leb}
-use lib.IntN.{ℤ, pos, negsuc, negℤ, natAbs, _+ℤ_, _-ℤ_, _*ℤ_}
+use lib.IntN.{ℤ, pos, negsuc, negℤ, natAbs, _-ℤ_, _*ℤ_}
 use mathlib.Core.Logic.{⊎-elim}
-use lib.ListN.{length, getD, set, take, length-map, List·getD-eq-default}
+use lib.ListN.{length, getD, set, take, List·getD-eq-default}
 use lib.Signed.{quotZ, _≤ℤ_}
-use Rattle.laws.specs.Integer.{ints, plus, minus, abs-parts, abs-add, abs-mul-le, abs-quot, sub-parts, one-part-zero}
+use Rattle.laws.specs.Integer.{plus, minus, abs-parts, abs-add, abs-mul-le, abs-quot, sub-parts, one-part-zero}
 use Rattle.laws.specs.Front.{taken-step, taken-all}
 use Rattle.laws.specs.Test.{if_then_else_, lt-or-le}
 use Rattle.rules.specs.declared.Settings.{Settings}

@@ -6,8 +6,7 @@ use mathlib.Core.Option.{Option, none, some}
 use Prim.Native.Nat.{ℕ, zero, suc, _+_, _*_}
 use native.Mathlib.Nat.{add-zero, zero-add}
 use native.Mathlib.Omega.{arith}
-use lib.IntN.{ℤ, pos, _-ℤ_}
-use Rattle.laws.specs.Gcd.{gcd, gcd-is}
+use lib.IntN.{pos, _-ℤ_}
 use Rattle.laws.specs.Select.{select}
 use Rattle.laws.specs.Tabulate.{tabulate}
 use Rattle.laws.specs.Test.{if_then_else_}

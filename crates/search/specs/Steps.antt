@@ -1,10 +1,10 @@
 -- A step of the search: a pair that is no candidate, one whose rows clash, and one that is considered.
 use mathlib.Core.Path.{_≡_, refl, sym, ap, ap₂, subst, _∙_}
-use mathlib.Core.Bool.{Bool, true, false, _&&_, true≢false}
-use mathlib.Core.List.{List, [], _∷_, _++_, map, zipWith}
+use mathlib.Core.Bool.{true, false, true≢false}
+use mathlib.Core.List.{List, [], _∷_, _++_, map}
 use mathlib.Core.Logic.{⊎-elim}
-use mathlib.Core.Option.{Option, none, some}
-use Prim.Native.Nat.{ℕ, zero, suc, _+_, _*_, _≤_, _<_, _^_, max}
+use mathlib.Core.Option.{none, some}
+use Prim.Native.Nat.{ℕ, zero, suc, _+_, _≤_, _<_}
 use native.Mathlib.Nat.{le-of-dvd}
 use native.Mathlib.Omega.{arith}
 use borrow.Author.Tests.{leb-true}
@@ -14,16 +14,16 @@ use lib.ListN.{length, getD, set, take, drop, replicate}
 use lib.Pow.{pow-pos}
 use lib.Signed.{_≤ℤ_}
 use Rattle.laws.specs.Gcd.{gcd, gcd-is, gcd-zero}
-use Rattle.laws.specs.Integer.{ints, plus, minus, abs-parts, sub-parts, one-part-zero}
-use Rattle.laws.specs.Test.{if_then_else_, decide, both-left, lt-or-le}
+use Rattle.laws.specs.Integer.{plus, minus, abs-parts, sub-parts, one-part-zero}
+use Rattle.laws.specs.Test.{if_then_else_, decide, both-left}
 use Rattle.rules.specs.declared.Settings.{Settings}
-use Rattle.rules.specs.Builder.{Entries, agrees, enter, completable}
+use Rattle.rules.specs.Builder.{Entries, agrees, completable}
 use Rattle.rules.specs.Cone.{linearTable, withinNorm}
 use Rattle.rules.specs.Scale.{gcdFrom, divisor, normalised, isScalePair, norm}
 use Rattle.rules.specs.Span.{least, span}
 use Rattle.scale.specs.Divisor.{divisor-abs, divisor-not-zero}
 use Rattle.scale.specs.Limits.{Within}
-use Rattle.cone.specs.Span.{total, table-within-total}
+use Rattle.cone.specs.Span.{table-within-total}
 use Rattle.cone.specs.Table.{table-length}
 use Rattle.theorems.specs.Rows.{enter-turn, enter-stop, enter-end, entered-entries, unknown-entries}
 use Rattle.theorems.specs.Spans.{least-le, offset-lt}
@@ -31,8 +31,8 @@ use Rattle.search.specs.declared.energy.Moments.{Moments}
 use Rattle.search.specs.declared.pair.Pair.{Pair}
 use Rattle.search.specs.declared.score.Score.{Score}
 use Rattle.search.specs.MergedIntegers.{zipWith-length, zipWith-at}
-use Rattle.search.specs.MergedValues.{combined, mergedValue, merged-values}
-use Rattle.search.specs.Pair.{Rows, Scaling, mergedRow, merged, weighed, measured, noPair, pairOf, levelOf, Level, row-small}
+use Rattle.search.specs.MergedValues.{mergedValue, merged-values}
+use Rattle.search.specs.Pair.{Scaling, mergedRow, merged, weighed, measured, noPair, pairOf, levelOf, Level, row-small}
 use Rattle.search.specs.Score.{betterScore}
 use Rattle.search.specs.Search.{Context, rowValues, enteredFrom, energyBy, reuseOf, scoreOf, considered, stepOf, stepAt, ValuesIn, Ready, Scored, Merges}
 

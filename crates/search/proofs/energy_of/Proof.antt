@@ -1,6 +1,6 @@
 -- `search::energy_of` meets its contract.
 use mathlib.Core.Path.{_≡_, refl, ap, ap₂, _∙_}
-use Prim.Native.Nat.{_≤_, _<_, _*_, _^_}
+use Prim.Native.Nat.{_≤_, _<_, _^_}
 use native.Mathlib.Nat.{mul-le-mul}
 use native.Mathlib.Omega.{arith}
 use lib.IntN.{ℤ, pos, natAbs, _+ℤ_, _*ℤ_}

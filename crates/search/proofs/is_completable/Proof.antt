@@ -4,7 +4,7 @@ use mathlib.Core.Logic.{⊎-elim}
 use Prim.Native.Nat.{ℕ, _≤_, _<_}
 use native.Mathlib.Omega.{arith}
 use borrow.Author.Needs.{needs}
-use lib.ListN.{length, getD, take, List·getD-eq-default}
+use lib.ListN.{length, take, List·getD-eq-default}
 use lib.Seq.{length-take-le, getD-take}
 use Rattle.laws.specs.Tail.{head-length}
 use Rattle.laws.specs.Test.{lt-or-le}

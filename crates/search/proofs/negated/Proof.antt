@@ -4,7 +4,7 @@ use Prim.Native.Nat.{_≤_}
 use native.Mathlib.Omega.{arith}
 use lib.IntN.{ℤ, pos, negℤ, natAbs, _-ℤ_, +ℤ-idl}
 use mir.Syntax.{w64}
-use mir.Val.{toZ, ofZ, SFits}
+use mir.Val.{SFits}
 use mir.Facts.{toZ-ofZ}
 use Rattle.laws.specs.Integer.{fits-abs, abs-neg}
 use Rattle.search.proofs.negated.Statement.{statement}

@@ -1,5 +1,5 @@
 -- `search::ranges_of` meets its contract.
-use mathlib.Core.Path.{_≡_, sym, ap, _∙_}
+use mathlib.Core.Path.{sym, ap, _∙_}
 use borrow.Author.Needs.{needs}
 use Rattle.search.specs.Policies.{rangesOf}
 use Rattle.search.proofs.ranges_of.Statement.{statement}

@@ -1,4 +1,5 @@
-use mathlib.Core.Path.{_≡_, refl, sym, ap, ap₂, _∙_}
+-- `search::search` meets its contract. The pairs that are left, walked from the best so far, give what all pairs give from the start; likewise the rows that are left, entered into what is known so far.
+use mathlib.Core.Path.{_≡_, refl, sym, ap, _∙_}
 use mathlib.Core.List.{List}
 use Prim.Native.Nat.{ℕ, _+_, _-_, _≤_, _<_}
 use native.Mathlib.Omega.{arith}
@@ -21,13 +22,6 @@ use Rattle.search.specs.Steps.{step-skipped, step-clashed, step-consider
 use Rattle.search.specs.Walk.{walkRow, walk, row-turn, row-end, walk-turn, walk-end}
 use Rattle.search.proofs.search.Statement.{statement}
 use Rattle.search.proofs.search.Tie as tie
-use Rattle.search.proofs.search.Reads as reads
-use Rattle.search.proofs.search.Lts as lts
-use Rattle.rotation.proofs.agrees.Reads as agrees-reads
-use Rattle.search.proofs.considered.Reads as considered-reads
-use Rattle.search.proofs.pair.candidate_at.Reads as candidate-at-reads
-use Rattle.search.proofs.pair.level.Reads as level-reads
-use Rattle.search.proofs.score.no_score.Reads as no-score-reads
 
 abbrev contextAt : Settings → Moments → List ℤ → List ℤ → List ℕ → List ℕ → ℕ → Context
 contextAt s m left right sources nodes count = context s (storeOf nodes count) (take (length left) sources) left right m

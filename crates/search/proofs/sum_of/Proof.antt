@@ -1,5 +1,5 @@
 -- `search::sum_of` meets its contract.
-use mathlib.Core.Path.{_≡_, refl, ap, ap₂, _∙_}
+use mathlib.Core.Path.{refl, ap, ap₂, _∙_}
 use borrow.Author.Needs.{needs}
 use lib.IntN.{negℤ}
 use Rattle.laws.specs.Integer.{read-back}

@@ -1,14 +1,14 @@
 -- `search::pair::above` meets its contract.
-use mathlib.Core.Path.{_≡_, sym, ap, ap₂, _∙_}
+use mathlib.Core.Path.{_≡_, ap, ap₂, _∙_}
 use lib.Dec.{T}
-use Prim.Native.Nat.{_<_, _≤_, _^_}
+use Prim.Native.Nat.{_≤_}
 use native.Mathlib.Omega.{arith}
 use lib.IntN.{ℤ, pos, negsuc, natAbs, _-ℤ_}
 use lib.Signed.{_≤ℤ_, nonNeg}
 use mir.Syntax.{w64}
 use mir.Val.{toZ, ofZ, SFits, Fits}
 use mir.Facts.{toZ-ofZ}
-use Rattle.laws.specs.Integer.{ints, plus, minus, abs-parts, sub-parts, one-part-zero, fits-abs}
+use Rattle.laws.specs.Integer.{ints, minus, abs-parts, sub-parts, one-part-zero, fits-abs}
 use Rattle.search.proofs.pair.above.Statement.{statement}
 use Rattle.search.proofs.pair.above.Tie as tie
 

@@ -1,7 +1,7 @@
+-- `search::pair::is_within` meets its contract.
 use mathlib.Core.Path.{_≡_, sym, ap, _∙_}
 use mathlib.Core.Bool.{Bool, not, _&&_}
 use Prim.Native.Nat.{ℕ, _≤_}
-use native.Mathlib.Omega.{arith}
 use borrow.Author.Tests.{le-leb}
 use lib.Dec.{leb}
 use Rattle.rules.specs.declared.Settings.{Settings}
@@ -11,19 +11,13 @@ use Rattle.rules.specs.Cone.{withinNorm}
 use borrow.Author.Needs.{needs}
 use Rattle.search.proofs.pair.is_within.Statement.{statement}
 use Rattle.search.proofs.pair.is_within.Tie as tie
-use Rattle.search.proofs.pair.is_within.Reads as reads
-use Rattle.search.proofs.pair.is_within.Lts as lts
-use Rattle.cone.proofs.valid.is_over.Reads as is-over-reads
 
--- src/pair.rt:66:9
 returns : tie.Need-returns
 returns c = search (needs, tests)
 
--- src/pair.rt:69:6
 is-over-requires : tie.Need-is-over-requires
 is-over-requires c κs = search needs
 
--- src/pair.rt:62:1
 within : (s : Settings) (span n : ℕ) (r : Bool) → r ≡ over (s .norm) n → span ≤ s .m → not r ≡ (leb span (s .m) && withinNorm s n)
 unfolding withinNorm
 within s span n r e h = ap not e ∙ ap (λ t. t && withinNorm s n) (sym (le-leb span (s .m) h))

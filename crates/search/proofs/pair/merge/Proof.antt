@@ -1,7 +1,7 @@
 -- `search::pair::merge` meets its contract.
 use borrow.Author.Needs.{needs}
 use mir.Facts.{toZ-ofZ}
-use mathlib.Core.Path.{_≡_, _∙_}
+use mathlib.Core.Path.{_∙_}
 use Rattle.search.specs.Pair.{row-fit, row-long, row-same, measured-row}
 use Rattle.search.proofs.pair.merge.Statement.{statement}
 use Rattle.search.proofs.pair.merge.Tie as tie

@@ -1,20 +1,18 @@
-use mathlib.Core.Path.{_≡_, refl, sym, ap, ap₂, _∙_}
-use Prim.Native.Nat.{ℕ, _+_, _-_, _≤_, _<_}
+-- `search::pair::merge_rows` meets its contract.
+use mathlib.Core.Path.{_≡_, refl, ap₂, _∙_}
+use Prim.Native.Nat.{_-_, _≤_}
 use native.Mathlib.Omega.{arith}
 use borrow.Author.Needs.{needs}
 use lib.IntN.{ℤ, pos, _+ℤ_, _*ℤ_}
 use lib.ListN.{length, getD, take, length-set}
 use mir.Syntax.{w64}
-use mir.Val.{toZ, ofZ}
+use mir.Val.{toZ}
 use mir.Facts.{toZ-ofZ}
 use Rattle.laws.specs.Integer.{read-back}
 use Rattle.search.specs.MergedValues.{combined}
 use Rattle.search.specs.Pair.{mergedRow, left-small, right-small, row-turn, row-end, small-same}
 use Rattle.search.proofs.pair.merge_rows.Statement.{statement}
 use Rattle.search.proofs.pair.merge_rows.Tie as tie
-use Rattle.search.proofs.pair.merge_rows.Reads as reads
-use Rattle.search.proofs.pair.merge_rows.Lts as lts
-use Rattle.scale.proofs.scaled.Reads as scaled-reads
 
 same : (a b x y u v : ℤ) → x ≡ u → y ≡ v → (a *ℤ x) +ℤ (b *ℤ y) ≡ combined a b u v
 unfolding combined
@@ -27,27 +25,21 @@ Inv-loop left right a b coefs₀ i₀ coefs i =
 abbrev μ-loop : tie.MeasureT-loop
 μ-loop left right a b coefs₀ i₀ coefs i = length left - i
 
--- src/pair.rt:32:5
 loop-holds : tie.Need-loop-holds Inv-loop μ-loop
 loop-holds c = (search needs, refl, refl)
 
--- src/pair.rt:33:37
 mul-scaled : tie.Need-mul-scaled Inv-loop μ-loop
 mul-scaled c = search needs
 
--- src/pair.rt:33:37
 shared-slice-copy-out-scaled : tie.Need-shared-slice-copy-out-scaled Inv-loop μ-loop
 shared-slice-copy-out-scaled c = search needs
 
--- src/pair.rt:33:49
 mul-scaled-2 : tie.Need-mul-scaled-2 Inv-loop μ-loop
 mul-scaled-2 c = search needs
 
--- src/pair.rt:33:49
 shared-slice-copy-out-scaled-2 : tie.Need-shared-slice-copy-out-scaled-2 Inv-loop μ-loop
 shared-slice-copy-out-scaled-2 c = search needs
 
--- src/pair.rt:33:20
 scaled-requires : tie.Need-scaled-requires Inv-loop μ-loop
 scaled-requires c κs =
     let s = c .before .before .before .before in
@@ -56,23 +48,18 @@ scaled-requires c κs =
     let y = small-same _ _ _ (read-back (getD (s .args .right .now) i (pos 0)) (c .scaled-arg2 .given)) (right-small _ _ (s .pre .0) i) in
     (small-same _ _ _ (toZ-ofZ (s .fits .a)) (s .pre .1 .first), (x, (small-same _ _ _ (toZ-ofZ (s .fits .b)) (s .pre .1 .second), y)))
 
--- src/pair.rt:33:9
 mul-coefs : tie.Need-mul-coefs Inv-loop μ-loop
 mul-coefs c = search needs
 
--- src/pair.rt:33:9
 array-set-from-coefs : tie.Need-array-set-from-coefs Inv-loop μ-loop
 array-set-from-coefs c = search needs
 
--- src/pair.rt:34:9
 add-i : tie.Need-add-i Inv-loop μ-loop
 add-i c = search needs
 
--- src/pair.rt:32:5
 loop-less : tie.Need-loop-less Inv-loop μ-loop
 loop-less c = search needs
 
--- src/pair.rt:32:5
 loop-again : tie.Need-loop-again Inv-loop μ-loop
 loop-again c =
     let s = c .before .before .before .before .before in
@@ -84,7 +71,6 @@ loop-again c =
           (o .inv .2),
     )
 
--- src/pair.rt:26:1
 returns : tie.Need-returns Inv-loop μ-loop
 returns c =
     let s = c .before .before in

@@ -1,43 +1,34 @@
-use mathlib.Core.Path.{_≡_, sym, ap, _∙_}
+-- `search::pair::normalise` meets its contract.
+use mathlib.Core.Path.{ap, _∙_}
 use mir.Syntax.{w64}
-use mir.Val.{toZ, ofZ}
+use mir.Val.{toZ}
 use Rattle.laws.specs.Integer.{read-back}
 use Rattle.search.specs.Pair.{machine, divisor-used, divided, undivided}
 use borrow.Author.Needs.{needs}
 use Rattle.search.proofs.pair.normalise.Statement.{statement}
 use Rattle.search.proofs.pair.normalise.Tie as tie
-use Rattle.search.proofs.pair.normalise.Reads as reads
-use Rattle.search.proofs.pair.normalise.Lts as lts
-use Rattle.scale.proofs.coefficient_normalization_divisor.Reads as coefficient-normalization-divisor-reads
-use Rattle.scale.proofs.divide_all.Reads as divide-all-reads
 
--- src/pair.rt:44:9
 coefficient-normalization-divisor-requires : tie.Need-coefficient-normalization-divisor-requires
 coefficient-normalization-divisor-requires c κs = machine (c .before .args .coefs .now) (c .before .pre)
 
--- src/pair.rt:46:9
 divide-all-requires : tie.Need-divide-all-requires
 divide-all-requires c κs =
     let s = c .before .before .before .before in
     let d = c .before .before .coefficient-normalization-divisor in
     (divisor-used _ (s .args .coefs .now) _ (read-back (d .result) (d .ok) ∙ d .ensures), machine (s .args .coefs .now) (s .pre))
 
--- src/pair.rt:40:1
 same-length : tie.Need-same-length
 same-length c = search needs
 
--- src/pair.rt:40:1
 returns : tie.Need-returns
 returns c =
     let d = c .before .before .before .before .coefficient-normalization-divisor in
     let is = read-back (d .result) (d .ok) ∙ d .ensures in
     (is, divided _ _ _ is (c .before .divide-all .ensures))
 
--- src/pair.rt:40:1
 same-length-2 : tie.Need-same-length-2
 same-length-2 c = search needs
 
--- src/pair.rt:40:1
 returns-2 : tie.Need-returns-2
 returns-2 c =
     let d = c .before .coefficient-normalization-divisor in

@@ -1,6 +1,6 @@
 -- `search::pair::prepare_coefficients` meets its contract.
-use mathlib.Core.Path.{_≡_, sym, ap, _∙_}
-use lib.ListN.{length, take}
+use mathlib.Core.Path.{ap, _∙_}
+use lib.ListN.{length}
 use lib.Seq.{take-at}
 use borrow.Author.Needs.{needs}
 use mir.Facts.{toZ-ofZ}

@@ -1,12 +1,11 @@
 -- `search::pair::quotient` meets its contract.
-use mathlib.Core.Path.{_≡_, sym, ap, ap₂, subst, _∙_}
-use Prim.Native.Nat.{_<_, _≤_, _^_}
+use mathlib.Core.Path.{_≡_, sym, ap, ap₂, _∙_}
+use Prim.Native.Nat.{_<_}
 use native.Mathlib.Omega.{arith}
-use borrow.Author.Needs.{needs}
 use lib.IntN.{ℤ, pos, natAbs}
 use lib.Signed.{quotZ}
 use mir.Syntax.{w64}
-use mir.Val.{toZ, ofZ}
+use mir.Val.{toZ}
 use mir.Facts.{toZ-ofZ}
 use Rattle.laws.specs.Integer.{read-back}
 use Rattle.search.specs.Pair.{quot-one, small-same}

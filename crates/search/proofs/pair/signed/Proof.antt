@@ -1,17 +1,14 @@
+-- `search::pair::signed` meets its contract.
 use native.Mathlib.Omega.{arith}
 use mir.Syntax.{w64}
 use mir.Facts.{toZ-pos}
 use borrow.Author.Needs.{needs}
 use Rattle.search.proofs.pair.signed.Statement.{statement}
 use Rattle.search.proofs.pair.signed.Tie as tie
-use Rattle.search.proofs.pair.signed.Reads as reads
-use Rattle.search.proofs.pair.signed.Lts as lts
 
--- src/pair.rt:128:5
 cast-result : tie.Need-cast-result
 cast-result c = search needs
 
--- src/pair.rt:124:1
 returns : tie.Need-returns
 returns c = toZ-pos w64 (omega arith)
 

@@ -1,13 +1,10 @@
 -- `search::pair::wide` meets its contract.
-use mathlib.Core.Path.{_≡_, ap, _∙_}
-use Prim.Native.Nat.{_<_, _^_}
+use mathlib.Core.Path.{_≡_, _∙_}
 use native.Mathlib.Omega.{arith}
-use lib.IntN.{ℤ, pos, negsuc}
-use lib.Signed.{mag}
+use lib.IntN.{ℤ}
 use mir.Syntax.{w32, w64}
-use mir.Val.{toZ, ofZ, SFits}
+use mir.Val.{SFits}
 use mir.Facts.{toZ-ofZ}
-use Rattle.laws.specs.Integer.{read-back}
 use Rattle.search.proofs.pair.wide.Statement.{statement}
 use Rattle.search.proofs.pair.wide.Tie as tie
 
