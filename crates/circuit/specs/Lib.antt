@@ -17,3 +17,5 @@ pub mod TookGate
 pub mod TookPorts
 pub mod TookLine
 pub mod Reading
+pub mod Run
+pub mod Entry

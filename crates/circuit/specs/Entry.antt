@@ -1,0 +1,104 @@
+-- The run as an entry: the text, the bits and the buffer tested in turn.
+use mathlib.Core.Path.{_≡_, refl, sym, ap, ap₂, subst, _∙_}
+use mathlib.Core.Bool.{Bool, true, false, not}
+use mathlib.Core.List.{List, [], _∷_}
+use mathlib.Core.Option.{some}
+use Prim.Native.Nat.{ℕ, zero, suc, _+_, _*_, _<_, _≤_}
+use native.Mathlib.Nat.{not-suc-le-zero, le-of-suc-le-suc}
+use native.Mathlib.Omega.{arith}
+use borrow.Author.Tests.{lt-ltb, le-ltb, not-false}
+use lib.ListN.{length, getD}
+use Rattle.laws.specs.Over.{over}
+use Rattle.laws.specs.Tabulate.{tabulate-length, tabulate-at}
+use Rattle.rules.specs.declared.RunReply.the-variants.{Ran, Unreadable, BadBits, ShortBuffer}
+use Rattle.rules.specs.Circuit as C
+use Rattle.rules.specs.CircuitText.{readCircuit}
+use Rattle.rules.specs.Form as F
+use Rattle.rules.specs.Runs.{RunOutcome, ran, bitsFor, runOn, withValues, runCircuit, runCircuitOn}
+use Rattle.text.specs.Gives.{Each}
+use Rattle.circuit.specs.declared.Circuit.{Circuit}
+use Rattle.circuit.specs.declared.Reading.{Reading}
+use Rattle.circuit.specs.declared.Reading.the-variants.{Good, Refused}
+use Rattle.circuit.specs.Run.{padded, Runs, RunsOn, GoodPort, outputBits, padded-outputs, portBits, port-bits, ports-many}
+use Rattle.circuit.specs.Slots.{node-more}
+use Rattle.circuit.specs.Sound.{SoundGates, SoundOutput, read-sound}
+use Rattle.circuit.specs.View.{inputNames, gatesIn, outputIn, outputsIn, circuitOf, readingOf, Held}
+
+-- ---- A circuit that was read.
+
+module _ (gs ps : List ℕ) (c : Circuit) (bits buffer : List ℕ) where
+  abbrev answer : List ℕ → RunOutcome ℕ
+  answer s = runOn (c .inputs) (c .outs) bits buffer (some (C.circuitRun (circuitOf s gs ps c) bits))
+
+  module _ (s : List ℕ) (b : Bool) (f : b ≡ bitsFor (c .inputs) bits) where
+    pub run-bad-bits : not b ≡ true → ran BadBits buffer ≡ answer s
+    unfolding runOn
+    run-bad-bits k = sym (rw (ap not (sym f) ∙ k))
+
+    module _ (k : not b ≡ false) where
+      given : bitsFor (c .inputs) bits ≡ true
+      given = sym f ∙ not-false b k
+
+      pub run-short : length buffer < c .outs → ran ShortBuffer buffer ≡ answer s
+      unfolding runOn
+      run-short l = sym (rw (given, lt-ltb (length buffer) (c .outs) l))
+
+      pub run-ready : RunsOn gs ps c → Runs (c .inputs) (c .gates) gs bits
+      run-ready y = record { long = y .gatesLong; inputs = y .inputs; gates = y .gates; sound = y .sound; given = given }
+
+      run-is : (values : List ℕ) → values ≡ C.gateValues bits (gatesIn gs (c .inputs) (c .gates)) → C.circuitRun (circuitOf s gs ps c) bits ≡ portBits values ps (c .outs)
+      unfolding C.circuitRun circuitOf outputBits
+      run-is values e = ap (λ v. outputBits v (outputsIn s ps (c .outs))) (sym e) ∙ port-bits values s ps (c .outs)
+
+      pub run-ran : (all out : List ℕ) → c .outs ≤ length buffer → all ≡ padded (C.gateValues bits (gatesIn gs (c .inputs) (c .gates)))
+          → out ≡ over (portBits all ps (c .outs)) buffer → ran (Ran (c .outs)) out ≡ answer s
+      unfolding runOn withValues
+      run-ran all out l a o =
+          let values = C.gateValues bits (gatesIn gs (c .inputs) (c .gates)) in
+          let q : portBits all ps (c .outs) ≡ portBits values ps (c .outs)
+          = sym (port-bits all s ps (c .outs)) ∙ (ap (λ v. outputBits v (outputsIn s ps (c .outs))) a ∙ (padded-outputs values (outputsIn s ps (c .outs)) ∙ port-bits values s ps (c .outs))) in
+          sym
+          (rw (given, le-ltb (length buffer) (c .outs) l, run-is values refl)
+          (ap₂ (λ n x. ran (Ran n) x) (ports-many values ps (c .outs)) (sym (o ∙ ap (λ x. over x buffer) q))))
+
+-- ---- The text.
+
+each-at : {A : Type 0} (Q : A → Type 0) (l : List A) (i : ℕ) (d : A) → Each Q l → i < length l → Q (getD l i d)
+each-at Q [] i d s h = absurd (not-suc-le-zero h)
+each-at Q (x ∷ l) zero d s h = s .0
+each-at Q (x ∷ l) (suc i) d s h = each-at Q l i d (s .1) (le-of-suc-le-suc h)
+
+module _ (s gs ps bits buffer : List ℕ) (r : Reading) (e : readingOf r s gs ps ≡ readCircuit s) where
+  pub run-unreadable : (k i : ℕ) → r ≡ Refused k i → ran (Unreadable k i) buffer ≡ runCircuit s bits buffer
+  unfolding runCircuit runCircuitOn
+  run-unreadable k i q = sym (ap (λ x. runCircuitOn x bits buffer) (sym e ∙ ap (λ x. readingOf x s gs ps) q))
+
+  module _ (c : Circuit) (q : r ≡ Good c) where
+    good : readCircuit s ≡ F.Good (circuitOf s gs ps c)
+    good = sym e ∙ ap (λ x. readingOf x s gs ps) q
+
+    pub run-good : (o : RunOutcome ℕ) → o ≡ runOn (c .inputs) (c .outs) bits buffer (some (C.circuitRun (circuitOf s gs ps c) bits)) → o ≡ runCircuit s bits buffer
+    unfolding runCircuit runCircuitOn circuitOf inputNames outputsIn
+    run-good o h = h ∙ sym (ap (λ x. runCircuitOn x bits buffer) good ∙ rw (tabulate-length, tabulate-length))
+
+    pub read-runs : Held (length s) gs ps r → RunsOn gs ps c
+    unfolding circuitOf inputNames gatesIn outputsIn outputIn
+    read-runs h =
+        let z = read-sound s _ good .parts in
+        let a : length (inputNames s ps (c .inputs)) ≡ c .inputs = tabulate-length (c .inputs) _ in
+        let b : length (gatesIn gs (c .inputs) (c .gates)) ≡ c .gates = tabulate-length (c .gates) _ in
+        let d : length (outputsIn s ps (c .outs)) ≡ c .outs = tabulate-length (c .outs) _ in
+        let i = z .inputsFit in let j = z .gatesFit in let k = z .outputsFit in
+        record {
+          gatesLong = h .gatesLong;
+          portsLong = h .portsLong;
+          inputs = omega arith;
+          gates = omega arith;
+          outs = omega arith;
+          sound = subst (λ n. SoundGates n (gatesIn gs (c .inputs) (c .gates))) a (z .gatesSound);
+          wires = λ m l.
+              let o = each-at _ (outputsIn s ps (c .outs)) m (outputIn s ps 0) (z .outputsSound) (omega arith) in
+              let w : getD (outputsIn s ps (c .outs)) m (outputIn s ps 0) ≡ outputIn s ps m = tabulate-at (c .outs) (outputIn s ps) m (outputIn s ps 0) l in
+              let p = subst (λ x. SoundOutput (length (inputNames s ps (c .inputs)) + length (gatesIn gs (c .inputs) (c .gates))) x) w o in
+              (node-more _ 128 _ (omega arith) (p .node), p .const);
+        }
