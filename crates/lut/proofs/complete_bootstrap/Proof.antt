@@ -22,14 +22,14 @@ returns : tie.Need-returns
 returns c =
     let s = c .before .before .before .before .before .before .before in
     let d = c .before .before .before in
-    no-table (d .complete .result) (d .complete .last .1 .1 .0) _ (s .args .source) _ (s .args .count) (d .complete .ensures) (not-true (d .complete .result) (c .if1 .taken))
+    no-table (d .complete .result) (d .complete .last .1 .1 .0) _ (s .args .source) _ (s .args .count) (d .complete .ensures .1) (not-true (d .complete .result) (c .if1 .taken))
 
 -- src/lib.rt:79:5
 put-bootstrap-requires : tie.Need-put-bootstrap-requires
 put-bootstrap-requires c κs =
     let s = c .before .before .before .before .before .before .before .before .before in
     let d = c .before .before .before .before .before in
-    (s .pre .0 .0, s .pre .0 .1, fine-boot (s .args .count) (s .args .source) (s .args .p) (s .args .known .now) (d .complete .last .1 .1 .0) (s .pre .0 .2) (s .pre .1 .0) (s .pre .1 .1) (table-is (d .complete .result) (d .complete .last .1 .1 .0) _ (d .complete .ensures) (not-false (d .complete .result) (c .before .before .if1 .left))))
+    (s .pre .0 .0, s .pre .0 .1, fine-boot (s .args .count) (s .args .source) (s .args .p) (s .args .known .now) (d .complete .last .1 .1 .0) (s .pre .0 .2) (s .pre .1 .0) (s .pre .1 .1) (table-is (d .complete .result) (d .complete .last .1 .1 .0) _ (d .complete .ensures .1) (not-false (d .complete .result) (c .before .before .if1 .left))))
 
 -- src/lib.rt:61:1
 same-length-2 : tie.Need-same-length-2
@@ -40,7 +40,7 @@ returns-2 : tie.Need-returns-2
 returns-2 c =
     let s = c .before .before .before .before .before .before .before .before .before .before in
     let d = c .before .before .before .before .before .before in
-    made _ (s .args .source) (d .complete .last .1 .1 .0) _ (s .args .count) _ _ (table-is (d .complete .result) (d .complete .last .1 .1 .0) _ (d .complete .ensures) (not-false (d .complete .result) (c .before .before .before .if1 .left))) (c .put-bootstrap .ensures)
+    made _ (s .args .source) (d .complete .last .1 .1 .0) _ (s .args .count) _ _ (table-is (d .complete .result) (d .complete .last .1 .1 .0) _ (d .complete .ensures .1) (not-false (d .complete .result) (c .before .before .before .if1 .left))) (c .put-bootstrap .ensures)
 
 pub complete-bootstrap-spec : {M : Type 1} → statement M
 complete-bootstrap-spec =
