@@ -21,7 +21,8 @@ use Rattle.rules.specs.Builder.{Entries, agrees, completable}
 use Rattle.rules.specs.Cone.{linearTable, withinNorm}
 use Rattle.rules.specs.Scale.{gcdFrom, divisor, normalised, isScalePair, norm}
 use Rattle.rules.specs.Span.{least, span}
-use Rattle.scale.specs.Divisor.{divisor-abs, divisor-not-zero}
+use Rattle.scale.specs.Divisor.{divisor-not-zero}
+use Rattle.theorems.specs.Normalised.{divisor-abs}
 use Rattle.scale.specs.Limits.{Within}
 use Rattle.cone.specs.Span.{table-within-total}
 use Rattle.cone.specs.Table.{table-length}
