@@ -1,0 +1,2 @@
+-- What the mapper's structs stand for, and the laws that its code is proved by.
+pub mod View

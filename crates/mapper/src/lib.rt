@@ -1,0 +1,4 @@
+// The mapper: each gate's cone, bootstraps where they are needed, and the network's text.
+pub mod boot;
+pub mod gate;
+pub mod pair;
