@@ -57,12 +57,12 @@ first-byte (Input name) = refl
 first-byte (Linear c ts) = refl
 first-byte (Bootstrap i table) = refl
 
-sources-length : (ts : List Term) → length (sources ts) ≡ length ts
+pub sources-length : (ts : List Term) → length (sources ts) ≡ length ts
 unfolding sources
 sources-length [] = refl
 sources-length (t ∷ ts) = ap suc (sources-length ts)
 
-sources-at : (ts : List Term) (k : ℕ) → k < length ts → getD (sources ts) k 0 ≡ getD ts k (term (pos 0) 0) .node
+pub sources-at : (ts : List Term) (k : ℕ) → k < length ts → getD (sources ts) k 0 ≡ getD ts k (term (pos 0) 0) .node
 unfolding sources
 sources-at [] k h = absurd (not-suc-le-zero h)
 sources-at (t ∷ ts) zero h = refl

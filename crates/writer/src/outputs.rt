@@ -1,0 +1,38 @@
+// An output's line. Its name stands in the circuit's text; its signal is a node's number before pruning, or from 1000 on a constant.
+use crate::line::put_out;
+use crate::nodes::number_of;
+use rules::Wire;
+ghost use mathlib.Core.Path.{_≡_};
+ghost use Prim.Native.Nat.{_≤_};
+ghost use lib.ListN.{length};
+ghost use Rattle.writer.specs.Put.{Put, Room};
+ghost use Rattle.writer.specs.Outputs.{newWire, newOutput, Signalled};
+
+// The wire with the node's new number.
+fn new_wire(live: &[u16; 672], signal: usize) -> Wire
+    requires { ⌜ Signalled (now live) signal ⌝ }
+    ensures { λ r. ⌜ r ≡ newWire (now (live .entry)) signal ⌝ }
+{
+    if signal < 1000 {
+        return Wire::Node(number_of(live, signal));
+    }
+    Wire::Const((signal - 1000) as u8)
+}
+
+// `(out NAME WIRE)`, the name from a to e in s. Asks that the signal is a live node or one of the two constants.
+pub fn put_output(
+    out: &mut [u8],
+    at: usize,
+    s: &[u8],
+    a: usize,
+    e: usize,
+    live: &[u16; 672],
+    signal: usize,
+) -> usize
+    requires { ⌜ (a ≤ e) × (e ≤ length (now s)) × Signalled (now live) signal ⌝ }
+    requires { ⌜ Room at (newOutput (now live) (now s) a e signal) ⌝ }
+    ensures { λ r. ⌜ Put at (newOutput (now (live .entry)) (now (s .entry)) a e signal) (now (out .entry)) r (now (out .exit)) ⌝ }
+{
+    let wire = new_wire(live, signal);
+    put_out(out, at, &s[a..e], wire)
+}
