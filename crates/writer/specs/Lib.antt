@@ -4,3 +4,4 @@ pub mod Lines
 pub mod Live
 pub mod Kept
 pub mod Outputs
+pub mod Whole

@@ -3,10 +3,11 @@ use crate::line::put_out;
 use crate::nodes::number_of;
 use rules::Wire;
 ghost use mathlib.Core.Path.{_≡_};
-ghost use Prim.Native.Nat.{_≤_};
+ghost use Prim.Native.Nat.{_<_, _≤_};
 ghost use lib.ListN.{length};
+ghost use Rattle.rules.specs.Writing.{outputText, outputsText};
 ghost use Rattle.writer.specs.Put.{Put, Room};
-ghost use Rattle.writer.specs.Outputs.{newWire, newOutput, Signalled};
+ghost use Rattle.writer.specs.Outputs.{newWire, newOutput, liveOutput, liveOutputs, Signalled, Ported};
 
 // The wire with the node's new number.
 fn new_wire(live: &[u16; 672], signal: usize) -> Wire
@@ -14,7 +15,8 @@ fn new_wire(live: &[u16; 672], signal: usize) -> Wire
     ensures { λ r. ⌜ r ≡ newWire (now (live .entry)) signal ⌝ }
 {
     if signal < 1000 {
-        return Wire::Node(number_of(live, signal));
+        let node = number_of(live, signal);
+        return Wire::Node(node);
     }
     Wire::Const((signal - 1000) as u8)
 }
@@ -35,4 +37,46 @@ pub fn put_output(
 {
     let wire = new_wire(live, signal);
     put_out(out, at, &s[a..e], wire)
+}
+
+// Output i of those that `ports` has.
+fn put_port(
+    out: &mut [u8],
+    at: usize,
+    s: &[u8],
+    ports: &[usize; 160],
+    live: &[u16; 672],
+    n: usize,
+    i: usize,
+) -> usize
+    requires { ⌜ Ported (now live) (now ports) (length (now s)) n × (i < n) ⌝ }
+    requires { ⌜ Room at (outputText (liveOutput (now live) (now s) (now ports) i)) ⌝ }
+    ensures { λ r. ⌜ Put at (outputText (liveOutput (now (live .entry)) (now (s .entry)) (now (ports .entry)) i)) (now (out .entry)) r (now (out .exit)) ⌝ }
+{
+    let a = ports[64 + 3 * i];
+    let e = ports[64 + 3 * i + 1];
+    let signal = ports[64 + 3 * i + 2];
+    put_output(out, at, s, a, e, live, signal)
+}
+
+// The outputs.
+pub fn put_outs(
+    out: &mut [u8],
+    at: usize,
+    s: &[u8],
+    ports: &[usize; 160],
+    live: &[u16; 672],
+    n: usize,
+) -> usize
+    requires { ⌜ Ported (now live) (now ports) (length (now s)) n ⌝ }
+    requires { ⌜ Room at (outputsText (liveOutputs (now live) (now s) (now ports) n)) ⌝ }
+    ensures { λ r. ⌜ Put at (outputsText (liveOutputs (now (live .entry)) (now (s .entry)) (now (ports .entry)) n)) (now (out .entry)) r (now (out .exit)) ⌝ }
+{
+    let mut to = at;
+    let mut i = 0;
+    while i < n {
+        to = put_port(out, to, s, ports, live, n, i);
+        i += 1;
+    }
+    to
 }
