@@ -1,9 +1,9 @@
 -- What is live is what pruning keeps.
 use mathlib.Core.Path.{_≡_, refl, sym, ap, ap₂, subst, _∙_}
-use mathlib.Core.Bool.{Bool, true, false, true≢false}
-use mathlib.Core.List.{List, [], _∷_, _++_, map}
+use mathlib.Core.Bool.{Bool, true, false}
+use mathlib.Core.List.{List, [], _∷_, map}
 use mathlib.Core.Logic.{⊎-elim}
-use Prim.Native.Nat.{ℕ, zero, suc, _+_, _-_, _<_, _≤_}
+use Prim.Native.Nat.{ℕ, suc, _+_, _<_}
 use native.Mathlib.Nat.{add-zero, zero-add}
 use native.Mathlib.Omega.{arith}
 use borrow.Author.Tests.{eq-eqb, ne-eqb}
@@ -15,7 +15,7 @@ use Rattle.rules.specs.NetworkText.{sources, nodeAt}
 use Rattle.rules.specs.Store.{needs, wantedBelow, renumbered, renumberedTerm, renumberedNode, keptFrom}
 use Rattle.theorems.specs.Members.{member-head, member-tail}
 use Rattle.theorems.specs.Wanted.{wanted-closed}
-use Rattle.lut.specs.View.{nodeOf, storeOf, Fine, IsStore, at-store, store-length}
+use Rattle.lut.specs.View.{nodeOf, storeOf, IsStore, at-store, store-length}
 use Rattle.writer.specs.Live.{newNumber, newTerm, newNode, liveFrom, liveNodes, Ready, Sourced, member-at, fine-needs}
 
 -- `live` numbers the nodes that are kept

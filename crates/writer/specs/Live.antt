@@ -12,7 +12,7 @@ use lib.Dec.{eqb}
 use lib.IntN.{ℤ, pos, natAbs}
 use lib.ListN.{length, getD, drop, drop-of-length-le}
 use lib.Seq.{drop-cons}
-use Rattle.laws.specs.Test.{if_then_else_, zero≢one}
+use Rattle.laws.specs.Test.{if_then_else_}
 use Rattle.laws.specs.Laid.{laid-nil}
 use Rattle.rules.specs.Form.{bytes}
 use Rattle.rules.specs.Network.{Term, LutNode, Input, Linear, Bootstrap, isLinear, member}
@@ -225,10 +225,6 @@ module _ (live bytes : List ℕ) (count i : ℕ) where
   pub lines-end : count ≤ i → linesLeft live bytes count i ≡ []
   unfolding linesLeft liveFrom nodesText
   lines-end h = let l = store-length bytes count in rw (drop-of-length-le (storeOf bytes count) {i = i} (omega arith))
-
-pub lines-all : (live bytes : List ℕ) (count : ℕ) → nodesText (liveNodes live bytes count) ≡ linesLeft live bytes count 0
-unfolding linesLeft liveNodes
-lines-all live bytes count = refl
 
 pub put-none : (at : ℕ) (out : List ℕ) → Put at [] out at out
 put-none at out = record { place = omega arith; bytes = sym (laid-nil at out) }

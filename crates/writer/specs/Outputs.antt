@@ -1,6 +1,6 @@
 -- An output with its new number. Its name stands in a text from a to e; its signal is a node's number, or from 1000 on a constant.
 use mathlib.Core.Path.{_≡_, refl, sym, ap, _∙_}
-use mathlib.Core.Bool.{Bool, true, false}
+use mathlib.Core.Bool.{true}
 use mathlib.Core.List.{List, _++_, map}
 use mathlib.Core.Logic.{⊎-elim}
 use Prim.Native.Nat.{ℕ, _+_, _*_, _-_, _<_, _≤_}
@@ -16,7 +16,7 @@ use Rattle.rules.specs.declared.Wire.{Wire}
 use Rattle.rules.specs.declared.Wire.the-variants.{Const, Node}
 use Rattle.rules.specs.Circuit.{Output}
 use Rattle.rules.specs.Network.{member}
-use Rattle.rules.specs.Store.{renumbered, renumberedWire, renumberedOutput}
+use Rattle.rules.specs.Store.{renumberedWire, renumberedOutput}
 use Rattle.rules.specs.Writing.{outputText, outputsText}
 use Rattle.writer.specs.Lines.{outText}
 use Rattle.writer.specs.Put.{Put, Room, Left, left-step, left-room, left-none}
@@ -63,12 +63,6 @@ module _ (kept live : List ℕ) (count : ℕ) (m : Numbered kept live count) (n 
       ⊎-elim (λ (h : n < 1000). rw (lt-ltb n 1000 h) (ap Node (new-kept kept live count m n (k h .0) (k h .1))))
       (λ (h : 1000 ≤ n). rw (le-ltb n 1000 h) refl)
       (lt-or-le n 1000)
-
-  -- the output as pruning leaves it
-  pub kept-output : (s : List ℕ) (a e : ℕ) → (n < 1000 → (n < count) × (member n kept ≡ true))
-      → newOutput live s a e n ≡ outputText (renumberedOutput kept (outputAt s a e (signalWire n)))
-  unfolding newOutput outputAt renumberedOutput
-  kept-output s a e k = ap (λ (w : Wire). outputText (record { name = take (e - a) (drop a s); wire = w })) (kept-wire k)
 
   pub kept-signal : length live ≡ 672 → count ≤ 672 → n ≤ 1001 → (n < 1000 → (n < count) × (member n kept ≡ true)) → Signalled live n
   kept-signal l c h k =
