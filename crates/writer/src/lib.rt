@@ -1,4 +1,42 @@
 // Writing a network's text: each function answers the next place, and stores a byte only where the buffer reaches so far.
 // So the text's length can be reckoned first, on a buffer of no bytes.
 mod line;
+pub mod nodes;
+pub mod outputs;
 pub mod put;
+
+use rules::Limit;
+ghost use lib.ListN.{length};
+ghost use Rattle.rules.specs.Writing.{networkText};
+ghost use Rattle.writer.specs.Put.{Put, Room};
+ghost use Rattle.writer.specs.Live.{Sourced};
+ghost use Rattle.writer.specs.Outputs.{Ported};
+ghost use Rattle.writer.specs.Whole.{networkOf};
+
+// What is written beside the nodes: the settings, and how many outputs and nodes there are.
+pub struct Network {
+    pub p: usize,
+    pub m: usize,
+    pub norm: Limit,
+    pub outs: usize,
+    pub count: usize,
+}
+
+// The network's text, as far as the buffer reaches; answers its length.
+pub fn write(
+    out: &mut [u8],
+    s: &[u8],
+    n: Network,
+    ports: &[usize; 160],
+    nodes: &[u8; 25536],
+    live: &[u16; 672],
+) -> usize
+    requires { ⌜ Sourced (now live) (now nodes) (n .count) × Ported (now live) (now ports) (length (now s)) (n .outs) ⌝ }
+    requires { ⌜ Room 0 (networkText (networkOf n (now s) (now ports) (now nodes) (now live))) ⌝ }
+    ensures { λ r. ⌜ Put 0 (networkText (networkOf n (now (s .entry)) (now (ports .entry)) (now (nodes .entry)) (now (live .entry)))) (now (out .entry)) r (now (out .exit)) ⌝ }
+{
+    let norm = n.norm;
+    let a = line::put_net(out, 0, n.p, n.m, norm);
+    let b = nodes::put_nodes(out, a, nodes, live, n.count);
+    outputs::put_outs(out, b, s, ports, live, n.outs)
+}
