@@ -6,5 +6,4 @@ pub mod Lines
 pub mod Meaning
 pub mod Text
 pub mod Whole
-pub mod Fresh
 pub mod Theorems

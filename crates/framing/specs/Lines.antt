@@ -10,12 +10,12 @@ use borrow.Author.Tests.{ne-eqb, not-true}
 use lib.Dec.{eqb}
 use lib.ListN.{getD, drop}
 use lib.Seq.{append-snoc, drop-cons}
-use Rattle.laws.specs.Test.{is-T, T-not-is, lt-or-le, eq-or-ne}
+use Rattle.laws.specs.Test.{T-is, T-not-is, lt-or-le, eq-or-ne}
 use Rattle.rules.specs.Form.{lines, before}
 use Rattle.rules.specs.Service.{endLine, isEnd}
 use Rattle.theorems.specs.Decimals.{AllOf, all-append}
+use Rattle.theorems.specs.Names.{name-self, name-is}
 use Rattle.theorems.specs.PlainPieces.{plain, IsLine, plain-line}
-use Rattle.text.specs.Same.{same-self, same-is}
 use Rattle.framing.specs.Jobs.{jobs, rest}
 use Rattle.framing.specs.Step.{endWord, nextMatch, match-agrees, match-differs, match-over}
 
@@ -50,7 +50,7 @@ lines-open b (c ∷ l) p = rw (not-true (eqb b 10) (p .0), lines-open c l (p .1)
 
 pub end-is : (l : List ℕ) → isEnd l ≡ true → l ≡ endLine
 unfolding isEnd
-end-is l e = same-is l endLine (is-T (isEnd l) e)
+end-is l e = name-is l endLine e
 
 end-line : endLine ≡ endWord ++ (10 ∷ [])
 unfolding endLine endWord
@@ -58,7 +58,7 @@ end-line = refl
 
 pub plain-open : (l : List ℕ) → Plain l → isEnd l ≡ false
 unfolding isEnd endLine AllOf plain
-plain-open l p = T-not-is (isEnd l) (λ t. true≢false (sym ((subst Plain (same-is l endLine t) p) .1 .1 .1 .1 .1 .0)))
+plain-open l p = T-not-is (isEnd l) (λ t. true≢false (sym ((subst Plain (name-is l endLine (T-is (isEnd l) t)) p) .1 .1 .1 .1 .1 .0)))
 
 -- How many bytes of a line agree with `(end)`, where m did before it; 6 where one of them does not.
 unfoldable pub matchFrom : ℕ → List ℕ → ℕ
@@ -101,12 +101,12 @@ module _ (l : List ℕ) where
   unfolding isEnd
   end-closes e =
       let w : l ≡ endWord = match-word 0 l e (omega arith) in
-      rw (w, ← end-line) (same-self endLine)
+      rw (w, ← end-line) (name-self endLine)
 
   pub end-open : (matchFrom 0 l ≡ 5 → ⊥) → isEnd (l ++ (10 ∷ [])) ≡ false
   unfolding isEnd
   end-open n =
-      T-not-is (isEnd (l ++ (10 ∷ []))) (λ t. n (ap (matchFrom 0) (append-cancel-right l endWord (10 ∷ []) (same-is (l ++ (10 ∷ [])) endLine t ∙ end-line)) ∙ match-end))
+      T-not-is (isEnd (l ++ (10 ∷ []))) (λ t. n (ap (matchFrom 0) (append-cancel-right l endWord (10 ∷ []) (name-is (l ++ (10 ∷ [])) endLine (T-is (isEnd (l ++ (10 ∷ []))) t) ∙ end-line)) ∙ match-end))
 
 -- ---- The jobs and the rest, where it is the current line.
 
