@@ -35,7 +35,7 @@ fedAll-step a b s r e = rw e
 unfoldable pub closing : Feed → List ℕ
 closing f = if ltb 0 (f .count) then refusalText 1 0 ++ endLine else []
 
-pub fedAll-append : (a : State) (s t : List ℕ) → fedAll a (s ++ t) ≡ fedAll (fedAll a s) t
+fedAll-append : (a : State) (s t : List ℕ) → fedAll a (s ++ t) ≡ fedAll (fedAll a s) t
 unfolding fedAll
 fedAll-append a [] t = refl
 fedAll-append a (b ∷ s) t = fedAll-append (after (fed (a .feed) b (a .room))) s t
@@ -45,7 +45,7 @@ unfoldable pub fedChunks : State → List (List ℕ) → State
 fedChunks a [] = a
 fedChunks a (c ∷ cs) = fedChunks (fedAll a c) cs
 
-pub chunks-fed : (a : State) (cs : List (List ℕ)) → fedChunks a cs ≡ fedAll a (flatten cs)
+chunks-fed : (a : State) (cs : List (List ℕ)) → fedChunks a cs ≡ fedAll a (flatten cs)
 unfolding fedAll fedChunks flatten
 chunks-fed a [] = refl
 chunks-fed a (c ∷ cs) = chunks-fed (fedAll a c) cs ∙ sym (fedAll-append a c (flatten cs))
@@ -80,7 +80,7 @@ module _ (answer : List ℕ → List ℕ) where
   printedChunks a [] = []
   printedChunks a (c ∷ cs) = printed a c ++ printedChunks (fedAll a c) cs
 
-  pub chunks-printed : (a : State) (cs : List (List ℕ)) → printedChunks a cs ≡ printed a (flatten cs)
+  chunks-printed : (a : State) (cs : List (List ℕ)) → printedChunks a cs ≡ printed a (flatten cs)
   unfolding printed printedChunks flatten
   chunks-printed a [] = refl
   chunks-printed a (c ∷ cs) =

@@ -9,4 +9,4 @@ pub mod Bootstraps
 pub mod Sharing
 pub mod Refusals
 pub mod Buffers
-pub mod Jobs
+pub mod Sessions
