@@ -32,6 +32,12 @@ nextMatch m b = if ltb m 5 && eqb b (getD endWord m 0) then m + 1 else 6
 abbrev pub closedBy : ℕ → Event
 closedBy n = if leb n 32768 then Job n else Long
 
+-- The bytes of a closed job are within the limit.
+abbrev pub Within : Event → Type 0
+Within (More f) = Unit {0}
+Within (Job n) = n ≤ 32768
+Within Long = Unit {0}
+
 -- A newline that closes no job.
 abbrev pub lineEnded : Feed → Feed
 lineEnded f = record { count = min 32769 (f .count + 1); line = min 32769 (f .count + 1); matched = 0 }

@@ -3,7 +3,7 @@ ghost use mathlib.Core.Path.{_≡_};
 ghost use Prim.Native.Nat.{_+_, _<_, min};
 ghost use lib.Dec.{ltb};
 ghost use lib.ListN.{getD, set};
-ghost use Rattle.framing.specs.Step.{endWord, start, next, nextMatch, closedBy, lineEnded, lineOn, fedTo, fed};
+ghost use Rattle.framing.specs.Step.{endWord, start, next, nextMatch, closedBy, lineEnded, lineOn, fedTo, fed, Within};
 
 // What is known of the bytes since the last job. Both counts stop at 32,769, one over the limit, so that no input is
 // too long for them.
@@ -85,7 +85,8 @@ fn next_match(m: usize, b: u8) -> usize
 
 // A job of n bytes is closed.
 fn closed(n: usize) -> Event
-    ensures { λ r. ⌜ r ≡ closedBy n ⌝ }
+    ensures event { λ r. ⌜ r ≡ closedBy n ⌝ }
+    ensures within { λ r. ⌜ Within r ⌝ }
 {
     if n <= 32768 {
         return Event::Job(n);
@@ -127,7 +128,8 @@ fn line_on(f: Feed, b: u8) -> Feed
 
 // One byte. `job` keeps the bytes since the last job and wants 32,768 places; `next_feed` of the event takes the next byte.
 pub fn feed_byte(f: Feed, b: u8, job: &mut [u8]) -> Event
-    ensures { λ r. ⌜ fedTo r (now (job .exit)) ≡ fed f b (now (job .entry)) ⌝ }
+    ensures step { λ r. ⌜ fedTo r (now (job .exit)) ≡ fed f b (now (job .entry)) ⌝ }
+    ensures within { λ r. ⌜ Within r ⌝ }
 {
     if b == b'\n' {
         if f.matched == 5 {
