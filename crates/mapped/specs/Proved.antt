@@ -6,7 +6,7 @@ use Prim.Native.Nat.{ℕ, _≤_, _<_}
 use native.Mathlib.Omega.{arith}
 use borrow.Author.Tests.{lt-ltb, le-ltb}
 use lib.Dec.{ltb}
-use lib.ListN.{length, take, drop}
+use lib.ListN.{length, take, drop, replicate, length-replicate}
 use Rattle.laws.specs.Over.{over, take-over, drop-over}
 use Rattle.laws.specs.Test.{if_then_else_}
 use Rattle.rules.specs.Form.{Reading, Good, Refused}
@@ -14,10 +14,11 @@ use Rattle.rules.specs.CircuitText.{readCircuit}
 use Rattle.rules.specs.Mapper.{andThen, mapCircuit, answerWith, mapper}
 use Rattle.rules.specs.Network.{Network}
 use Rattle.rules.specs.Outcome.{Answer, Outcome, outcome, written, refused}
+use Rattle.rules.specs.Service.{answerText, mapperAnswer}
 use Rattle.rules.specs.Writing.{networkText}
 use Rattle.theorems.specs.SoundCircuits.{read-sound}
 use Rattle.mapped.specs.Agrees.{Delivered, delivered, text-agrees}
-use Rattle.mapped.specs.Statements.{MapsTo, MappedAgrees, MapperAgrees, MappedFits, RefusedKeeps, LaterKept, EarlierBytes, Whole, is-written, is-unreadable, is-refused, is-over, is-too-long, MapperWhole, CapUnmet}
+use Rattle.mapped.specs.Statements.{MapsTo, MappedAgrees, MapperAgrees, MappedFits, RefusedKeeps, LaterKept, EarlierBytes, ServiceAnswer, Whole, is-written, is-unreadable, is-refused, is-over, is-too-long, MapperWhole, CapUnmet}
 use Rattle.mapped.specs.Whole.{comes, whole}
 use Rattle.mapped.specs.Cap.{attempts, mapper-same}
 
@@ -112,6 +113,17 @@ same-answer buffer other same (Good w) = rw same (by (ltb (length other) (length
 pub earlier-bytes-do-not-matter : EarlierBytes
 unfolding mapper
 earlier-bytes-do-not-matter text buffer other same = same-answer buffer other same (andThen (readCircuit text) mapCircuit)
+
+same-text : (o p : Outcome) → o .answer ≡ p .answer → take (count o) (o .buffer) ≡ take (count o) (p .buffer) → answerText o ≡ answerText p
+unfolding answerText
+same-text o p e f = rw (f, e)
+
+pub service-answer : ServiceAnswer
+unfolding mapperAnswer
+service-answer job buffer size =
+    let zeros : List ℕ = replicate 65536 0 in
+    let e = earlier-bytes-do-not-matter job buffer zeros (size ∙ sym (length-replicate {A = ℕ} 65536 0)) in
+    same-text (mapper job buffer) (mapper job zeros) (e .0) (e .1)
 
 pub mapper-whole : (text buffer : List ℕ) → MapperWhole text buffer
 unfolding mapper answerWith

@@ -9,3 +9,4 @@ pub mod Bootstraps
 pub mod Sharing
 pub mod Refusals
 pub mod Buffers
+pub mod Sessions

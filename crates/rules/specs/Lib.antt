@@ -15,4 +15,5 @@ pub mod Cone
 pub mod Store
 pub mod Composition
 pub mod Mapper
+pub mod Service
 pub mod Computed
