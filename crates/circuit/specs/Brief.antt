@@ -7,7 +7,7 @@ use native.Mathlib.Omega.{arith}
 use borrow.Author.Tests.{lt-ltb, leb-false, not-false}
 use lib.Dec.{leb, ltb, eqb, leb→le}
 use lib.ListN.{length}
-use Rattle.laws.specs.Test.{if_then_else_, isSome, or-false-left, or-false-right, is-T, and-left, and-right}
+use Rattle.laws.specs.Test.{if_then_else_, isSome, neither-left, neither-right, is-T, and-left, and-right}
 use Rattle.rules.specs.declared.Settings.{Settings}
 use Rattle.rules.specs.declared.Wire.{Wire}
 use Rattle.rules.specs.declared.Wire.the-variants.{Const, Node}
@@ -102,8 +102,8 @@ limits-small s e =
 gate-told : (n : ℕ) (b : List ℕ) (ws : List Wire) → n ≤ 65536 → anyNoNode n ws ≡ false → matching b ws ≡ true → told (brief n (GateLine b ws)) ≡ GateLine b ws
 unfolding told brief twoWires noWires withWires withWire anyNoNode matching
 gate-told n b [] h a m = absurd (true≢false (sym m))
-gate-told n b (u ∷ []) h a m = ap (λ x. GateLine b (x ∷ [])) (cap-same n u h (or-false-left _ _ a))
-gate-told n b (u ∷ v ∷ []) h a m = ap₂ (λ x y. GateLine b (x ∷ y ∷ [])) (cap-same n u h (or-false-left _ _ a)) (cap-same n v h (or-false-left (noNode n v) false (or-false-right (noNode n u) (noNode n v || false) a)))
+gate-told n b (u ∷ []) h a m = ap (λ x. GateLine b (x ∷ [])) (cap-same n u h (neither-left _ _ a))
+gate-told n b (u ∷ v ∷ []) h a m = ap₂ (λ x y. GateLine b (x ∷ y ∷ [])) (cap-same n u h (neither-left _ _ a)) (cap-same n v h (neither-left (noNode n v) false (neither-right (noNode n u) (noNode n v || false) a)))
 gate-told n b (u ∷ v ∷ w ∷ ws) h a m = absurd (true≢false (sym m ∙ long-unmatched b u v w ws))
 
 pub brief-told : (c : Prefix) (l : CircuitLine) → nodeCount c ≤ 65536 → lowest (conditions c l) ≡ 0 → told (brief (nodeCount c) l) ≡ l

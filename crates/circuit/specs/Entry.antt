@@ -10,11 +10,11 @@ use borrow.Author.Tests.{lt-ltb, le-ltb, not-false}
 use lib.ListN.{length, getD}
 use Rattle.laws.specs.Over.{over}
 use Rattle.laws.specs.Tabulate.{tabulate-length, tabulate-at}
-use Rattle.rules.specs.declared.RunReply.the-variants.{Ran, Unreadable, BadBits, ShortBuffer}
 use Rattle.rules.specs.Circuit as C
 use Rattle.rules.specs.CircuitText.{readCircuit}
 use Rattle.rules.specs.Form as F
-use Rattle.rules.specs.Runs.{RunOutcome, ran, bitsFor, runOn, withValues, runCircuit, runCircuitOn}
+use Rattle.rules.specs.Outcome.{written, refused}
+use Rattle.rules.specs.Runs.{RunOutcome, Numbered, NotBits, NoRoom, ran, bitsFor, runOn, withValues, runCircuit, runCircuitOn}
 use Rattle.text.specs.Gives.{Each}
 use Rattle.circuit.specs.declared.Circuit.{Circuit}
 use Rattle.circuit.specs.declared.Reading.{Reading}
@@ -31,7 +31,7 @@ module _ (gs ps : List ℕ) (c : Circuit) (bits buffer : List ℕ) where
   answer s = runOn (c .inputs) (c .outs) bits buffer (some (C.circuitRun (circuitOf s gs ps c) bits))
 
   module _ (s : List ℕ) (b : Bool) (f : b ≡ bitsFor (c .inputs) bits) where
-    pub run-bad-bits : not b ≡ true → ran BadBits buffer ≡ answer s
+    pub run-bad-bits : not b ≡ true → ran NotBits buffer ≡ answer s
     unfolding runOn
     run-bad-bits k = sym (rw (ap not (sym f) ∙ k))
 
@@ -39,7 +39,7 @@ module _ (gs ps : List ℕ) (c : Circuit) (bits buffer : List ℕ) where
       given : bitsFor (c .inputs) bits ≡ true
       given = sym f ∙ not-false b k
 
-      pub run-short : length buffer < c .outs → ran ShortBuffer buffer ≡ answer s
+      pub run-short : length buffer < c .outs → ran NoRoom buffer ≡ answer s
       unfolding runOn
       run-short l = sym (rw (given, lt-ltb (length buffer) (c .outs) l))
 
@@ -51,7 +51,7 @@ module _ (gs ps : List ℕ) (c : Circuit) (bits buffer : List ℕ) where
       run-is values e = ap (λ v. outputBits v (outputsIn s ps (c .outs))) (sym e) ∙ port-bits values s ps (c .outs)
 
       pub run-ran : (all out : List ℕ) → c .outs ≤ length buffer → all ≡ padded (C.gateValues bits (gatesIn gs (c .inputs) (c .gates)))
-          → out ≡ over (portBits all ps (c .outs)) buffer → ran (Ran (c .outs)) out ≡ answer s
+          → out ≡ over (portBits all ps (c .outs)) buffer → ran (Numbered (written (c .outs))) out ≡ answer s
       unfolding runOn withValues
       run-ran all out l a o =
           let values = C.gateValues bits (gatesIn gs (c .inputs) (c .gates)) in
@@ -59,7 +59,7 @@ module _ (gs ps : List ℕ) (c : Circuit) (bits buffer : List ℕ) where
           = sym (port-bits all s ps (c .outs)) ∙ (ap (λ v. outputBits v (outputsIn s ps (c .outs))) a ∙ (padded-outputs values (outputsIn s ps (c .outs)) ∙ port-bits values s ps (c .outs))) in
           sym
           (rw (given, le-ltb (length buffer) (c .outs) l, run-is values refl)
-          (ap₂ (λ n x. ran (Ran n) x) (ports-many values ps (c .outs)) (sym (o ∙ ap (λ x. over x buffer) q))))
+          (ap₂ (λ n x. ran (Numbered (written n)) x) (ports-many values ps (c .outs)) (sym (o ∙ ap (λ x. over x buffer) q))))
 
 -- ---- The text.
 
@@ -69,7 +69,7 @@ each-at Q (x ∷ l) zero d s h = s .0
 each-at Q (x ∷ l) (suc i) d s h = each-at Q l i d (s .1) (le-of-suc-le-suc h)
 
 module _ (s gs ps bits buffer : List ℕ) (r : Reading) (e : readingOf r s gs ps ≡ readCircuit s) where
-  pub run-unreadable : (k i : ℕ) → r ≡ Refused k i → ran (Unreadable k i) buffer ≡ runCircuit s bits buffer
+  pub run-unreadable : (k i : ℕ) → r ≡ Refused k i → ran (Numbered (refused k i)) buffer ≡ runCircuit s bits buffer
   unfolding runCircuit runCircuitOn
   run-unreadable k i q = sym (ap (λ x. runCircuitOn x bits buffer) (sym e ∙ ap (λ x. readingOf x s gs ps) q))
 

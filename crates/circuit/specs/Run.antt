@@ -13,7 +13,7 @@ use lib.Seq.{getD-take, getD-drop, take-all, take-suc, drop-cons, set-at}
 use Rattle.laws.specs.Front.{front, front-step, Filling, filling-step}
 use Rattle.laws.specs.Tabulate.{tabulate, tabulate-length, tabulate-at, map-tabulate}
 use Rattle.laws.specs.Over.{over, front-over}
-use Rattle.laws.specs.Test.{if_then_else_, is-T, T-is, and-left, and-right, and-both, or-false-left, or-false-right}
+use Rattle.laws.specs.Test.{if_then_else_, is-T, T-is, and-left, and-right, and-both, neither-left, neither-right}
 use Rattle.rules.specs.declared.Wire.{Wire}
 use Rattle.rules.specs.declared.Wire.the-variants.{Const, Node}
 use Rattle.rules.specs.Circuit as C
@@ -116,8 +116,8 @@ module _ (gs : List ℕ) (i : ℕ) (h : SoundGate 128 (gateIn gs 0 i)) where
       v = slotWire (getD gs (6 * i + 1) 0)
 
       by : (b : Bool) → anyNoNode 128 (if b then u ∷ [] else u ∷ v ∷ []) ≡ false → BitWires (if b then u ∷ [] else u ∷ v ∷ []) → (noNode 128 u ≡ false) × (isBitWire u ≡ true)
-      by true e f = (or-false-left (noNode 128 u) false e, f .0)
-      by false e f = (or-false-left (noNode 128 u) _ e, f .0)
+      by true e f = (neither-left (noNode 128 u) false e, f .0)
+      by false e f = (neither-left (noNode 128 u) _ e, f .0)
 
   pub left-slot : getD gs (6 * i) 0 ≤ 129
   left-slot = let l = left-there in slot-small 128 (getD gs (6 * i) 0) (l .0) (l .1)
@@ -128,7 +128,7 @@ module _ (gs : List ℕ) (i : ℕ) (h : SoundGate 128 (gateIn gs 0 i)) where
     right-there =
         let v = slotWire (getD gs (6 * i + 1) 0) in
         let w = two-there two in (
-          or-false-left (noNode 128 v) false (or-false-right (noNode 128 (slotWire (getD gs (6 * i) 0))) _ (subst (λ ws. anyNoNode 128 ws ≡ false) w (h .nodes))),
+          neither-left (noNode 128 v) false (neither-right (noNode 128 (slotWire (getD gs (6 * i) 0))) _ (subst (λ ws. anyNoNode 128 ws ≡ false) w (h .nodes))),
           subst BitWires w (h .consts) .1 .0,
         )
 
@@ -276,7 +276,7 @@ nodes-more : (n m : ℕ) (ws : List Wire) → n ≤ m → anyNoNode n ws ≡ fal
 unfolding anyNoNode
 nodes-more n m [] h e = refl
 nodes-more n m (w ∷ ws) h e =
-    rw (node-more n m w h (or-false-left (noNode n w) (anyNoNode n ws) e)) (nodes-more n m ws h (or-false-right (noNode n w) (anyNoNode n ws) e))
+    rw (node-more n m w h (neither-left (noNode n w) (anyNoNode n ws) e)) (nodes-more n m ws h (neither-right (noNode n w) (anyNoNode n ws) e))
 
 sound-more : (n m : ℕ) (g : C.Gate) → n ≤ m → SoundGate n g → SoundGate m g
 sound-more n m g h s = record { nodes = nodes-more n m (g .wires) h (s .nodes); consts = s .consts; bits = s .bits; shape = s .shape }

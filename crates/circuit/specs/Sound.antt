@@ -8,7 +8,7 @@ use Prim.Native.Nat.{ℕ, suc, _+_, _<_, _≤_}
 use native.Mathlib.Omega.{arith}
 use borrow.Author.Tests.{leb-false, not-false}
 use lib.ListN.{length, length-append}
-use Rattle.laws.specs.Test.{isSome, zero≢one, or-false-left, or-false-right}
+use Rattle.laws.specs.Test.{isSome, zero≢one, neither-left, neither-right}
 use Rattle.rules.specs.declared.Settings.{Settings}
 use Rattle.rules.specs.declared.Wire.{Wire}
 use Rattle.rules.specs.Circuit.{Name, Gate, Output, Circuit}
@@ -122,9 +122,9 @@ keeps i c x (InLine n) e h p =
     let s = p .parts in
     let full = unmet _ _ (omega arith) h in
     let order = unmet _ _ (omega arith) (full .1) in
-    let behind = or-false-right (not (isSome (c .settings))) _ (order .0) in
-    let gates = no-more (c .gates) (or-false-left _ (some? (c .outputs)) behind) in
-    let outputs = no-more (c .outputs) (or-false-right (some? (c .gates)) _ behind) in
+    let behind = neither-right (not (isSome (c .settings))) _ (order .0) in
+    let gates = no-more (c .gates) (neither-left _ (some? (c .outputs)) behind) in
+    let outputs = no-more (c .outputs) (neither-right (some? (c .gates)) _ behind) in
     record {
       limits = p .limits;
       parts = record {
@@ -142,7 +142,7 @@ keeps i c x (GateLine b ws) e h p =
     let order = unmet _ _ (omega arith) (full .1) in
     let nodes = unmet _ _ (omega arith) (order .1) in
     let shape = unmet _ _ (omega arith) (nodes .1) in
-    let outputs = no-more (c .outputs) (or-false-right (not (isSome (c .settings))) _ (order .0)) in
+    let outputs = no-more (c .outputs) (neither-right (not (isSome (c .settings))) _ (order .0)) in
     let said = sound-line x (GateLine b ws) e in
     record {
       limits = p .limits;

@@ -11,7 +11,7 @@ use lib.Dec.{leb, ltb, eqb}
 use lib.ListN.{length, getD, take, drop, set, length-set}
 use lib.Seq.{paste, length-paste, getD-set-same}
 use Rattle.laws.specs.Tabulate.{tabulate, tabulate-length}
-use Rattle.laws.specs.Test.{if_then_else_, if-both, isSome, is-T, T-is, and-right, or-false-left, or-false-right, lt-or-le}
+use Rattle.laws.specs.Test.{if_then_else_, if-both, isSome, is-T, T-is, and-right, neither-left, neither-right, lt-or-le}
 use Rattle.rules.specs.declared.Settings.{Settings}
 use Rattle.rules.specs.declared.Wire.{Wire}
 use Rattle.rules.specs.Builder.{tableLimits}

@@ -11,7 +11,7 @@ use lib.Dec.{leb, ltb, eqb}
 use lib.ListN.{length, getD, take, drop, set, length-set}
 use lib.Seq.{paste, length-paste, getD-set-same}
 use Rattle.laws.specs.Tabulate.{tabulate, tabulate-length}
-use Rattle.laws.specs.Test.{if_then_else_, if-both, isSome, is-T, T-is, and-right, or-false-left, or-false-right, lt-or-le}
+use Rattle.laws.specs.Test.{if_then_else_, if-both, isSome, is-T, T-is, and-right, neither-left, neither-right, lt-or-le}
 use Rattle.rules.specs.declared.Settings.{Settings}
 use Rattle.rules.specs.declared.Wire.{Wire}
 use Rattle.rules.specs.Builder.{tableLimits}
@@ -78,7 +78,7 @@ module _ (i : ℕ) (s gs ps : List ℕ) (c : Circuit) where
       gate-order : (eqb i 1 ≡ false) × (c .outs ≡ 0)
       gate-order =
           let o = unmet _ _ (omega arith) (unmet _ _ (omega arith) (sym g ∙ h) .1) .0 in
-          (not-true (eqb i 1) (not-false _ (or-false-left _ _ o)), none-there _ (or-false-right (not (not (eqb i 1))) _ o))
+          (not-true (eqb i 1) (not-false _ (neither-left _ _ o)), none-there _ (neither-right (not (not (eqb i 1))) _ o))
 
       gate-line : c .inputs + c .gates + 2 ≡ i
       gate-line = let o = gate-order in let j = y .late (other-line i (o .0)) in let m = o .1 in omega arith

@@ -11,7 +11,7 @@ use lib.Dec.{leb, ltb, eqb}
 use lib.ListN.{length, getD, take, drop, set, length-set}
 use lib.Seq.{paste, length-paste, getD-set-same}
 use Rattle.laws.specs.Tabulate.{tabulate, tabulate-length}
-use Rattle.laws.specs.Test.{if_then_else_, if-both, isSome, is-T, T-is, and-right, or-false-left, or-false-right, lt-or-le}
+use Rattle.laws.specs.Test.{if_then_else_, if-both, isSome, is-T, T-is, and-right, neither-left, neither-right, lt-or-le}
 use Rattle.rules.specs.declared.Settings.{Settings}
 use Rattle.rules.specs.declared.Wire.{Wire}
 use Rattle.rules.specs.Builder.{tableLimits}
@@ -54,8 +54,8 @@ module _ (i : ℕ) (s gs ps : List ℕ) (c : Circuit) where
       order : (eqb i 1 ≡ false) × (c .gates ≡ 0) × (c .outs ≡ 0)
       order =
           let o = unmet _ _ (omega arith) (unmet _ _ (omega arith) (sym g ∙ h) .1) .0 in
-          let q = or-false-right (not (not (eqb i 1))) _ o in
-          (not-true (eqb i 1) (not-false _ (or-false-left _ _ o)), none-there _ (or-false-left _ _ q), none-there _ (or-false-right (ltb 0 (c .gates)) _ q))
+          let q = neither-right (not (not (eqb i 1))) _ o in
+          (not-true (eqb i 1) (not-false _ (neither-left _ _ o)), none-there _ (neither-left _ _ q), none-there _ (neither-right (ltb 0 (c .gates)) _ q))
 
       with-input : inputNames s qs (c .inputs + 1) ≡ inputNames s ps (c .inputs) ++ (take (b - a) (drop a s) ∷ [])
           → prefixOf (i + 1) s gs qs (record { settings = c .settings; inputs = c .inputs + 1; gates = c .gates; outs = c .outs })

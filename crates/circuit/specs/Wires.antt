@@ -8,7 +8,7 @@ use native.Mathlib.Omega.{arith}
 use borrow.Author.Tests.{le-leb, lt-leb, ne-eqb}
 use lib.Dec.{eqb}
 use lib.ListN.{length}
-use Rattle.laws.specs.Test.{if_then_else_, if-both, lt-or-le, or-false-left, or-false-right}
+use Rattle.laws.specs.Test.{if_then_else_, if-both, lt-or-le, neither-left, neither-right}
 use Rattle.rules.specs.declared.Wire.{Wire}
 use Rattle.rules.specs.declared.Wire.the-variants.{Const, Node}
 use Rattle.rules.specs.CircuitText.{noNode, anyNoNode, matching}
@@ -104,8 +104,8 @@ fine-more n v w f h =
     record {
       leftBit = if-both (λ u. isBitWire u ≡ true) (eqb (v .count) 0) h (f .leftBit);
       rightBit = if-both (λ u. isBitWire u ≡ true) (eqb (v .count) 1) h (f .rightBit);
-      leftNode = λ e. if-both (λ u. noNode n u ≡ false) (eqb (v .count) 0) (or-false-right (v .astray) (noNode n w) e) (f .leftNode (or-false-left (v .astray) (noNode n w) e));
-      rightNode = λ e. if-both (λ u. noNode n u ≡ false) (eqb (v .count) 1) (or-false-right (v .astray) (noNode n w) e) (f .rightNode (or-false-left (v .astray) (noNode n w) e));
+      leftNode = λ e. if-both (λ u. noNode n u ≡ false) (eqb (v .count) 0) (neither-right (v .astray) (noNode n w) e) (f .leftNode (neither-left (v .astray) (noNode n w) e));
+      rightNode = λ e. if-both (λ u. noNode n u ≡ false) (eqb (v .count) 1) (neither-right (v .astray) (noNode n w) e) (f .rightNode (neither-left (v .astray) (noNode n w) e));
     }
 
 pub cap-bit : (w : Wire) → isBitWire w ≡ true → isBitWire (capWire w) ≡ true

@@ -10,7 +10,7 @@ mod take;
 ghost use mathlib.Core.Path.{_≡_};
 ghost use lib.ListN.{length};
 ghost use Rattle.rules.specs.CircuitText.{readCircuit};
-ghost use Rattle.rules.specs.Runs.{ran, runCircuit};
+ghost use Rattle.rules.specs.Runs.{runReply, ran, runCircuit};
 ghost use Rattle.circuit.specs.View.{readingOf, Held};
 use crate::run::run_read;
 use crate::take::take_line;
@@ -74,7 +74,7 @@ pub fn read(s: &[u8], gates: &mut [u8; 576], ports: &mut [usize; 160]) -> Readin
 
 // The circuit that a text describes, run on a bit for each input.
 pub fn run_circuit(text: &[u8], bits: &[u8], values: &mut [u8]) -> RunReply
-    ensures { λ r. ⌜ ran r (now (values .exit)) ≡ runCircuit (now (text .entry)) (now (bits .entry)) (now (values .entry)) ⌝ }
+    ensures { λ r. ⌜ ran (runReply r) (now (values .exit)) ≡ runCircuit (now (text .entry)) (now (bits .entry)) (now (values .entry)) ⌝ }
 {
     let mut gates = [0u8; 576];
     let mut ports = [0usize; 160];

@@ -8,7 +8,7 @@ ghost use lib.ListN.{length, getD};
 ghost use Rattle.laws.specs.Over.{over};
 ghost use Rattle.rules.specs.Circuit.{wireBit, gateBit, gateValues, circuitRun};
 ghost use Rattle.rules.specs.CircuitText.{noNode};
-ghost use Rattle.rules.specs.Runs.{allBits, bitsFor, ran, runOn};
+ghost use Rattle.rules.specs.Runs.{runReply, allBits, bitsFor, ran, runOn};
 ghost use Rattle.circuit.specs.Run.{padded, GoodPort, Runs, RunsOn, portBits};
 ghost use Rattle.circuit.specs.Sound.{SoundGate};
 ghost use Rattle.circuit.specs.View.{gateIn, gatesIn, circuitOf};
@@ -115,7 +115,7 @@ pub fn run_read(
     values: &mut [u8],
 ) -> RunReply
     requires { ⌜ RunsOn (now gates) (now ports) c ⌝ }
-    ensures { λ r. ⌜ ((s : List ℕ) → ran r (now (values .exit)) ≡ runOn (c .inputs) (c .outs) (now (bits .entry)) (now (values .entry)) (some (circuitRun (circuitOf s (now (gates .entry)) (now (ports .entry)) c) (now (bits .entry))))) ⌝ }
+    ensures { λ r. ⌜ ((s : List ℕ) → ran (runReply r) (now (values .exit)) ≡ runOn (c .inputs) (c .outs) (now (bits .entry)) (now (values .entry)) (some (circuitRun (circuitOf s (now (gates .entry)) (now (ports .entry)) c) (now (bits .entry))))) ⌝ }
 {
     let n = c.outs;
     if !are_bits_for(c.inputs, bits) {
