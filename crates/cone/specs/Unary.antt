@@ -98,7 +98,7 @@ module _ (c : Cone) (is : IsCone c) (k : ℕ) (place : k ≡ natAbs (pos 0 -ℤ 
   some-row = rw (rows-are c) (pow-pos (length (coneOf c .coefficients)))
 
   -- the first row has the value 0
-  first-row : getD (coneOf c .truth) 0 0 ≡ getD (c .known) k 0
+  pub first-row : getD (coneOf c .truth) 0 0 ≡ getD (c .known) k 0
   unfolding rules.values
   first-row =
       truth-entry c 0 some-row
