@@ -59,8 +59,7 @@ pub fn all_equal(c: Cone) -> bool
 {
     let known = c.known;
     let span = c.span();
-    // The first row has the value 0.
-    let first = known[rotation::offset(0, low_of(c))];
+    let first = first_truth(c);
     let mut i = 0;
     while i < span {
         if known[i] != 2 {
