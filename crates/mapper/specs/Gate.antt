@@ -10,11 +10,11 @@ use lib.Dec.{eqb, leb}
 use lib.ListN.{length, getD}
 use Rattle.laws.specs.Test.{if_then_else_, if-both, zero≢one, T-is, is-T}
 use Rattle.rules.specs.Cone as C
-use Rattle.rules.specs.Cone.{Result, ok, err, identity, _>>=_}
+use Rattle.rules.specs.Cone.{Result, ok, err, identity, bootstrapTable}
 use Rattle.rules.specs.Network.{LutNode}
 use Rattle.rules.specs.declared.Settings.{Settings}
 use Rattle.rules.specs.Runs.{allBits}
-use Rattle.rules.specs.Store.{Stored, bootstrapped, bootstrapCone, bootstrapTable, realigned}
+use Rattle.rules.specs.Store.{Stored, bootstrapped, bootstrapCone, realigned}
 use Rattle.theorems.specs.Bits.{bit-at, all-bits-of}
 use Rattle.cone.specs.declared.Cone.{Cone}
 use Rattle.cone.specs.declared.order.Sides.{Sides}
