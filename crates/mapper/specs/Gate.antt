@@ -10,7 +10,8 @@ use lib.Dec.{eqb, leb}
 use lib.ListN.{length, getD}
 use Rattle.laws.specs.Test.{if_then_else_, if-both, zero≢one, T-is, is-T}
 use Rattle.rules.specs.Cone as C
-use Rattle.rules.specs.Cone.{Result, ok, err, identity, bootstrapTable}
+use Rattle.rules.specs.Cone.{Result, ok, err, identity, bootstrapTable, _>>=_}
+use Rattle.rules.specs.Mapper as M
 use Rattle.rules.specs.Network.{LutNode}
 use Rattle.rules.specs.declared.Settings.{Settings}
 use Rattle.rules.specs.Runs.{allBits}
@@ -18,12 +19,13 @@ use Rattle.rules.specs.Store.{Stored, bootstrapped, bootstrapCone, realigned}
 use Rattle.theorems.specs.Bits.{bit-at, all-bits-of}
 use Rattle.cone.specs.declared.Cone.{Cone}
 use Rattle.cone.specs.declared.order.Sides.{Sides}
-use Rattle.cone.specs.View.{coneOf}
-use Rattle.lut.specs.View.{IsStore}
+use Rattle.cone.specs.Order.{sideOf, sidesOf}
+use Rattle.cone.specs.View.{coneOf, IsCone, view-sources}
+use Rattle.lut.specs.View.{storeOf, IsStore}
 use Rattle.mapper.specs.declared.boot.Booted.{Booted}
 use Rattle.mapper.specs.declared.gate.Limited.{Limited}
 use Rattle.mapper.specs.declared.gate.Mapped.{Mapped}
-use Rattle.mapper.specs.View.{Stands, StandsBoth, Grown, Boots, bootedOf, Maps}
+use Rattle.mapper.specs.View.{Stands, StandsBoth, Grown, Boots, bootedOf, limitedOf}
 
 -- ---- Room: a bootstrap may add a sum and a table; a cone of no source or one source stays as it was.
 
@@ -95,3 +97,128 @@ made-one s nodes d (some t) b e = rw (ap (okSupport) e) (omega arith)
 pub moves : (s : Settings) (nodes : List LutNode) (c : C.Cone) (b : Stored) → 1 < length (c .support) → ok b ≡ bootstrapCone s nodes c → length (b .cone .support) ≤ 1
 unfolding bootstrapCone
 moves s nodes c b h e = made-one s nodes (realigned s nodes c) (bootstrapTable (s .p) (realigned s nodes c)) b (rw (lt-leb (length (c .support)) 1 h) at e)
+
+-- ---- what each bootstrap leaves
+
+module _ (c : Cone) (is : IsCone c) (long : length (c .support) ≡ 11) where
+  pub one-source : c .n ≤ 1 → length (coneOf c .support) ≤ 1
+  one-source h = omega (arith, view-sources c is long)
+
+  pub more-sources : 1 < c .n → 1 < length (coneOf c .support)
+  more-sources h = omega (arith, view-sources c is long)
+
+module _ (s : Settings) (count : ℕ) (c : Cone) where
+  pub stays-is : (bytes : List ℕ) → length (coneOf c .support) ≤ 1 → bootedOf bytes (record { number = 0; count = count; cone = c }) ≡ bootstrapCone s (storeOf bytes count) (coneOf c)
+  unfolding bootedOf
+  stays-is bytes h = stays s (storeOf bytes count) (coneOf c) h
+
+  pub stays-spends : (bytes : List ℕ) → IsStore bytes count → Stands count c → Spends count c bytes (record { number = 0; count = count; cone = c })
+  stays-spends bytes store stands =
+      record { store = λ e. store; stands = λ e. stands; least = λ e. omega arith; most = λ e. omega arith }
+
+  pub moves-spends : (bytes : List ℕ) (nodes : List LutNode) (b : Booted) → 1 < length (coneOf c .support) → Boots count bytes b
+      → bootedOf bytes b ≡ bootstrapCone s nodes (coneOf c) → Spends count c bytes b
+  unfolding bootedOf
+  moves-spends bytes nodes b h boots e =
+      record {
+        store = λ z. boots .grown z .store;
+        stands = λ z. boots .stands z;
+        least = λ z. boots .grown z .least;
+        most = most;
+      }
+    where
+      made : b .number ≡ 0 → ok (record { nodes = storeOf bytes (b .count); cone = coneOf (b .cone) }) ≡ bootstrapCone s nodes (coneOf c)
+      made z = rw (eq-eqb (b .number) 0 z) at e
+
+      most : b .number ≡ 0 → b .count + room (coneOf (b .cone)) ≤ count + room (coneOf c)
+      most z =
+          let l = boots .grown z .most in
+          let one = room-none (coneOf (b .cone)) (moves s nodes (coneOf c) _ h (made z)) in
+          let two = room-two (coneOf c) h in
+          omega arith
+
+-- Both sides with the bootstrapped one.
+abbrev pub leftBooted : Booted → Sides → Limited
+leftBooted b w =
+    record {
+      number = b .number;
+      count = b .count;
+      sides = record { left = record { cone = b .cone; new = true }; right = w .right; gate = w .gate; switched = w .switched };
+    }
+
+abbrev pub rightBooted : Booted → Sides → Limited
+rightBooted b w =
+    record {
+      number = b .number;
+      count = b .count;
+      sides = record { left = w .left; right = record { cone = b .cone; new = true }; gate = w .gate; switched = w .switched };
+    }
+
+bind-if : {A B : Type 0} (t : Bool) (a : A) (f : A → B) (k : ℕ) → (if t then ok (f a) else err k) ≡ ((if t then ok a else err k) >>= (λ x. ok (f x)))
+bind-if true a f k = refl
+bind-if false a f k = refl
+
+stands-more : {count more : ℕ} {c : Cone} → count ≤ more → Stands count c → Stands more c
+stands-more h st = record { cone = st .cone; below = record { at = λ i l. let k = st .below .at i l in omega arith } }
+
+module _ (s : Settings) (nodes : List LutNode) (bytes : List ℕ) (b : Booted) (w : Sides) where
+  pub left-is : bootedOf bytes b ≡ bootstrapCone s nodes (coneOf (w .left .cone)) → limitedOf bytes (leftBooted b w) ≡ M.bootstrapLeft s (sidesOf nodes w)
+  unfolding limitedOf bootedOf sidesOf sideOf M.bootstrapLeft
+  left-is e =
+      bind-if (eqb (b .number) 0) (stored b) (onLeft w) (b .number)
+      ∙ ap (λ r. r >>= (λ x. ok (onLeft w x))) e
+    where
+      stored : Booted → Stored
+      stored b = record { nodes = storeOf bytes (b .count); cone = coneOf (b .cone) }
+
+      onLeft : Sides → Stored → M.Sides
+      onLeft w x = record { nodes = x .nodes; left = record { cone = x .cone; new = true }; right = sideOf (w .right); gate = w .gate; switched = w .switched }
+
+  pub right-is : bootedOf bytes b ≡ bootstrapCone s nodes (coneOf (w .right .cone)) → limitedOf bytes (rightBooted b w) ≡ M.bootstrapRight s (sidesOf nodes w)
+  unfolding limitedOf bootedOf sidesOf sideOf M.bootstrapRight
+  right-is e =
+      bind-if (eqb (b .number) 0) (stored b) (onRight w) (b .number)
+      ∙ ap (λ r. r >>= (λ x. ok (onRight w x))) e
+    where
+      stored : Booted → Stored
+      stored b = record { nodes = storeOf bytes (b .count); cone = coneOf (b .cone) }
+
+      onRight : Sides → Stored → M.Sides
+      onRight w x = record { nodes = x .nodes; left = sideOf (w .left); right = record { cone = x .cone; new = true }; gate = w .gate; switched = w .switched }
+
+module _ {count : ℕ} {before : List ℕ} {w : Sides} (r : Ready before count w) where
+  pub left-fits : count + room (coneOf (w .left .cone)) ≤ 672
+  unfolding roomOf
+  left-fits = let f = r .fits in omega arith
+
+  pub right-fits : count + room (coneOf (w .right .cone)) ≤ 672
+  unfolding roomOf
+  right-fits = let f = r .fits in omega arith
+
+  pub left-steps : (bytes : List ℕ) (b : Booted) → Spends count (w .left .cone) bytes b → Steps count w bytes (leftBooted b w)
+  unfolding roomOf
+  left-steps bytes b p =
+      record {
+        ready = λ z. let m = p .most z in let f = r .fits in record {
+              store = p .store z;
+              both = record { left = p .stands z; right = stands-more (p .least z) (r .both .right) };
+              bits = r .bits;
+              fits = omega arith;
+            };
+        least = p .least;
+        most = λ z. let m = p .most z in omega arith;
+      }
+
+  pub right-steps : (bytes : List ℕ) (b : Booted) → Spends count (w .right .cone) bytes b → Steps count w bytes (rightBooted b w)
+  unfolding roomOf
+  right-steps bytes b p =
+      record {
+        ready = λ z. let m = p .most z in let f = r .fits in record {
+              store = p .store z;
+              both = record { left = stands-more (p .least z) (r .both .left); right = p .stands z };
+              bits = r .bits;
+              fits = omega arith;
+            };
+        least = p .least;
+        most = λ z. let m = p .most z in omega arith;
+      }

@@ -1,11 +1,10 @@
+-- `mapper::gate::refused` meets its contract.
+use Rattle.mapper.specs.GateSteps.{refused-is, refused-maps}
 use Rattle.mapper.proofs.gate.refused.Statement.{statement}
 use Rattle.mapper.proofs.gate.refused.Tie as tie
-use Rattle.mapper.proofs.gate.refused.Reads as reads
-use Rattle.mapper.proofs.gate.refused.Lts as lts
 
--- src/gate.rt:69:1
 returns : tie.Need-returns
-returns c = ?
+returns c = (refused-is _ (c .pre), refused-maps _ (c .pre))
 
 pub refused-spec : {M : Type 1} → statement M
 refused-spec = tie.close (tie.spec returns)

@@ -1,26 +1,23 @@
+-- `mapper::sides::limit_second` meets its contract.
+use mathlib.Core.Path.{_≡_, refl, sym, ap, _∙_}
+use Rattle.mapper.specs.View.{limitedOf}
+use Rattle.mapper.specs.GateSteps.{second-not, second-over, steps-none}
 use borrow.Author.Needs.{needs}
 use Rattle.mapper.proofs.sides.limit_second.Statement.{statement}
 use Rattle.mapper.proofs.sides.limit_second.Tie as tie
-use Rattle.mapper.proofs.sides.limit_second.Reads as reads
-use Rattle.mapper.proofs.sides.limit_second.Lts as lts
-use Rattle.mapper.proofs.sides.bootstrap_left.Reads as bootstrap-left-reads
-use Rattle.mapper.proofs.sides.over_limit.Reads as over-limit-reads
 
--- src/sides.rt:151:8
 over-limit-requires : tie.Need-over-limit-requires
 over-limit-requires c κs = search needs
 
--- src/sides.rt:152:9
 bootstrap-left-requires : tie.Need-bootstrap-left-requires
 bootstrap-left-requires c κs = search needs
 
--- src/sides.rt:152:9
 returns : tie.Need-returns
-returns c = ?
+returns c = let o = c .before .before .before .over-limit in (c .bootstrap-left .ensures .0 ∙ second-over _ _ (sym (o .ensures _) ∙ c .before .before .if1 .taken), c .bootstrap-left .ensures .1)
 
--- src/sides.rt:146:1
 returns-2 : tie.Need-returns-2
-returns-2 c = ?
+unfolding limitedOf
+returns-2 c = let o = c .before .over-limit in let s = c .before .before in (second-not _ _ (sym (o .ensures _) ∙ c .if1 .left), steps-none (s .pre .1))
 
 pub limit-second-spec : {M : Type 1} → statement M
 limit-second-spec =

@@ -1,17 +1,18 @@
+-- `mapper::sides::over_limit` meets its contract.
+use mathlib.Core.Path.{_≡_, refl, sym, ap, _∙_}
+use lib.Dec.{ltb}
+use Rattle.cone.specs.Order.{sideOf, sidesOf}
+use Rattle.rules.specs.Mapper as M
 use borrow.Author.Needs.{needs}
 use Rattle.mapper.proofs.sides.over_limit.Statement.{statement}
 use Rattle.mapper.proofs.sides.over_limit.Tie as tie
-use Rattle.mapper.proofs.sides.over_limit.Reads as reads
-use Rattle.mapper.proofs.sides.over_limit.Lts as lts
-use Rattle.mapper.proofs.sides.union_size.Reads as union-size-reads
 
--- src/sides.rt:76:11
 union-size-requires : tie.Need-union-size-requires
 union-size-requires c κs = search needs
 
--- src/sides.rt:68:1
 returns : tie.Need-returns
-returns c = ?
+unfolding M.overLimit sidesOf sideOf
+returns c = λ nodes. ap (ltb (c .before .before .before .before .before .before .args .s .t)) (c .before .union-size .ensures)
 
 pub over-limit-spec : {M : Type 1} → statement M
 over-limit-spec = tie.close (tie.spec union-size-requires returns)
