@@ -2,13 +2,14 @@
 use mathlib.Core.Path.{_≡_, refl, sym, ap, subst, _∙_}
 use mathlib.Core.Bool.{Bool, true, false}
 use mathlib.Core.List.{List, [], _∷_}
-use Prim.Native.Nat.{ℕ, zero, suc, _+_, _≤_, _<_}
+use Prim.Native.Nat.{ℕ, zero, suc, _+_, _*_, _≤_, _<_}
 use native.Mathlib.Nat.{not-suc-le-zero}
+use native.Mathlib.Numerals.{add-one}
 use native.Mathlib.Omega.{arith}
 use borrow.Author.Tests.{eq-eqb, ne-eqb}
 use lib.Dec.{eqb}
-use lib.ListN.{length, getD}
-use Rattle.laws.specs.Test.{if_then_else_, T-is, is-T}
+use lib.ListN.{length, getD, take, drop}
+use Rattle.laws.specs.Test.{if_then_else_, zero≢one, T-is, is-T}
 use Rattle.rules.specs.Cone as C
 use Rattle.rules.specs.Composition.{allEqual}
 use Rattle.rules.specs.Cone.{Result, ok, err, _>>=_}
@@ -21,13 +22,14 @@ use Rattle.theorems.specs.Truths.{throughGate}
 use Rattle.cone.specs.declared.Cone.{Cone}
 use Rattle.cone.specs.declared.order.Sides.{Sides}
 use Rattle.cone.specs.Order.{sideOf, sidesOf}
-use Rattle.cone.specs.View.{coneOf, IsCone}
+use Rattle.cone.specs.declared.Constant.the-variants.{Bit, No}
+use Rattle.cone.specs.View.{coneOf, IsCone, constantOf}
 use Rattle.lut.specs.View.{storeOf, IsStore}
 use Rattle.mapper.specs.declared.gate.Limited.{Limited}
 use Rattle.mapper.specs.declared.gate.Mapped.{Mapped}
 use Rattle.mapper.specs.declared.pair.Tried.{Tried}
 use Rattle.mapper.specs.View.{Below, Stands, StandsBoth, Grown, Maps, limitedOf, triedOf, mappedOf}
-use Rattle.mapper.specs.Gate.{room, roomOf, Ready, Steps, Same}
+use Rattle.mapper.specs.Gate.{room, roomOf, roomOf-most, Ready, Steps, Same}
 
 -- ---- the inputs limit
 
@@ -257,3 +259,50 @@ through-stands count c d gate is e st =
 pub constant-stands : (count : ℕ) (d : Cone) (bit : ℕ) → IsCone d → coneOf d ≡ C.constant bit → Stands count d
 unfolding C.constant
 constant-stands count d bit is e = record { cone = is; below = subst (λ x. Below count x) (sym e) (record { at = λ i h. absurd (not-suc-le-zero h) }) }
+
+pub first-ready : (bytes : List ℕ) (count : ℕ) (left right : Cone) (gate : List ℕ) (w : Sides) → Same left right gate w → IsStore bytes count → count + 4 ≤ 672 → Stands count left
+    → Stands count right → allBits gate ≡ true → Ready bytes count w
+first-ready bytes count left right gate w same store h l r b =
+    record { store = store; both = same .stands count l r; bits = same .bits b; fits = omega (arith, roomOf-most w) }
+
+-- ---- a constant side
+
+pub bit-of : (c : C.Cone) (v : ℕ) → Bit v ≡ constantOf c → (M.isConstant c ≡ true) × (v ≡ M.constantValue c)
+unfolding constantOf
+bit-of c v e = by (M.isConstant c) refl e
+  where
+    by : (t : Bool) → M.isConstant c ≡ t → Bit v ≡ (if t then Bit (M.constantValue c) else No) → (M.isConstant c ≡ true) × (v ≡ M.constantValue c)
+    by true f g = (f, cc)
+    by false f g = absurd (zero≢one (cc))
+
+pub no-of : (c : C.Cone) → No ≡ constantOf c → M.isConstant c ≡ false
+unfolding constantOf
+no-of c e = by (M.isConstant c) refl e
+  where
+    by : (t : Bool) → M.isConstant c ≡ t → No ≡ (if t then Bit (M.constantValue c) else No) → M.isConstant c ≡ false
+    by true f g = absurd (zero≢one (cc))
+    by false f g = f
+
+two-of : (l : List ℕ) (n : ℕ) → n + 2 ≤ length l → getD l n 0 ∷ getD l (suc n) 0 ∷ [] ≡ take 2 (drop n l)
+two-of (a ∷ b ∷ l) zero h = refl
+two-of (a ∷ []) zero h = absurd (omega arith)
+two-of [] n h = absurd (omega arith)
+two-of (a ∷ l) (suc n) h = two-of l n (omega arith)
+
+module _ (s : Settings) (nodes : List LutNode) (left right : C.Cone) (gate : List ℕ) where
+  pub two-left : (v : ℕ) → M.isConstant left ≡ true → v ≡ M.constantValue left → v ≤ 1 → length gate ≡ 4
+      → M.mapUnaryGate s nodes right (getD gate (2 * v) 0 ∷ getD gate (2 * v + 1) 0 ∷ []) ≡ M.mapGate s nodes (left ∷ right ∷ []) gate
+  unfolding M.mapGate
+  two-left v c e h l =
+      rw c
+      (ap (M.mapUnaryGate s nodes right)
+      (ap (λ n. getD gate (2 * v) 0 ∷ getD gate n 0 ∷ []) (add-one (2 * v)) ∙ two-of gate (2 * v) (omega arith) ∙ ap (λ n. take 2 (drop (2 * n) gate)) e))
+
+  pub two-right : (v : ℕ) → M.isConstant left ≡ false → M.isConstant right ≡ true → v ≡ M.constantValue right
+      → M.mapUnaryGate s nodes left (getD gate v 0 ∷ getD gate (2 + v) 0 ∷ []) ≡ M.mapGate s nodes (left ∷ right ∷ []) gate
+  unfolding M.mapGate
+  two-right v n c e = rw (n, c) (ap (λ k. M.mapUnaryGate s nodes left (getD gate k 0 ∷ getD gate (2 + k) 0 ∷ [])) e)
+
+  pub two-binary : M.isConstant left ≡ false → M.isConstant right ≡ false → M.mapBinaryGate s nodes left right gate ≡ M.mapGate s nodes (left ∷ right ∷ []) gate
+  unfolding M.mapGate
+  two-binary n m = rw (n, m)

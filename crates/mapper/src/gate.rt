@@ -233,7 +233,7 @@ pub fn map_two(
     let r = right.constant_value();
     if let Constant::Bit(v) = r {
         let at = v as usize;
-        return map_unary(s, count, left, gate[at], gate[at + 2]);
+        return map_unary(s, count, left, gate[at], gate[2 + at]);
     }
     map_binary(s, nodes, count, left, right, gate)
 }

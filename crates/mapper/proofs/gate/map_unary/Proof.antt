@@ -1,79 +1,65 @@
+-- `mapper::gate::map_unary` meets its contract.
+use mathlib.Core.Path.{_≡_, refl, sym, ap, _∙_}
+use native.Mathlib.Omega.{arith}
+use Rattle.rules.specs.Mapper as M
+use Rattle.rules.specs.Cone as C
+use Rattle.cone.specs.Valid.{validityOf}
+use Rattle.cone.specs.View.{coneOf, truth-bit}
+use Rattle.mapper.specs.GateSteps.{unary-equal, unary-judged, through-stands, constant-stands}
 use borrow.Author.Needs.{needs}
 use Rattle.mapper.proofs.gate.map_unary.Statement.{statement}
 use Rattle.mapper.proofs.gate.map_unary.Tie as tie
-use Rattle.mapper.proofs.gate.map_unary.Reads as reads
-use Rattle.mapper.proofs.gate.map_unary.Lts as lts
-use Rattle.cone.proofs.Cone.constant.Reads as constant-reads
-use Rattle.cone.proofs.unary.all_equal.Reads as all-equal-reads
-use Rattle.cone.proofs.unary.apply_unary.Reads as apply-unary-reads
-use Rattle.cone.proofs.unary.first_truth.Reads as first-truth-reads
-use Rattle.cone.proofs.valid.validate_cone.Reads as validate-cone-reads
-use Rattle.mapper.proofs.gate.refused.Reads as refused-reads
-use Rattle.mapper.proofs.gate.unchanged.Reads as unchanged-reads
 
--- src/gate.rt:93:9
 apply-unary-requires : tie.Need-apply-unary-requires
 apply-unary-requires c κs = search needs
 
--- src/gate.rt:94:8
 all-equal-requires : tie.Need-all-equal-requires
 all-equal-requires c κs = search needs
 
--- src/gate.rt:95:48
 first-truth-requires : tie.Need-first-truth-requires
 first-truth-requires c κs = search needs
 
--- src/gate.rt:95:33
 constant-requires : tie.Need-constant-requires
-constant-requires c κs = ?
+constant-requires c κs = let d = c .before .before .before .apply-unary in omega (arith, c .first-truth .ensures, truth-bit (d .result) (d .ensures .0) 0)
 
--- src/gate.rt:95:9
 unchanged-requires : tie.Need-unchanged-requires
 unchanged-requires c κs = search needs
 
--- src/gate.rt:95:9
 returns : tie.Need-returns
-returns c = ?
+returns c = let s = c .before .before .before .before .before .before in let d = c .before .before .before .before .before .apply-unary in let k = c .before .constant in (λ bytes. c .unchanged .ensures .0 bytes ∙ ap (M.unchanged _) (k .ensures .1 ∙ ap C.constant (c .before .before .first-truth .ensures)) ∙ unary-equal (s .args .s) _ (coneOf (s .args .c)) (coneOf (d .result)) _ (d .ensures .1) (sym (c .before .before .before .before .all-equal .ensures) ∙ c .before .before .before .if1 .taken), λ bytes st. c .unchanged .ensures .1 bytes st (constant-stands _ _ _ (k .ensures .0) (k .ensures .1)))
 
--- src/gate.rt:97:9
 validate-cone-requires : tie.Need-validate-cone-requires
 validate-cone-requires c κs = search needs
 
--- src/gate.rt:99:28
 enum-told : tie.Need-enum-told
 enum-told c = search needs
 
--- src/gate.rt:99:28
 unchanged-requires-2 : tie.Need-unchanged-requires-2
 unchanged-requires-2 c κs = search needs
 
--- src/gate.rt:100:31
 enum-told-2 : tie.Need-enum-told-2
 enum-told-2 c = search needs
 
--- src/gate.rt:100:31
 refused-requires : tie.Need-refused-requires
 refused-requires c κs = search needs
 
--- src/gate.rt:101:30
 enum-told-3 : tie.Need-enum-told-3
 enum-told-3 c = search needs
 
--- src/gate.rt:101:30
 refused-requires-2 : tie.Need-refused-requires-2
 refused-requires-2 c κs = search needs
 
--- src/gate.rt:88:1
 returns-2 : tie.Need-returns-2
-returns-2 c = ?
+unfolding validityOf
+returns-2 c = let s = c .before .before .before .before .before .before .before in let d = c .before .before .before .before .before .before .apply-unary in let v = c .before .before .before .validate-cone in (λ bytes. c .unchanged2 .ensures .0 bytes ∙ unary-judged (s .args .s) _ (coneOf (s .args .c)) (coneOf (d .result)) _ (d .ensures .1) (C.ok (coneOf (d .result))) (sym (c .before .before .before .before .before .all-equal .ensures) ∙ c .before .before .before .before .if1 .left) (ap (validityOf (coneOf (d .result))) (sym (c .before .enum-told .given .1)) ∙ v .ensures), λ bytes st. c .unchanged2 .ensures .1 bytes st (through-stands _ _ _ _ (d .ensures .0) (d .ensures .1) (s .pre .1 .0)))
 
--- src/gate.rt:88:1
 returns-3 : tie.Need-returns-3
-returns-3 c = ?
+unfolding validityOf
+returns-3 c = let s = c .before .before .before .before .before .before .before in let d = c .before .before .before .before .before .before .apply-unary in let v = c .before .before .before .validate-cone in (λ bytes. c .refused .ensures .0 bytes ∙ unary-judged (s .args .s) _ (coneOf (s .args .c)) (coneOf (d .result)) _ (d .ensures .1) (C.err 8) (sym (c .before .before .before .before .before .all-equal .ensures) ∙ c .before .before .before .before .if1 .left) (ap (validityOf (coneOf (d .result))) (sym (c .before .enum-told2 .given .1)) ∙ v .ensures), λ bytes st. c .refused .ensures .1 _ _ bytes)
 
--- src/gate.rt:88:1
 returns-4 : tie.Need-returns-4
-returns-4 c = ?
+unfolding validityOf
+returns-4 c = let s = c .before .before .before .before .before .before .before in let d = c .before .before .before .before .before .before .apply-unary in let v = c .before .before .before .validate-cone in (λ bytes. c .refused2 .ensures .0 bytes ∙ unary-judged (s .args .s) _ (coneOf (s .args .c)) (coneOf (d .result)) _ (d .ensures .1) (C.err 10) (sym (c .before .before .before .before .before .all-equal .ensures) ∙ c .before .before .before .before .if1 .left) (ap (validityOf (coneOf (d .result))) (sym (c .before .enum-told3 .given .1)) ∙ v .ensures), λ bytes st. c .refused2 .ensures .1 _ _ bytes)
 
 pub map-unary-spec : {M : Type 1} → statement M
 map-unary-spec =

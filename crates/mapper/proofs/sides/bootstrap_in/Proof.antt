@@ -1,5 +1,6 @@
 -- `mapper::sides::bootstrap_in` meets its contract.
 use native.Mathlib.Omega.{arith}
+use mathlib.Core.Path.{_≡_}
 use Prim.Native.Nat.{_<_}
 use borrow.Author.Needs.{needs}
 use lib.ListN.{length}

@@ -25,7 +25,7 @@ switch-inputs-requires : tie.Need-switch-inputs-requires
 switch-inputs-requires c κs = search needs
 
 limit-second-requires : tie.Need-limit-second-requires
-limit-second-requires c κs = let s = c .before .before .before .before .before .before .before .before in let q = c .before .before .before .before .before .bootstrap-left in (s .pre .0, switched-ready _ _ (c .switch-inputs .ensures .0) (c .switch-inputs .ensures .1) _ _ (q .ensures .1 .ready (c .before .before .before .if2 .left)))
+limit-second-requires c κs = let s = c .before .before .before .before .before .before .before .before .before in let q = c .before .before .before .before .before .bootstrap-left in (s .pre .0, switched-ready _ _ (c .switch-inputs .ensures .0) (c .switch-inputs .ensures .1) _ _ (q .ensures .1 .ready (c .before .before .before .if2 .left)))
 
 returns-3 : tie.Need-returns-3
 returns-3 c = let q = c .before .before .before .before .before .before .bootstrap-left in let w = c .before .switch-inputs in let z = c .before .before .before .before .if2 .left in let o = c .before .before .before .before .before .before .before .before .before .over-limit in (c .limit-second .ensures .0 ∙ ap (M.limitSecond _) (w .ensures .0 _) ∙ sources-on _ _ _ _ (sym (o .ensures _) ∙ not-false (o .result) (c .before .before .before .before .before .before .before .before .if1 .left)) z (q .ensures .0), steps-on _ _ (w .ensures .0) (w .ensures .1) _ _ _ _ _ (q .ensures .1 .least z) (q .ensures .1 .most z) (c .limit-second .ensures .1))
