@@ -92,20 +92,21 @@ module _ (c : Cone) (is : IsCone c) (a b : ℕ) (ha : a ≤ 1) (hb : b ≤ 1) (k
   pub through : IsCone built × (coneOf built ≡ throughGate (coneOf c) (a ∷ b ∷ []))
   through = (fine, seen)
 
--- ---- whether all rows have one truth
-module _ (c : Cone) (is : IsCone c) (k : ℕ) (place : k ≡ natAbs (pos 0 -ℤ least (rules.values (coneOf c)))) where
+-- ---- the first row's truth, and whether all rows have it
+module _ (c : Cone) (k : ℕ) (place : k ≡ natAbs (pos 0 -ℤ least (rules.values (coneOf c)))) where
   some-row : 0 < length (rules.values (coneOf c))
   some-row = rw (rows-are c) (pow-pos (length (coneOf c .coefficients)))
 
   -- the first row has the value 0
-  first-row : getD (coneOf c .truth) 0 0 ≡ getD (c .known) k 0
+  pub first-row : getD (coneOf c .truth) 0 0 ≡ getD (c .known) k 0
   unfolding rules.values
   first-row =
       truth-entry c 0 some-row
       ∙ ap (λ v. getD (c .known) (natAbs (v -ℤ least (rules.values (coneOf c)))) 0) (table-first (coneOf c .coefficients))
       ∙ ap (λ n. getD (c .known) n 0) (sym place)
 
-  pub all-are : ((j : ℕ) → j < rules.coneSpan (coneOf c) → getD (c .known) j 0 ≢ 2 → getD (c .known) j 0 ≡ getD (c .known) k 0) → true ≡ allEqual (coneOf c .truth)
+module _ (c : Cone) (is : IsCone c) (first : ℕ) (is-first : first ≡ getD (coneOf c .truth) 0 0) where
+  pub all-are : ((j : ℕ) → j < rules.coneSpan (coneOf c) → getD (c .known) j 0 ≢ 2 → getD (c .known) j 0 ≡ first) → true ≡ allEqual (coneOf c .truth)
   unfolding rules.coneSpan
   all-are same = sym (allEqual-true (coneOf c .truth) (λ i h. at i (rw (truth-length c) h)))
     where
@@ -113,9 +114,9 @@ module _ (c : Cone) (is : IsCone c) (k : ℕ) (place : k ≡ natAbs (pos 0 -ℤ 
       at i h =
           let e = truth-entry c i h in
           let b = row-bit c is i h in
-          e ∙ same (offset (least (rules.values (coneOf c))) (rules.values (coneOf c)) i) (offset-lt (rules.values (coneOf c)) i h) (λ q. omega arith) ∙ sym first-row
+          e ∙ same (offset (least (rules.values (coneOf c))) (rules.values (coneOf c)) i) (offset-lt (rules.values (coneOf c)) i h) (λ q. omega arith) ∙ is-first
 
-  pub one-differs : (j : ℕ) → j < rules.coneSpan (coneOf c) → getD (c .known) j 0 ≢ 2 → getD (c .known) j 0 ≢ getD (c .known) k 0 → false ≡ allEqual (coneOf c .truth)
+  pub one-differs : (j : ℕ) → j < rules.coneSpan (coneOf c) → getD (c .known) j 0 ≢ 2 → getD (c .known) j 0 ≢ first → false ≡ allEqual (coneOf c .truth)
   unfolding rules.coneSpan
   one-differs j h n d =
       ⊎-elim
@@ -123,6 +124,6 @@ module _ (c : Cone) (is : IsCone c) (k : ℕ) (place : k ≡ natAbs (pos 0 -ℤ 
       let r = hit-row (least (rules.values (coneOf c))) (rules.values (coneOf c)) j e in
       sym
       (allEqual-false (coneOf c .truth) (r .0) (rw (← truth-length c) (r .1))
-      (λ q. d (sym (truth-entry c (r .0) (r .1) ∙ ap (λ m. getD (c .known) m 0) (r .2)) ∙ q ∙ first-row))))
+      (λ q. d (sym (truth-entry c (r .0) (r .1) ∙ ap (λ m. getD (c .known) m 0) (r .2)) ∙ q ∙ sym is-first))))
       (λ (e : hits (least (rules.values (coneOf c))) (rules.values (coneOf c)) j ≡ false). absurd (n (unknown c is j h e)))
       (decide (hits (least (rules.values (coneOf c))) (rules.values (coneOf c)) j))

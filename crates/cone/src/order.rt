@@ -52,7 +52,8 @@ pub struct Sides {
 
 // switch_inputs: the gate's answers 1 and 2 are exchanged too.
 pub fn switch_inputs(s: Sides) -> Sides
-    ensures { λ r. ⌜ ((nodes : List LutNode) → sidesOf nodes r ≡ switchInputs (sidesOf nodes s)) ⌝ }
+    ensures is { λ r. ⌜ ((nodes : List LutNode) → sidesOf nodes r ≡ switchInputs (sidesOf nodes s)) ⌝ }
+    ensures places { λ r. ⌜ (r .left ≡ s .right) × (r .right ≡ s .left) ⌝ }
 {
     let left = s.left;
     let right = s.right;

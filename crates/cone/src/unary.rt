@@ -4,6 +4,7 @@ use crate::table::low_of;
 ghost use mathlib.Core.Path.{_≡_};
 ghost use mathlib.Core.List.{[], _∷_};
 ghost use Prim.Native.Nat.{_≤_};
+ghost use lib.ListN.{getD};
 ghost use Rattle.rules.specs.Composition.{allEqual};
 ghost use Rattle.cone.specs.View.{coneOf, IsCone};
 ghost use Rattle.cone.specs.Unary.{answered};
@@ -41,6 +42,16 @@ pub fn apply_unary(c: Cone, zero: u8, one: u8) -> Cone
     }
 }
 
+// The first row's truth.
+pub fn first_truth(c: Cone) -> u8
+    requires { ⌜ IsCone c ⌝ }
+    ensures { λ r. ⌜ r ≡ getD (coneOf c .truth) 0 0 ⌝ }
+{
+    let known = c.known;
+    // The first row has the value 0.
+    known[rotation::offset(0, low_of(c))]
+}
+
 // all_equal: the first row's truth is the truth at every value that a row has.
 pub fn all_equal(c: Cone) -> bool
     requires { ⌜ IsCone c ⌝ }
@@ -48,8 +59,7 @@ pub fn all_equal(c: Cone) -> bool
 {
     let known = c.known;
     let span = c.span();
-    // The first row has the value 0.
-    let first = known[rotation::offset(0, low_of(c))];
+    let first = first_truth(c);
     let mut i = 0;
     while i < span {
         if known[i] != 2 {

@@ -2,3 +2,4 @@
 pub mod boot;
 pub mod gate;
 pub mod pair;
+pub mod sides;

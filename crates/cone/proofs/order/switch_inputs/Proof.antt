@@ -8,7 +8,7 @@ use Rattle.cone.proofs.order.switch_inputs.Tie as tie
 
 returns : tie.Need-returns
 unfolding sidesOf switchInputs
-returns c = λ nodes. refl
+returns c = (λ nodes. refl, (refl, refl))
 
 pub switch-inputs-spec : {M : Type 1} → statement M
 switch-inputs-spec =

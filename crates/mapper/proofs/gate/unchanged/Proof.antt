@@ -1,0 +1,15 @@
+-- `mapper::gate::unchanged` meets its contract.
+use mathlib.Core.Path.{refl}
+use Rattle.rules.specs.Mapper as M
+use Rattle.cone.specs.Order.{sideOf}
+use Rattle.mapper.specs.View.{mappedOf}
+use Rattle.mapper.specs.GateSteps.{kept-maps, grown-none}
+use Rattle.mapper.proofs.gate.unchanged.Statement.{statement}
+use Rattle.mapper.proofs.gate.unchanged.Tie as tie
+
+returns : tie.Need-returns
+unfolding mappedOf sideOf M.unchanged M.update
+returns c = (λ bytes. refl, λ bytes st sd. kept-maps _ _ bytes _ (grown-none bytes _ st) sd sd sd)
+
+pub unchanged-spec : {M : Type 1} → statement M
+unchanged-spec = tie.close (tie.spec returns)
