@@ -1,2 +1,3 @@
 -- What the mapper's structs stand for, and the laws that its code is proved by.
+pub mod Boot
 pub mod View
