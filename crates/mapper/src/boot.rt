@@ -1,4 +1,5 @@
 // Bootstrapping a cone: its sum and its table go into the store, and the cone of the bootstrap's node takes its place.
+use crate::form::realign;
 use cone::Cone;
 use lut::Signal;
 use lut::Terms;
@@ -75,9 +76,13 @@ pub fn bootstrap_cone(s: Settings, nodes: &mut [u8; 25536], count: usize, c: Con
     ensures is { λ r. ⌜ bootedOf (now (nodes .exit)) r ≡ bootstrapCone s (storeOf (now (nodes .entry)) count) (coneOf c) ⌝ }
     ensures stands { λ r. ⌜ Boots count (now (nodes .exit)) r ⌝ }
 {
-    Booted {
-        number: 0,
-        count,
-        cone: c,
+    if c.n <= 1 {
+        return Booted {
+            number: 0,
+            count,
+            cone: c,
+        };
     }
+    let d = realign(s, nodes, count, c);
+    materialize(s, nodes, count, d)
 }
