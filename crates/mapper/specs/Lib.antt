@@ -1,4 +1,6 @@
 -- What the mapper's structs stand for, and the laws that its code is proved by.
+pub mod Boot
+pub mod Form
 pub mod View
 pub mod Gate
 pub mod GateSteps

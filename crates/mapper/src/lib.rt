@@ -1,5 +1,6 @@
 // The mapper: each gate's cone, bootstraps where they are needed, and the network's text.
 pub mod boot;
+pub mod form;
 pub mod gate;
 pub mod pair;
 pub mod sides;

@@ -33,7 +33,7 @@ pub record SumOf (left right : List ℤ) (sources : List ℕ) (c : Pair) (t : Te
   pub sources-are : t .sources ≡ sources
 
 -- ---- laws
-fine-zip : (count : ℕ) (cs : List ℤ) (ns : List ℕ) → Within 31 cs → ((i : ℕ) → i < length ns → getD ns i 0 < count) → FineTerms count (zipWith term cs ns)
+pub fine-zip : (count : ℕ) (cs : List ℤ) (ns : List ℕ) → Within 31 cs → ((i : ℕ) → i < length ns → getD ns i 0 < count) → FineTerms count (zipWith term cs ns)
 unfolding FineTerms zipWith term
 fine-zip count [] ns w h = tt
 fine-zip count (c ∷ cs) [] w h = tt

@@ -1,0 +1,314 @@
+-- A cone by the coefficients of a sum that is bootstrapped already: what its code does, step by step.
+use mathlib.Core.Path.{_≡_, refl, sym, ap, ap₂, subst, _∙_}
+use mathlib.Core.Bool.{Bool, true, false, _&&_, true≢false}
+use mathlib.Core.List.{List, [], _∷_, map}
+use mathlib.Core.Option.{Option, none, some}
+use Prim.Native.Nat.{ℕ, zero, suc, _+_, _*_, _≤_, _<_, _^_}
+use native.Mathlib.Omega.{arith}
+use borrow.Author.Tests.{lt-leb, leb-true}
+use lib.Dec.{leb, eqb}
+use lib.IntN.{ℤ, pos, natAbs}
+use lib.ListN.{length, getD, take, drop, drop-of-length-le}
+use lib.Seq.{drop-cons, ext-getD, getD-take, length-take-le}
+use native.Mathlib.Numerals.{add-one}
+use Rattle.laws.specs.Select.{select}
+use Rattle.laws.specs.Test.{if_then_else_, isSome, if-both, both-left, both-right}
+use Rattle.rules.specs.declared.Settings.{Settings}
+use Rattle.rules.specs.Builder.{knownEntries, tableLimits}
+use Rattle.rules.specs.CircuitText.{inLimits}
+use Rattle.rules.specs.Cone as C
+use Rattle.rules.specs.Cone.{Candidate, linearTable, values, coneSpan, completed, bootstrapTable, isLutValid, withinNorm, norm2, fits, better, bestFrom, best}
+use Rattle.rules.specs.Network.{Term, LutNode, Input, Linear, Bootstrap, bootSources}
+use Rattle.rules.specs.NetworkText.{nodeAt, allDifferent}
+use Rattle.rules.specs.Span.{least, span}
+use Rattle.rules.specs.Store.{termsOf, coefficientOf, sameSources, bootstrapInputs, bootstrapForms, withForm, ranked, coneOr, realigned}
+use Rattle.theorems.specs.KnownRows.{known-hit}
+use Rattle.theorems.specs.Rows.{offset}
+use Rattle.theorems.specs.Spans.{offset-lt}
+use Rattle.cone.specs.declared.Cone.{Cone}
+use Rattle.scale.specs.Limits.{Within}
+use Rattle.cone.specs.Table.{table-length}
+use Rattle.cone.specs.View.{coneOf, IsCone, truth-length, truth-entry, view-rows}
+use Rattle.lut.specs.declared.forms.Aligned.{Aligned}
+use Rattle.lut.specs.Forms.{formTerms, FormOf, NodesTo}
+use Rattle.lut.specs.View.{nodeOf, storeOf, store-length, at-store, Fine, FineTerms, IsStore}
+use Rattle.mapper.specs.declared.form.Entered.{Entered}
+use Rattle.mapper.specs.declared.form.Form.{Form}
+use Rattle.mapper.specs.View.{Below, Stands}
+
+-- ---- What the structs stand for.
+
+unfoldable pub entriesOf : ℕ → Entered → Option (List ℕ)
+entriesOf span e = if e .ok then some (take span (e .known)) else none
+
+unfoldable pub candidateIn : Form → Option Candidate
+candidateIn f = if f .found then some (ranked (coneOf (f .cone))) else none
+
+-- A form of c: its sources are c's, and it is c itself where none was found.
+pub record Kept (c : Cone) (f : Form) : Type 0 where
+  pub is : IsCone (f .cone)
+  pub support : coneOf (f .cone) .support ≡ coneOf c .support
+  pub same : f .found ≡ false → f .cone ≡ c
+
+-- ---- A turn over the nodes.
+
+-- the cone with other coefficients
+unfoldable pub reformed : C.Cone → List ℤ → C.Cone
+reformed c cs = record { support = c .support; coefficients = cs; truth = c .truth }
+
+unfoldable pub fitting : Settings → C.Cone → Option Candidate
+fitting s c = if fits s c then some (ranked c) else none
+
+unfoldable pub betterOf : Option Candidate → Option Candidate → Option Candidate
+betterOf d none = d
+betterOf d (some c) = some (better d c)
+
+unfoldable pub turned : Settings → C.Cone → Option Candidate → Option (List Term) → Option Candidate
+turned s c d none = d
+turned s c d (some ts) = if sameSources (c .support) ts then betterOf d (fitting s (withForm c ts)) else d
+
+-- the candidates that some of the nodes give
+unfoldable pub candidatesFrom : Settings → List LutNode → C.Cone → List LutNode → List Candidate
+candidatesFrom s nodes c l = map ranked (select (fits s) (map (withForm c) (select (sameSources (c .support)) (map termsOf (map (nodeAt nodes) (bootSources l))))))
+
+-- the best so far and what the nodes from i on give is the best of all
+pub record Walked (s : Settings) (nodes : List LutNode) (c : Cone) (i : ℕ) (f : Form) : Type 0 where
+  pub kept : Kept c f
+  pub rest : bestFrom (candidateIn f) (candidatesFrom s nodes (coneOf c) (drop i nodes)) ≡ best (candidatesFrom s nodes (coneOf c) nodes)
+
+-- ---- laws: entries that agree, or not
+
+pub entries-clash : (n : ℕ) (e : Entered) (o : Option (List ℕ)) → entriesOf n e ≡ o → e .ok ≡ false → o ≡ none
+unfolding entriesOf
+entries-clash n e o f g = sym f ∙ rw g
+
+pub entries-agree : (n : ℕ) (e : Entered) (o : Option (List ℕ)) → entriesOf n e ≡ o → e .ok ≡ true → o ≡ some (take n (e .known))
+unfolding entriesOf
+entries-agree n e o f g = sym f ∙ rw g
+
+-- ---- laws: a cone by its known entries
+
+module _ (d : Cone) (T : List ℕ) (rows : length (values (coneOf d)) ≡ length T)
+    (f : knownEntries (values (coneOf d)) T ≡ some (take (coneSpan (coneOf d)) (d .known))) where
+  pub truth-by-entries : coneOf d .truth ≡ T
+  unfolding coneSpan
+  truth-by-entries =
+      ext-getD 0 (coneOf d .truth) T (sym (truth-length d) ∙ rows)
+      (λ i h.
+      let l : i < length (values (coneOf d)) = rw (truth-length d) h in
+      truth-entry d i l
+      ∙ sym (getD-take (span (values (coneOf d))) (d .known) (offset (least (values (coneOf d))) (values (coneOf d)) i) 0 (offset-lt (values (coneOf d)) i l))
+      ∙ known-hit (values (coneOf d)) T rows _ f i l)
+
+-- the cone with other coefficients, whose entries are its truths at their values
+module _ (c : Cone) (is : IsCone c) (long : length (c .coefs) ≡ 11) (coefs : List ℤ) (size : length coefs ≡ 11) (known : List ℕ)
+    (h : span (linearTable (take (c .n) coefs)) ≤ 32)
+    (f : knownEntries (linearTable (take (c .n) coefs)) (coneOf c .truth) ≡ some (take (span (linearTable (take (c .n) coefs))) known)) where
+  abbrev formed : Cone
+  formed = record { n = c .n; support = c .support; coefs = coefs; known = known }
+
+  rows-same : length (linearTable (take (c .n) coefs)) ≡ length (coneOf c .truth)
+  rows-same =
+      let n : length (take (c .n) coefs) ≡ c .n = length-take-le (c .n) coefs (omega (arith, is .few)) in
+      table-length (take (c .n) coefs) ∙ ap (λ k. 2 ^ k) n ∙ sym (view-rows c is long)
+
+  formed-truth : coneOf formed .truth ≡ coneOf c .truth
+  unfolding coneOf values coneSpan
+  formed-truth = truth-by-entries formed (coneOf c .truth) rows-same f
+
+  pub formed-is : coneOf formed ≡ reformed (coneOf c) (take (c .n) coefs)
+  unfolding coneOf reformed
+  formed-is = ap {B = C.Cone} (λ (t : List ℕ). record { support = take (c .n) (c .support); coefficients = take (c .n) coefs; truth = t }) formed-truth
+
+  pub formed-cone : IsCone formed
+  unfolding coneOf values coneSpan
+  formed-cone =
+      record {
+        few = is .few;
+        different = is .different;
+        narrow = h;
+        near = is .near;
+        held = ap (knownEntries (linearTable (take (c .n) coefs))) formed-truth ∙ f;
+      }
+
+-- ---- laws: whether the form fits
+
+pub table-short : (s : Settings) → inLimits s ≡ true → s .m ≤ 32
+unfolding inLimits tableLimits
+table-short s e =
+    let table = both-left (tableLimits (s .p) (s .m)) (leb 1 (s .t) && leb (s .t) 10) e in
+    let lower = both-left (leb 2 (s .p) && leb (s .p) 16 && leb (s .p) (s .m)) (leb (s .m) (2 * s .p)) table in
+    let m = leb-true (s .m) (2 * s .p) (both-right (leb 2 (s .p) && leb (s .p) 16 && leb (s .p) (s .m)) (leb (s .m) (2 * s .p)) table) in
+    let p = leb-true (s .p) 16 (both-right (leb 2 (s .p)) (leb (s .p) 16) (both-left (leb 2 (s .p) && leb (s .p) 16) (leb (s .p) (s .m)) lower)) in
+    omega (arith, m, p)
+
+and-false : (b : Bool) → (b && false) ≡ false
+and-false true = refl
+and-false false = refl
+
+module _ (s : Settings) (v : C.Cone) where
+  pub fits-long : s .m < coneSpan v → fits s v ≡ false
+  unfolding fits isLutValid
+  fits-long h = rw (lt-leb (coneSpan v) (s .m) h) (and-false (withinNorm s (norm2 v)))
+
+  pub fits-clash : knownEntries (values v) (v .truth) ≡ none → fits s v ≡ false
+  unfolding fits isLutValid bootstrapTable completed
+  fits-clash e = rw (e, and-false (leb (coneSpan v) (s .m))) (and-false (withinNorm s (norm2 v)))
+
+  pub form-not : (c : Cone) → IsCone c → fits s v ≡ false → (candidateIn (record { found = false; cone = c }) ≡ fitting s v) × Kept c (record { found = false; cone = c })
+  unfolding candidateIn fitting
+  form-not c is e = (rw e, record { is = is; support = refl; same = λ z. refl })
+
+  pub form-so : (c d : Cone) → IsCone d → coneOf d ≡ v → v .support ≡ coneOf c .support → fits s (coneOf d) ≡ true
+      → (candidateIn (record { found = true; cone = d }) ≡ fitting s v) × Kept c (record { found = true; cone = d })
+  unfolding candidateIn fitting
+  form-so c d is e f g =
+      let t : fits s v ≡ true = ap (fits s) (sym e) ∙ g in
+      (ap (λ (k : C.Cone). some (ranked k)) e ∙ rw t, record { is = is; support = ap (λ (k : C.Cone). k .support) e ∙ f; same = λ z. absurd (true≢false z) })
+
+-- ---- laws: the better form
+
+module _ (best f : Form) where
+  pub better-stays : f .found ≡ false → candidateIn best ≡ betterOf (candidateIn best) (candidateIn f)
+  unfolding candidateIn betterOf
+  better-stays e = rw e
+
+  pub better-first : f .found ≡ true → best .found ≡ false → candidateIn f ≡ betterOf (candidateIn best) (candidateIn f)
+  unfolding candidateIn betterOf better
+  better-first e g = rw (e, g)
+
+  module _ (e : f .found ≡ true) (g : best .found ≡ true) where
+    pub better-new : C.less (C.coneOrderKey (coneOf (f .cone))) (C.coneOrderKey (coneOf (best .cone))) ≡ true → candidateIn f ≡ betterOf (candidateIn best) (candidateIn f)
+    unfolding candidateIn betterOf better ranked
+    better-new h = rw (e, g, h)
+
+    pub better-old : C.less (C.coneOrderKey (coneOf (f .cone))) (C.coneOrderKey (coneOf (best .cone))) ≡ false → candidateIn best ≡ betterOf (candidateIn best) (candidateIn f)
+    unfolding candidateIn betterOf better ranked
+    better-old h = rw (e, g, h)
+
+-- ---- laws: what a bootstrap takes, as a form
+
+module _ (s : Settings) (c : C.Cone) (d : Option Candidate) where
+  pub form-skips : (o : Option (List Term)) (a : Aligned) → FormOf (c .support) o a → a .ok ≡ false → d ≡ turned s c d o
+  unfolding turned FormOf
+  form-skips none a h e = refl
+  form-skips (some ts) a h e = rw (sym (h .same) ∙ e)
+
+  pub form-taken : (o : Option (List Term)) (a : Aligned) → FormOf (c .support) o a → a .ok ≡ true
+      → betterOf d (fitting s (reformed c (take (length (c .support)) (a .coefs)))) ≡ turned s c d o
+  unfolding turned FormOf withForm reformed
+  form-taken none a h e = absurd (true≢false (sym e ∙ h))
+  form-taken (some ts) a h e =
+      rw (sym (h .same) ∙ e)
+      (ap (λ (l : List ℤ). betterOf d (fitting s (record { support = c .support; coefficients = l; truth = c .truth }))) (h .coefficients e))
+
+terms-fine : (j : ℕ) (n : LutNode) → Fine j n → FineTerms j (termsOf n)
+unfolding Fine FineTerms termsOf
+terms-fine j (Input name) h = tt
+terms-fine j (Linear c ts) h = h .2
+terms-fine j (Bootstrap i table) h = tt
+
+coefficient-small : (j : ℕ) (ts : List Term) (n : ℕ) → FineTerms j ts → natAbs (coefficientOf ts n) ≤ 31
+unfolding FineTerms coefficientOf
+coefficient-small j [] n h = omega arith
+coefficient-small j (t ∷ ts) n h = if-both (λ (z : ℤ). natAbs z ≤ 31) (eqb (t .node) n) (h .0) (coefficient-small j ts n (h .2))
+
+within-map : (f : ℕ → ℤ) → ((n : ℕ) → natAbs (f n) ≤ 31) → (l : List ℕ) → Within 31 (map f l)
+within-map f h [] i = omega arith
+within-map f h (n ∷ l) zero = h n
+within-map f h (n ∷ l) (suc i) = within-map f h l i
+
+pub form-small : (support bytes : List ℕ) (i : ℕ) (a : Aligned) → NodesTo bytes i → FormOf support (formTerms bytes (nodeOf bytes i)) a → a .ok ≡ true
+    → Within 31 (take (length support) (a .coefs))
+unfolding Fine FormOf formTerms
+form-small support bytes i a all f e = by (nodeOf bytes i) (all .at i (omega arith) .fine) f
+  where
+    taken : (ts : List Term) (j : ℕ) → FineTerms j ts → take (length support) (a .coefs) ≡ map (coefficientOf ts) support → Within 31 (take (length support) (a .coefs))
+    taken ts j h q = rw q (within-map (coefficientOf ts) (λ n. coefficient-small j ts n h) support)
+
+    by : (n : LutNode) → Fine i n → FormOf support (formTerms bytes n) a → Within 31 (take (length support) (a .coefs))
+    by (Input name) h g = absurd (true≢false (sym e ∙ g))
+    by (Linear c ts) h g = absurd (true≢false (sym e ∙ g))
+    by (Bootstrap j table) h g = taken (termsOf (nodeOf bytes j)) j (terms-fine j (nodeOf bytes j) (all .at j (omega (arith, h .0)) .fine)) (g .coefficients e)
+
+-- ---- laws: a turn over the nodes
+
+module _ (s : Settings) (nodes : List LutNode) (c : C.Cone) (d : Option Candidate) where
+  -- a bootstrap gives its form, and other nodes give none
+  taken-in : (ts : List Term) (rest : List (List Term))
+      → bestFrom (turned s c d (some ts)) (map ranked (select (fits s) (map (withForm c) (select (sameSources (c .support)) rest))))
+      ≡ bestFrom d (map ranked (select (fits s) (map (withForm c) (select (sameSources (c .support)) (ts ∷ rest)))))
+  unfolding turned select fitting betterOf bestFrom
+  taken-in ts rest = by (sameSources (c .support) ts)
+    where
+      fit : (b : Bool) → bestFrom (betterOf d (if b then some (ranked (withForm c ts)) else none)) (map ranked (select (fits s) (map (withForm c) (select (sameSources (c .support)) rest))))
+          ≡ bestFrom d (map ranked (if b then withForm c ts ∷ select (fits s) (map (withForm c) (select (sameSources (c .support)) rest)) else select (fits s) (map (withForm c) (select (sameSources (c .support)) rest))))
+      fit true = refl
+      fit false = refl
+
+      by : (b : Bool) → bestFrom (if b then betterOf d (fitting s (withForm c ts)) else d) (map ranked (select (fits s) (map (withForm c) (select (sameSources (c .support)) rest))))
+          ≡ bestFrom d (map ranked (select (fits s) (map (withForm c) (if b then ts ∷ select (sameSources (c .support)) rest else select (sameSources (c .support)) rest))))
+      by true = fit (fits s (withForm c ts))
+      by false = refl
+
+  node-turn : (bytes : List ℕ) (n : LutNode) (l : List LutNode) → ((j : ℕ) (table : List ℕ) → n ≡ Bootstrap j table → nodeAt nodes j ≡ nodeOf bytes j)
+      → bestFrom (turned s c d (formTerms bytes n)) (candidatesFrom s nodes c l) ≡ bestFrom d (candidatesFrom s nodes c (n ∷ l))
+  unfolding candidatesFrom bootSources formTerms turned
+  node-turn bytes (Input name) l h = refl
+  node-turn bytes (Linear k ts) l h = refl
+  node-turn bytes (Bootstrap j table) l h =
+      rw (sym (h j table refl)) (taken-in (termsOf (nodeAt nodes j)) (map termsOf (map (nodeAt nodes) (bootSources l))))
+
+module _ (s : Settings) (bytes : List ℕ) (count : ℕ) (store : IsStore bytes count) (c : Cone) where
+  pub walk-start : IsCone c → Walked s (storeOf bytes count) c 0 (record { found = false; cone = c })
+  unfolding candidateIn best
+  walk-start is = record { kept = record { is = is; support = refl; same = λ z. refl }; rest = refl }
+
+  module _ (i : ℕ) (f : Form) (w : Walked s (storeOf bytes count) c i f) where
+    source-at : i < count → (j : ℕ) (table : List ℕ) → nodeOf bytes i ≡ Bootstrap j table → nodeAt (storeOf bytes count) j ≡ nodeOf bytes j
+    unfolding Fine
+    source-at h j table e = let g = subst (Fine i) e (store .fine i h) in at-store bytes j count (omega (arith, g .0))
+
+    dropped : i < count → drop i (storeOf bytes count) ≡ nodeOf bytes i ∷ drop (i + 1) (storeOf bytes count)
+    unfolding nodeAt
+    dropped h =
+        rw add-one (drop-cons (storeOf bytes count) i (Input []) (rw (store-length bytes count) h)
+        ∙ ap (λ (n : LutNode). n ∷ drop (suc i) (storeOf bytes count)) (at-store bytes i count h))
+
+    pub walk-on : i < count → (g : Form) → candidateIn g ≡ turned s (coneOf c) (candidateIn f) (formTerms bytes (nodeOf bytes i)) → Kept c g → Walked s (storeOf bytes count) c (i + 1) g
+    walk-on h g e k =
+        let nodes = storeOf bytes count in
+        record {
+          kept = k;
+          rest = ap (λ (d : Option Candidate). bestFrom d (candidatesFrom s nodes (coneOf c) (drop (i + 1) nodes))) e
+              ∙ node-turn s nodes (coneOf c) (candidateIn f) bytes (nodeOf bytes i) (drop (i + 1) nodes) (source-at h)
+              ∙ ap (λ (l : List LutNode). bestFrom (candidateIn f) (candidatesFrom s nodes (coneOf c) l)) (sym (dropped h))
+              ∙ w .rest;
+        }
+
+    none-left : count ≤ i → candidateIn f ≡ best (candidatesFrom s (storeOf bytes count) (coneOf c) (storeOf bytes count))
+    unfolding candidatesFrom bootSources select bestFrom
+    none-left h =
+        ap (λ (l : List LutNode). bestFrom (candidateIn f) (candidatesFrom s (storeOf bytes count) (coneOf c) l)) (sym (drop-of-length-le (storeOf bytes count) {i = i} (rw (store-length bytes count) h)))
+        ∙ w .rest
+
+    cone-is : coneOf (f .cone) ≡ coneOr (coneOf c) (candidateIn f)
+    unfolding candidateIn coneOr ranked
+    cone-is = by (f .found) refl
+      where
+        by : (b : Bool) → f .found ≡ b → coneOf (f .cone) ≡ coneOr (coneOf c) (if b then some (ranked (coneOf (f .cone))) else none)
+        by true e = refl
+        by false e = ap coneOf (w .kept .same e)
+
+    pub walk-end : count ≤ i → s .many ≡ true → coneOf (f .cone) ≡ realigned s (storeOf bytes count) (coneOf c)
+    unfolding realigned bootstrapForms bootstrapInputs candidatesFrom
+    walk-end h e = cone-is ∙ ap (coneOr (coneOf c)) (none-left h) ∙ rw e
+
+    pub walk-stands : Stands count c → Stands count (f .cone)
+    walk-stands h =
+        let e = w .kept .support in
+        record { cone = w .kept .is; below = record { at = λ k l. rw e (h .below .at k (rw e at l)) } }
+
+pub not-realigned : (s : Settings) (nodes : List LutNode) (c : C.Cone) → s .many ≡ false → c ≡ realigned s nodes c
+unfolding realigned
+not-realigned s nodes c e = rw e
