@@ -1,2 +1,4 @@
 -- What the mapper's structs stand for, and the laws that its code is proved by.
 pub mod View
+pub mod Merged
+pub mod Pair
