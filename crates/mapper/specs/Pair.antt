@@ -5,6 +5,7 @@ use mathlib.Core.List.{List, [], _∷_, _++_, map, map-id}
 use mathlib.Core.Logic.{⊎-elim}
 use mathlib.Core.Option.{Option, none, some, Option·map}
 use Prim.Native.Nat.{ℕ, zero, suc, _+_, _*_, _≤_, _<_, _^_, zero-le}
+use native.Mathlib.Nat.{not-suc-le-zero}
 use native.Mathlib.Omega.{arith}
 use borrow.Author.Tests.{lt-ltb, le-ltb, leb-true}
 use lib.Dec.{ltb, leb}
@@ -49,12 +50,12 @@ use Rattle.search.specs.declared.score.Score.{Score}
 use Rattle.search.specs.EnergyMoments.{xxOf, xyOf, yyOf}
 use Rattle.search.specs.EnergyRows.{InRows, Small, momentsOf, moments-compacted}
 use Rattle.search.specs.Pair.{Rows, left-small, right-small}
-use Rattle.search.specs.Policies.{Attempted}
+use Rattle.search.specs.Policies.{Attempted, Finds}
 use Rattle.search.specs.Reuse.{Stored}
 use Rattle.search.specs.RowsCompacted.{sumOver, Compacted}
 use Rattle.search.specs.RowsFrame.{InFrame, Framed, Moved, tables-framed}
 use Rattle.search.specs.Search.{Ready}
-use Rattle.mapper.specs.Merged.{mergedOf, Mergeable, Judges, merged-support, merged-coefs-long}
+use Rattle.mapper.specs.Merged.{mergedOf, Mergeable, judgedBy, Judges, merged-support, merged-coefs-long, found-mergeable, judged-is}
 use Rattle.mapper.specs.View.{Below, Stands}
 
 -- The grid that begins at the least values of two tables.
@@ -159,6 +160,10 @@ simplified-below count c e h =
     let used : Each count (sources (select isUsed ts)) = rw (sources-are (select isUsed ts)) (each-select count (λ (t : Term). t .node) isUsed ts each) in
     rw (simplified c) (record { at = used })
 
+pub constant-stands : (count : ℕ) (c : Cone) (v : ℕ) → IsCone c → coneOf c ≡ constant v → Stands count c
+unfolding constant
+constant-stands count c v h e = record { cone = h; below = rw e (record { at = λ i l. absurd (not-suc-le-zero l) }) }
+
 -- ---- sums over rows, and the gate's answers
 sum-small : (f : ℤ → ℤ → ℤ) (k : ℕ) (X Y : List ℤ) → ((i : ℕ) → natAbs (f (getD X i (pos 0)) (getD Y i (pos 0))) ≤ k) → natAbs (sumOver f X Y) ≤ length X * k
 unfolding sumOver
@@ -183,10 +188,10 @@ module _ (s : Settings) (bytes : List ℕ) (count : ℕ) (left right : Cone) (ba
   abbrev R : List ℤ
   R = take (basis .n) (basis .right)
 
-  pub trial-small : s .m ≤ 32
+  trial-small : s .m ≤ 32
   trial-small = limits-m s (t .limits)
 
-  pub trial-different : allDifferent U ≡ true
+  trial-different : allDifferent U ≡ true
   trial-different = union-different (coneOf left .support) (coneOf right .support) (t .first .cone .different) (t .second .cone .different)
 
   over-long : (c : C.Cone) → length (coefficientsOver U c) ≡ basis .n
@@ -199,7 +204,7 @@ module _ (s : Settings) (bytes : List ℕ) (count : ℕ) (left right : Cone) (ba
   rights-long : length R ≡ basis .n
   rights-long = ap length (t .over .rights) ∙ over-long (coneOf right)
 
-  pub trial-rows : Rows L R
+  trial-rows : Rows L R
   trial-rows =
       record {
         few = omega (arith, lefts-long, t .over .few);
@@ -214,7 +219,7 @@ module _ (s : Settings) (bytes : List ℕ) (count : ℕ) (left right : Cone) (ba
   trial-each : Each count U
   trial-each = union-each count (coneOf left .support) (coneOf right .support) (t .first .below .at) (t .second .below .at)
 
-  pub trial-near : (i : ℕ) → getD U i 0 < 672
+  trial-near : (i : ℕ) → getD U i 0 < 672
   trial-near = each-near count U trial-each (t .store .most)
 
   pub trial-stored : Stored bytes count (take (basis .n) (basis .support))
@@ -222,7 +227,7 @@ module _ (s : Settings) (bytes : List ℕ) (count : ℕ) (left right : Cone) (ba
 
   -- the tables
   module _ (rows : ℕ) (xs ys : List ℤ) (ts : List ℕ) (tab : Tabled basis rows xs ys ts) where
-    rows-few : rows ≤ 2048
+    pub rows-few : rows ≤ 2048
     rows-few = omega (arith, tab .many, pow-mono {j = 11} (t .over .few))
 
     x-rows : length (linearTable L) ≡ rows
@@ -249,6 +254,18 @@ module _ (s : Settings) (bytes : List ℕ) (count : ℕ) (left right : Cone) (ba
             rw (← ex, ← ey)
             (tables-framed f (linearTable L) (linearTable R) (getD ts i 0) i (o .x-low) (o .y-low) (o .y-span)
             (omega (arith, span-table L, trial-rows .lefts)) (omega (arith, span-table R, trial-rows .rights)) (y-rows ∙ sym x-rows) (rw x-rows h) (tab .bits i h))
+
+    truth-rows : length (take rows ts) ≡ 2 ^ basis .n
+    truth-rows = length-take-le rows ts (omega (arith, rows-few, tab .t-long)) ∙ tab .many
+
+    -- what is made of the pair that is found
+    module _ (nodes : List LutNode) (best : Score) (finds : Finds s nodes (coneOf left) (coneOf right) (take rows ts) best) where
+      pub trial-mergeable : best .found ≡ true → Mergeable basis best
+      trial-mergeable e =
+          found-mergeable (coneOf left) (coneOf right) (take rows ts) basis best s (t .over) trial-rows truth-rows (finds .found e) trial-small trial-different trial-near
+
+      pub trial-judged : judgedBy s basis best ≡ Option·map (mergeCones s) (findCandidate s nodes U (coneOf left) (coneOf right) (take rows ts))
+      trial-judged = judged-is s nodes (coneOf left) (coneOf right) (take rows ts) basis best (t .over) trial-rows truth-rows finds
 
     -- the rows that stand for all rows
     module _ (n : ℕ) (xs′ ys′ : List ℤ) (ts′ counts : List ℕ)
@@ -355,8 +372,8 @@ module _ (s : Settings) (bytes : List ℕ) (count : ℕ) (left right : Cone) (ba
         truths,
       )
 
-  pub trial-merged-below : (best : Score) (c : Cone) → Mergeable basis best → Judges basis best c → Stands count c
-  trial-merged-below best c m j =
+  pub trial-stands : (best : Score) (c : Cone) → Judges basis best c → Stands count c
+  trial-stands best c j =
       record {
         cone = j .cone;
         below = rw (j .is) (simplified-below count (coneOf (mergedOf basis best)) long (rw sup trial-each));

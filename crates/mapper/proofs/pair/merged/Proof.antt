@@ -16,7 +16,7 @@ use Rattle.mapper.proofs.pair.merged.Statement.{statement}
 use Rattle.mapper.proofs.pair.merged.Tie as tie
 
 scale-read : (z : ℤ) → natAbs z ≤ 32 → toZ w64 (ofZ w64 z) ≡ z
-scale-read z h = read-back-at w64 z (fits-abs z (omega arith) .sfits)
+scale-read z h = read-back-at w64 z (fits-abs {w = w64} z (omega arith) .sfits)
 
 long : (s : tie.Start) → (length (s .args .basis .left) ≡ 11) × (length (s .args .basis .right) ≡ 11)
 long s = (search needs, search needs)
@@ -35,7 +35,7 @@ coefs-are : (c : tie.After-prepare-coefficients) → let s = c .before .before .
     take (length (take (b .n) (b .left))) (c .prepare-coefficients .result) ≡ merged (s .args .best .a) (s .args .best .b) (take (b .n) (b .left)) (take (b .n) (b .right))
 coefs-are c =
     let s = c .before .before .before .before .before .before .before .before in
-    c .prepare-coefficients .ensures ∙ ap₂ (λ x y. merged x y _ _) (scale-read (s .args .best .a) (s .pre .scaling .first)) (scale-read (s .args .best .b) (s .pre .scaling .second))
+    c .prepare-coefficients .ensures ∙ ap₂ (λ x y. merged x y (take (s .args .basis .n) (s .args .basis .left)) (take (s .args .basis .n) (s .args .basis .right))) (scale-read (s .args .best .a) (s .pre .scaling .first)) (scale-read (s .args .best .b) (s .pre .scaling .second))
 
 array-share-prefix-left : tie.Need-array-share-prefix-left
 array-share-prefix-left c = few-left (c .before .before .before)
