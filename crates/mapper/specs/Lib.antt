@@ -2,3 +2,5 @@
 pub mod View
 pub mod Merged
 pub mod Pair
+pub mod PairSources
+pub mod PairTrial

@@ -1,7 +1,6 @@
 -- `mapper::pair::attempt` meets its contract.
-use mathlib.Core.Path.{_≡_, _∙_}
+use mathlib.Core.Path.{_∙_}
 use native.Mathlib.Omega.{arith}
-use borrow.Author.Needs.{needs}
 use Rattle.laws.specs.Test.{zero≢one}
 use Rattle.cone.specs.View.{coneOf}
 use Rattle.lut.specs.View.{storeOf}

@@ -1,15 +1,13 @@
 -- `mapper::pair::best_pair` meets its contract: the rows that stand for all rows are what the search asks for.
-use mathlib.Core.Path.{_≡_, refl, sym}
+use mathlib.Core.Path.{refl}
 use Prim.Native.Nat.{_≤_}
 use native.Mathlib.Omega.{arith}
 use borrow.Author.Needs.{needs}
 use lib.ListN.{length, take}
 use Rattle.laws.specs.Tail.{head-length}
-use Rattle.search.specs.EnergyRows.{InRows, momentsOf}
-use Rattle.search.specs.Policies.{Attempted}
-use Rattle.search.specs.Search.{Ready}
+use Rattle.search.specs.EnergyRows.{InRows}
 use Rattle.cone.specs.View.{coneOf}
-use Rattle.mapper.specs.Pair.{trial-frame, trial-framed, trial-in-rows, trial-ready, trial-attempted, trial-stored}
+use Rattle.mapper.specs.PairTrial.{trial-frame, trial-framed, trial-in-rows, trial-ready, trial-attempted, trial-stored}
 use Rattle.mapper.proofs.pair.best_pair.Statement.{statement}
 use Rattle.mapper.proofs.pair.best_pair.Tie as tie
 

@@ -1,8 +1,7 @@
 -- `mapper::pair::composed` meets its contract.
 use mathlib.Core.Path.{_≡_, refl, sym, ap, _∙_}
-use mathlib.Core.Bool.{Bool, true, false}
 use mathlib.Core.Option.{some, Option·map}
-use Prim.Native.Nat.{_≤_, _<_, _^_}
+use Prim.Native.Nat.{ℕ, _≤_, _<_, _^_}
 use native.Mathlib.Omega.{arith}
 use borrow.Author.Needs.{needs}
 use lib.ListN.{length, getD, take}
@@ -13,12 +12,14 @@ use Rattle.rules.specs.Cone.{ok, constant}
 use Rattle.rules.specs.Composition.{unionSupport, gateTruth, allEqual, mergeCones, findCandidate}
 use Rattle.cone.specs.View.{coneOf}
 use Rattle.lut.specs.View.{storeOf}
-use Rattle.mapper.specs.Pair.{Tabled, trial-tabled, rows-few, trial-mergeable, trial-judged, trial-stands, constant-stands, gated-constant, gated-merged}
+use Rattle.mapper.specs.Pair.{Tabled, gated-constant, gated-merged}
+use Rattle.mapper.specs.PairSources.{constant-stands}
+use Rattle.mapper.specs.PairTrial.{trial-tabled, rows-few, trial-mergeable, trial-judged, trial-stands}
 use Rattle.mapper.specs.View.{triedOf}
 use Rattle.mapper.proofs.pair.composed.Statement.{statement}
 use Rattle.mapper.proofs.pair.composed.Tie as tie
 
-room : (n : _) → n ≤ 11 → 2 ^ n ≤ 2048
+room : (n : ℕ) → n ≤ 11 → 2 ^ n ≤ 2048
 room n h = pow-mono {j = 11} h
 
 cone-composition-tables-requires : tie.Need-cone-composition-tables-requires

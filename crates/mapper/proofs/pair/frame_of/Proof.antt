@@ -4,7 +4,6 @@ use Prim.Native.Nat.{_≤_}
 use native.Mathlib.Omega.{arith}
 use borrow.Author.Needs.{needs}
 use lib.ListN.{length, take}
-use Rattle.laws.specs.Integer.{read-back}
 use Rattle.laws.specs.Tail.{head-length}
 use Rattle.mapper.proofs.pair.frame_of.Statement.{statement}
 use Rattle.mapper.proofs.pair.frame_of.Tie as tie
