@@ -4,3 +4,7 @@ pub mod Form
 pub mod View
 pub mod Gate
 pub mod GateSteps
+pub mod Merged
+pub mod Pair
+pub mod PairSources
+pub mod PairTrial
