@@ -10,6 +10,7 @@ pub mod Sound
 pub mod LineRead
 pub mod Slots
 pub mod Below
+pub mod Fits
 pub mod GateBytes
 pub mod Listed
 pub mod Took
