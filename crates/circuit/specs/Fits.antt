@@ -1,5 +1,5 @@
 -- What holds of a circuit that was read, said of its counts and of the numbers in the arrays: for who goes on with them.
-use mathlib.Core.Path.{_≡_, refl, sym, ap, subst, _∙_}
+use mathlib.Core.Path.{_≡_, refl, subst}
 use mathlib.Core.Bool.{Bool, true, false, _&&_, _||_}
 use mathlib.Core.Logic.{⊎-elim}
 use mathlib.Core.List.{List, [], _∷_}
@@ -18,11 +18,10 @@ use Rattle.rules.specs.Form as F
 use Rattle.rules.specs.Form.{isName, isNameByte}
 use Rattle.rules.specs.Runs.{allBits}
 use Rattle.theorems.specs.LineBits.{WireBit}
-use Rattle.theorems.specs.SoundCircuits.{GoodName, GoodNames, WireBits, SoundGate, SoundGates, SoundOutput, SoundOutputs, Sound, read-sound}
+use Rattle.theorems.specs.SoundCircuits.{GoodName, GoodNames, WireBits, SoundGate, SoundGates, SoundOutput, SoundOutputs, read-sound}
 use Rattle.circuit.specs.declared.Circuit.{Circuit}
-use Rattle.circuit.specs.declared.Reading.{Reading}
 use Rattle.circuit.specs.declared.Reading.the-variants.{Good}
-use Rattle.circuit.specs.View.{wireIn, slotWire, portWire, wiresIn, answersIn, gateIn, gatesIn, nameAt, inputName, inputNames, outputIn, outputsIn, circuitOf, readingOf, NamedAt, Held}
+use Rattle.circuit.specs.View.{wireIn, slotWire, wiresIn, answersIn, gateIn, gatesIn, nameAt, inputName, inputNames, outputIn, outputsIn, circuitOf, NamedAt, Held}
 
 -- Gate i after n inputs: each slot is an earlier node's, or 128 or 129; a second slot of 255 is none, and two answers count then.
 pub record GateFits (gs : List ℕ) (n i : ℕ) : Type 0 where
