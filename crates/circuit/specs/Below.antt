@@ -1,18 +1,15 @@
 -- Two arrays that agree up to an index: what is read there is the same.
-use mathlib.Core.Path.{_≡_, refl, sym, ap, ap₂, _∙_}
+use mathlib.Core.Path.{_≡_, refl, ap, ap₂, _∙_}
 use mathlib.Core.List.{List, [], _∷_, _++_}
-use mathlib.Core.Logic.{⊎-elim}
-use Prim.Native.Nat.{ℕ, suc, _+_, _*_, _-_, _<_, _≤_}
+use Prim.Native.Nat.{ℕ, _+_, _*_, _-_, _<_, _≤_}
 use native.Mathlib.Numerals.{add-one}
 use native.Mathlib.Omega.{arith}
-use lib.ListN.{length, getD, take, drop, set, length-set, length-take, List·getD-append}
+use lib.ListN.{length, getD, take, drop, set, length-set, List·getD-append}
 use lib.Seq.{getD-set-same, getD-set-other, paste, getD-take, getD-append-add, length-paste-head, length-take-le}
 use Rattle.laws.specs.Tabulate.{tabulate, tabulate-same, tabulate-snoc}
-use Rattle.laws.specs.Test.{if_then_else_, lt-or-le}
 use Rattle.rules.specs.Circuit as C
 use Rattle.text.specs.Forms.{Named}
-use Rattle.circuit.specs.declared.Circuit.{Circuit}
-use Rattle.circuit.specs.View.{wireIn, wiresIn, answersIn, gateIn, gatesIn, nameAt, inputName, inputNames, outputIn, outputsIn, portWire, NamedAt, NamesIn}
+use Rattle.circuit.specs.View.{wiresIn, answersIn, gateIn, gatesIn, nameAt, inputName, inputNames, outputIn, outputsIn, portWire, NamedAt}
 
 pub record Below (m : ℕ) (l t : List ℕ) : Type 0 where
   pub same : (j : ℕ) → j < m → getD t j 0 ≡ getD l j 0

@@ -1,12 +1,13 @@
 -- A gate's bits copied out of the text.
 use mathlib.Core.Path.{_≡_, refl, ap, _∙_}
 use mathlib.Core.List.{List, [], _∷_, _++_}
-use Prim.Native.Nat.{ℕ, suc, _+_, _-_, _<_, _≤_}
+use Prim.Native.Nat.{ℕ, _+_, _-_, _<_, _≤_}
 use native.Mathlib.Numerals.{add-one}
 use native.Mathlib.Omega.{arith}
 use lib.ListN.{length, getD, take, drop, set, length-take, length-drop}
 use lib.Seq.{take-suc, take-suc-set, getD-drop}
 use Rattle.rules.specs.Form.{bitsFrom}
+use Rattle.text.specs.Name.{bits-length}
 
 -- The first i bits from d on.
 unfoldable pub bitsAt : List ℕ → ℕ → ℕ → List ℕ
@@ -27,14 +28,6 @@ unfolding bitsAt
 bits-next s d i t x e f h k =
     let l : i < length (drop d s) = rw length-drop (omega arith) in
     rw (add-one i, take-suc-set t i x k, take-suc (drop d s) i 0 l, bits-snoc, e, f, getD-drop)
-
-pub bits-done : (s : List ℕ) (d i n : ℕ) (t : List ℕ) → take i t ≡ bitsAt s d i → i ≡ n → take n t ≡ bitsAt s d n
-bits-done s d i n t e f = rw f at e
-
-pub bits-length : (w : List ℕ) → length (bitsFrom w) ≡ length w
-unfolding bitsFrom
-bits-length [] = refl
-bits-length (b ∷ w) = ap suc (bits-length w)
 
 pub bits-at-length : (s : List ℕ) (d e : ℕ) → e ≤ length s → length (bitsAt s d (e - d)) ≡ e - d
 unfolding bitsAt

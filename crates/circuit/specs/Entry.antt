@@ -1,28 +1,26 @@
 -- The run as an entry: the text, the bits and the buffer tested in turn.
 use mathlib.Core.Path.{_≡_, refl, sym, ap, ap₂, subst, _∙_}
 use mathlib.Core.Bool.{Bool, true, false, not}
-use mathlib.Core.List.{List, [], _∷_}
+use mathlib.Core.List.{List, []}
 use mathlib.Core.Option.{some}
-use Prim.Native.Nat.{ℕ, zero, suc, _+_, _*_, _<_, _≤_}
-use native.Mathlib.Nat.{not-suc-le-zero, le-of-suc-le-suc}
+use Prim.Native.Nat.{ℕ, _<_, _≤_}
 use native.Mathlib.Omega.{arith}
 use borrow.Author.Tests.{lt-ltb, le-ltb, not-false}
-use lib.ListN.{length, getD}
+use lib.ListN.{length}
 use Rattle.laws.specs.Over.{over}
-use Rattle.laws.specs.Tabulate.{tabulate-length, tabulate-at}
+use Rattle.laws.specs.Tabulate.{tabulate-length}
 use Rattle.rules.specs.Circuit as C
 use Rattle.rules.specs.CircuitText.{readCircuit}
 use Rattle.rules.specs.Form as F
 use Rattle.rules.specs.Outcome.{written, refused}
 use Rattle.rules.specs.Runs.{RunOutcome, Numbered, NotBits, NoRoom, ran, bitsFor, runOn, withValues, runCircuit, runCircuitOn}
-use Rattle.text.specs.Gives.{Each}
 use Rattle.circuit.specs.declared.Circuit.{Circuit}
 use Rattle.circuit.specs.declared.Reading.{Reading}
 use Rattle.circuit.specs.declared.Reading.the-variants.{Good, Refused}
-use Rattle.circuit.specs.Run.{padded, Runs, RunsOn, GoodPort, outputBits, padded-outputs, portBits, port-bits, ports-many}
-use Rattle.circuit.specs.Slots.{node-more}
-use Rattle.circuit.specs.Sound.{SoundGates, SoundOutput, read-sound}
-use Rattle.circuit.specs.View.{inputNames, gatesIn, outputIn, outputsIn, circuitOf, readingOf, Held}
+use Rattle.circuit.specs.Fits.{read-fits}
+use Rattle.circuit.specs.Run.{Runs, RunsOn, outputBits, padded-outputs, portBits, port-bits, ports-many}
+use Rattle.circuit.specs.RunGate.{padded}
+use Rattle.circuit.specs.View.{inputNames, gatesIn, outputsIn, circuitOf, readingOf, Held}
 
 -- ---- A circuit that was read.
 
@@ -63,11 +61,6 @@ module _ (gs ps : List ℕ) (c : Circuit) (bits buffer : List ℕ) where
 
 -- ---- The text.
 
-each-at : {A : Type 0} (Q : A → Type 0) (l : List A) (i : ℕ) (d : A) → Each Q l → i < length l → Q (getD l i d)
-each-at Q [] i d s h = absurd (not-suc-le-zero h)
-each-at Q (x ∷ l) zero d s h = s .0
-each-at Q (x ∷ l) (suc i) d s h = each-at Q l i d (s .1) (le-of-suc-le-suc h)
-
 module _ (s gs ps bits buffer : List ℕ) (r : Reading) (e : readingOf r s gs ps ≡ readCircuit s) where
   pub run-unreadable : (k i : ℕ) → r ≡ Refused k i → ran (Numbered (refused k i)) buffer ≡ runCircuit s bits buffer
   unfolding runCircuit runCircuitOn
@@ -82,23 +75,15 @@ module _ (s gs ps bits buffer : List ℕ) (r : Reading) (e : readingOf r s gs ps
     run-good o h = h ∙ sym (ap (λ x. runCircuitOn x bits buffer) good ∙ rw (tabulate-length, tabulate-length))
 
     pub read-runs : Held (length s) gs ps r → RunsOn gs ps c
-    unfolding circuitOf inputNames gatesIn outputsIn outputIn
     read-runs h =
-        let z = read-sound s _ good .parts in
-        let a : length (inputNames s ps (c .inputs)) ≡ c .inputs = tabulate-length (c .inputs) _ in
-        let b : length (gatesIn gs (c .inputs) (c .gates)) ≡ c .gates = tabulate-length (c .gates) _ in
-        let d : length (outputsIn s ps (c .outs)) ≡ c .outs = tabulate-length (c .outs) _ in
-        let i = z .inputsFit in let j = z .gatesFit in let k = z .outputsFit in
+        let f = read-fits s gs ps c good (subst (Held (length s) gs ps) q h) in
+        let i = f .inputs in let j = f .gates in
         record {
           gatesLong = h .gatesLong;
           portsLong = h .portsLong;
-          inputs = omega arith;
-          gates = omega arith;
-          outs = omega arith;
-          sound = subst (λ n. SoundGates n (gatesIn gs (c .inputs) (c .gates))) a (z .gatesSound);
-          wires = λ m l.
-              let o = each-at _ (outputsIn s ps (c .outs)) m (outputIn s ps 0) (z .outputsSound) (omega arith) in
-              let w : getD (outputsIn s ps (c .outs)) m (outputIn s ps 0) ≡ outputIn s ps m = tabulate-at (c .outs) (outputIn s ps) m (outputIn s ps 0) l in
-              let p = subst (λ x. SoundOutput (length (inputNames s ps (c .inputs)) + length (gatesIn gs (c .inputs) (c .gates))) x) w o in
-              (node-more _ 128 _ (omega arith) (p .node), p .const);
+          inputs = f .inputs;
+          gates = f .gates;
+          outs = f .outs;
+          sound = f .gate;
+          wires = λ m l. let o = f .out m l in (o .wire, λ k. let z = o .earlier k in omega arith);
         }

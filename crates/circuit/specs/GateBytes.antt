@@ -1,20 +1,19 @@
 -- A gate as its six bytes.
-use mathlib.Core.Path.{_≡_, refl, sym, ap, ap₂, _∙_}
+use mathlib.Core.Path.{_≡_, refl, sym, ap, _∙_}
 use mathlib.Core.Bool.{Bool, true, false}
 use mathlib.Core.List.{List, [], _∷_}
 use Prim.Native.Nat.{ℕ, suc, _+_, _*_, _-_, _<_, _≤_}
 use native.Mathlib.Numerals.{add-one}
 use native.Mathlib.Omega.{arith}
-use borrow.Author.Tests.{ne-eqb, eqb-true}
+use borrow.Author.Tests.{ne-eqb}
 use lib.Dec.{eqb}
-use lib.ListN.{length, getD, take, drop, set}
+use lib.ListN.{length, getD, set}
 use lib.Seq.{drop-cons, paste, paste-suc}
 use Rattle.laws.specs.Test.{if_then_else_, zero≢one}
-use Rattle.rules.specs.declared.Wire.{Wire}
 use Rattle.rules.specs.Circuit as C
 use Rattle.rules.specs.CircuitText.{noNode}
 use Rattle.rules.specs.Form.{bitsFrom}
-use Rattle.text.specs.Gives.{isBitWire}
+use Rattle.theorems.specs.LineBits.{WireBit}
 use Rattle.circuit.specs.declared.gate.Wires.{Wires}
 use Rattle.circuit.specs.Below.{Below, below-paste, paste-at}
 use Rattle.circuit.specs.Bits.{bitsAt}
@@ -23,11 +22,11 @@ use Rattle.circuit.specs.Slots.{wireNumber, wire-back, number-small}
 use Rattle.circuit.specs.View.{wiresIn, answersIn, gateIn}
 
 -- What the gate needs: its bits stand in a text of k bytes from d on, and its wires go to nodes below 128.
-pub record GateFits (k d : ℕ) (v : Wires) : Type 0 where
+pub record GateStands (k d : ℕ) (v : Wires) : Type 0 where
   pub two : d + 2 ≤ k
   pub four : (v .count ≡ 1 → ⊥) → d + 4 ≤ k
-  pub left : (noNode 128 (v .left) ≡ false) × (isBitWire (v .left) ≡ true)
-  pub right : (noNode 128 (v .right) ≡ false) × (isBitWire (v .right) ≡ true)
+  pub left : (noNode 128 (v .left) ≡ false) × (WireBit (v .left))
+  pub right : (noNode 128 (v .right) ≡ false) × (WireBit (v .right))
 
 abbrev pub bitAt : List ℕ → ℕ → ℕ
 bitAt s i = getD s i 0 - 48
@@ -99,7 +98,7 @@ module _ (gs : List ℕ) (k : ℕ) (long : length gs ≡ 576) (room : k < 96) (s
     at : (j i : ℕ) → i ≡ 6 * k + j → j < 6 → getD put i 0 ≡ getD w j 0
     at j i f h = byte j i f h ∙ ap (λ x. getD x j 0) e
 
-  pub put-gate : (inputs : ℕ) → GateFits (length s) d v
+  pub put-gate : (inputs : ℕ) → GateStands (length s) d v
       → gateIn (paste gs (6 * k) (gateBytes s d v) 6) inputs k ≡ record { bits = bitsAt s d (if eqb (v .count) 1 then 2 else 4); wires = twoWires (v .count) (v .left) (v .right); line = inputs + k + 2 }
   unfolding gateIn wiresIn answersIn twoWires put gateBytes
   put-gate inputs f = by (eqb (v .count) 1) refl

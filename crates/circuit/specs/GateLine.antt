@@ -11,10 +11,10 @@ use Rattle.laws.specs.Test.{if_then_else_, is-T}
 use Rattle.rules.specs.declared.Wire.{Wire}
 use Rattle.rules.specs.CircuitText.{CircuitLine, GateLine}
 use Rattle.rules.specs.Form.{Piece, give, onward, run, runOf, bits, isBits, isBitByte, bitsFrom}
+use Rattle.text.specs.Name.{bits-length}
 use Rattle.circuit.specs.declared.gate.GateRead.{GateRead}
 use Rattle.circuit.specs.declared.gate.GateRead.the-variants.{At as GateAt, Nothing as NoGate}
 use Rattle.circuit.specs.declared.gate.Wires.{Wires}
-use Rattle.circuit.specs.Bits.{bits-length}
 use Rattle.circuit.specs.Brief.{Brief, GateBrief, brief}
 use Rattle.circuit.specs.Wires.{noWires, withWires}
 

@@ -6,7 +6,6 @@ pub mod WiresRead
 pub mod Brief
 pub mod Bits
 pub mod GateLine
-pub mod Sound
 pub mod LineRead
 pub mod Slots
 pub mod Below
@@ -17,5 +16,7 @@ pub mod TookGate
 pub mod TookPorts
 pub mod TookLine
 pub mod Reading
+pub mod Fits
+pub mod RunGate
 pub mod Run
 pub mod Entry

@@ -1,20 +1,18 @@
 -- A line: the first of the four forms that can be read there, and nothing behind it.
 use mathlib.Core.Path.{_≡_, refl, sym, ap, subst, _∙_}
-use mathlib.Core.Bool.{Bool, true}
 use mathlib.Core.List.{List, [], _∷_}
-use mathlib.Core.Option.{Option, none, some, Option·some-injective, Option·none-ne-some}
+use mathlib.Core.Option.{Option, none, some}
 use Prim.Native.Nat.{ℕ, _-_, _≤_}
 use lib.ListN.{length, take, drop}
 use Rattle.rules.specs.declared.Settings.{Settings}
 use Rattle.rules.specs.declared.Wire.{Wire}
 use Rattle.rules.specs.Circuit.{Output}
 use Rattle.rules.specs.CircuitText.{CircuitLine, FbsLine, InLine, GateLine, OutLine, policy, tables, circuitLine, fbsLine, gateLine}
-use Rattle.rules.specs.Form.{Piece, Reader, give, onward, either, only, bitsFrom, inLine, outLine}
+use Rattle.rules.specs.Form.{Reader, give, onward, either, bitsFrom, inLine, outLine}
 use Rattle.text.specs.Capped.{capped, exact-some, exact-none}
 use Rattle.text.specs.Chain.{step, stop, first, second}
-use Rattle.text.specs.FirstLine.{Inner, Closes, noNewline, firstLine, afterLine, inner-give, inner-or, inner-then, inner-word, inner-many, closes-or, closes-then, closes-give, closes-word, whole-found, whole-none, after-is}
+use Rattle.text.specs.FirstLine.{Inner, Closes, noNewline, firstLine, inner-give, inner-or, inner-then, inner-word, inner-many, closes-or, closes-then, closes-give, closes-word, whole-found, whole-none, after-is}
 use Rattle.text.specs.Forms.{Named, capOutput}
-use Rattle.text.specs.Gives.{isBitWire}
 use Rattle.text.specs.Line.{lineStop}
 use Rattle.text.specs.LineForms.{inner-name, inner-number, inner-bits, inner-wire, inner-norm, closes-in, closes-out}
 use Rattle.circuit.specs.declared.gate.Wires.{Wires}

@@ -1,14 +1,14 @@
 -- Wires as numbers, and back.
 use mathlib.Core.Path.{_≡_, refl, sym, ap, _∙_}
-use mathlib.Core.Bool.{true, false}
+use mathlib.Core.Bool.{false}
 use Prim.Native.Nat.{ℕ, _+_, _-_, _<_, _≤_}
 use native.Mathlib.Nat.{add-sub-cancel-left}
 use native.Mathlib.Omega.{arith}
-use borrow.Author.Tests.{leb-false, leb-true, lt-leb, lt-ltb, le-ltb}
+use borrow.Author.Tests.{leb-false, lt-leb, lt-ltb, le-ltb}
 use Rattle.rules.specs.declared.Wire.{Wire}
 use Rattle.rules.specs.declared.Wire.the-variants.{Const, Node}
 use Rattle.rules.specs.CircuitText.{noNode}
-use Rattle.text.specs.Gives.{isBitWire}
+use Rattle.theorems.specs.LineBits.{WireBit}
 use Rattle.circuit.specs.View.{wireIn}
 
 unfoldable pub wireNumber : ℕ → Wire → ℕ
@@ -20,12 +20,12 @@ unfolding wireIn wireNumber noNode
 wire-back m (Const b) e = rw (le-ltb (m + b) m (omega arith), add-sub-cancel-left)
 wire-back m (Node i) e = rw (lt-ltb i m (leb-false m i e))
 
-pub number-small : (m : ℕ) (w : Wire) → noNode m w ≡ false → isBitWire w ≡ true → wireNumber m w ≤ m + 1
-unfolding wireNumber noNode isBitWire
-number-small m (Const b) e h = omega (arith, leb-true b 1 h)
+pub number-small : (m : ℕ) (w : Wire) → noNode m w ≡ false → WireBit w → wireNumber m w ≤ m + 1
+unfolding wireNumber noNode WireBit
+number-small m (Const b) e h = omega arith
 number-small m (Node i) e h = omega (arith, leb-false m i e)
 
-pub number-is : (m : ℕ) (w v : Wire) (k : ℕ) → noNode m w ≡ false → isBitWire w ≡ true → w ≡ v → k ≡ wireNumber m v → (k ≡ wireNumber m w) × (k ≤ m + 1)
+pub number-is : (m : ℕ) (w v : Wire) (k : ℕ) → noNode m w ≡ false → WireBit w → w ≡ v → k ≡ wireNumber m v → (k ≡ wireNumber m w) × (k ≤ m + 1)
 number-is m w v k e h q f = let g : k ≡ wireNumber m w = f ∙ sym (ap (wireNumber m) q) in (g, omega (arith, number-small m w e h))
 
 pub wire-node : (m n : ℕ) → n < m → Node n ≡ wireIn m n

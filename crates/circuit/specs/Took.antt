@@ -1,37 +1,26 @@
 -- A line taken: its number, and the circuit with it where that is 0.
-use mathlib.Core.Path.{_≡_, refl, sym, ap, ap₂, subst, _∙_}
+use mathlib.Core.Path.{_≡_, refl, sym, ap, _∙_}
 use mathlib.Core.Bool.{Bool, true, false, _&&_, _||_, not, true≢false, or-false}
-use mathlib.Core.List.{List, [], _∷_, _++_}
-use mathlib.Core.Logic.{⊎-elim}
-use mathlib.Core.Option.{Option, none, some, Option·some-injective, Option·none-ne-some}
-use Prim.Native.Nat.{ℕ, _+_, _*_, _-_, _<_, _≤_}
+use mathlib.Core.List.{List, [], _∷_}
+use mathlib.Core.Option.{none, some}
+use Prim.Native.Nat.{ℕ, _+_, _<_, _≤_}
 use native.Mathlib.Omega.{arith}
 use borrow.Author.Tests.{ne-eqb, eqb-true, leb-false, ltb-false, not-false}
 use lib.Dec.{leb, ltb, eqb}
-use lib.ListN.{length, getD, take, drop, set, length-set}
-use lib.Seq.{paste, length-paste, getD-set-same}
-use Rattle.laws.specs.Tabulate.{tabulate, tabulate-length}
-use Rattle.laws.specs.Test.{if_then_else_, if-both, isSome, is-T, T-is, and-right, neither-left, neither-right, lt-or-le}
+use lib.ListN.{length}
+use Rattle.laws.specs.Tabulate.{tabulate-length}
+use Rattle.laws.specs.Test.{if_then_else_, isSome, is-T, T-is, and-right}
 use Rattle.rules.specs.declared.Settings.{Settings}
-use Rattle.rules.specs.declared.Wire.{Wire}
 use Rattle.rules.specs.Builder.{tableLimits}
 use Rattle.rules.specs.Circuit as C
-use Rattle.rules.specs.CircuitText.{CircuitLine, Prefix, listed, noNode, nodeCount, conditions, withLine, nothing}
+use Rattle.rules.specs.CircuitText.{Prefix, nodeCount, withLine}
 use Rattle.rules.specs.Form.{Condition, _when_}
-use Rattle.text.specs.Forms.{Named}
-use Rattle.text.specs.Gives.{isBitWire}
 use Rattle.text.specs.Judged.{lowest, unmet}
 use Rattle.circuit.specs.declared.Circuit.{Circuit}
-use Rattle.circuit.specs.declared.gate.Wires.{Wires}
 use Rattle.circuit.specs.declared.take.Step.{Step}
-use Rattle.circuit.specs.Below.{Below, below-self, below-set, below-less, gates-same, gates-more, names-same, names-more, name-same, outs-more, put-name, put-named, named-same}
-use Rattle.circuit.specs.Bits.{bitsAt, bits-at-length}
-use Rattle.circuit.specs.Brief.{Brief, FbsBrief, InBrief, GateBrief, OutBrief, briefConditions, brief, brief-conditions, told, brief-told, twoWires}
-use Rattle.circuit.specs.GateBytes.{GateFits, gateBytes, bytes-length, put-below, put-gate}
-use Rattle.circuit.specs.LineRead.{kept}
-use Rattle.circuit.specs.Slots.{wireNumber, wire-back, node-more}
-use Rattle.circuit.specs.View.{wireIn, gateIn, gatesIn, inputNames, outputIn, outputsIn, prefixOf, NamesIn, NamedAt}
-use Rattle.circuit.specs.Wires.{shape, FineWires}
+use Rattle.circuit.specs.Brief.{Brief, FbsBrief, briefConditions, told}
+use Rattle.circuit.specs.View.{gatesIn, inputNames, outputsIn, prefixOf, NamesIn}
+use Rattle.circuit.specs.Wires.{shape}
 
 -- What a line needs of those before it, in a text of k bytes: how many there were, and where the names stand.
 pub record Ready (i k : ℕ) (ps : List ℕ) (c : Circuit) : Type 0 where

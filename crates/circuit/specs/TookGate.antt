@@ -1,38 +1,28 @@
 -- A gate's line taken.
-use mathlib.Core.Path.{_≡_, refl, sym, ap, ap₂, subst, _∙_}
-use mathlib.Core.Bool.{Bool, true, false, _&&_, _||_, not, true≢false, or-false}
+use mathlib.Core.Path.{_≡_, refl, sym, ap, ap₂, _∙_}
+use mathlib.Core.Bool.{Bool, false, _||_, not}
 use mathlib.Core.List.{List, [], _∷_, _++_}
-use mathlib.Core.Logic.{⊎-elim}
-use mathlib.Core.Option.{Option, none, some, Option·some-injective, Option·none-ne-some}
 use Prim.Native.Nat.{ℕ, _+_, _*_, _-_, _<_, _≤_}
 use native.Mathlib.Omega.{arith}
-use borrow.Author.Tests.{ne-eqb, eqb-true, leb-false, ltb-false, not-false}
+use borrow.Author.Tests.{ne-eqb, not-false}
 use lib.Dec.{leb, ltb, eqb}
-use lib.ListN.{length, getD, take, drop, set, length-set}
-use lib.Seq.{paste, length-paste, getD-set-same}
-use Rattle.laws.specs.Tabulate.{tabulate, tabulate-length}
-use Rattle.laws.specs.Test.{if_then_else_, if-both, isSome, is-T, T-is, and-right, neither-left, neither-right, lt-or-le}
-use Rattle.rules.specs.declared.Settings.{Settings}
-use Rattle.rules.specs.declared.Wire.{Wire}
-use Rattle.rules.specs.Builder.{tableLimits}
+use lib.ListN.{length}
+use lib.Seq.{paste, length-paste}
+use Rattle.laws.specs.Test.{if_then_else_, if-both, neither-left, neither-right}
 use Rattle.rules.specs.Circuit as C
-use Rattle.rules.specs.CircuitText.{CircuitLine, Prefix, listed, noNode, nodeCount, conditions, withLine, nothing}
-use Rattle.rules.specs.Form.{Condition, _when_}
-use Rattle.text.specs.Forms.{Named}
-use Rattle.text.specs.Gives.{isBitWire}
+use Rattle.rules.specs.CircuitText.{withLine}
+use Rattle.rules.specs.Form.{_when_}
 use Rattle.text.specs.Judged.{lowest, unmet}
 use Rattle.circuit.specs.declared.Circuit.{Circuit}
 use Rattle.circuit.specs.declared.gate.Wires.{Wires}
-use Rattle.circuit.specs.declared.take.Step.{Step}
-use Rattle.circuit.specs.Below.{Below, below-self, below-set, below-less, gates-same, gates-more, names-same, names-more, name-same, outs-more, put-name, put-named, named-same}
+use Rattle.circuit.specs.Below.{gates-more}
 use Rattle.circuit.specs.Bits.{bitsAt, bits-at-length}
-use Rattle.circuit.specs.Brief.{Brief, FbsBrief, InBrief, GateBrief, OutBrief, briefConditions, brief, brief-conditions, told, brief-told, twoWires}
-use Rattle.circuit.specs.GateBytes.{GateFits, gateBytes, bytes-length, put-below, put-gate}
-use Rattle.circuit.specs.LineRead.{kept}
-use Rattle.circuit.specs.Slots.{wireNumber, wire-back, node-more}
-use Rattle.circuit.specs.View.{wireIn, gateIn, gatesIn, inputNames, outputIn, outputsIn, prefixOf, NamesIn, NamedAt}
+use Rattle.circuit.specs.Brief.{GateBrief, briefConditions, told, twoWires}
+use Rattle.circuit.specs.GateBytes.{GateStands, gateBytes, bytes-length, put-below, put-gate}
+use Rattle.circuit.specs.Slots.{node-more}
+use Rattle.circuit.specs.View.{gateIn, gatesIn, prefixOf}
 use Rattle.circuit.specs.Wires.{shape, FineWires}
-use Rattle.circuit.specs.Took.{Ready, Took, same-prefix, shape-bits, room, not-true, none-there, other-line, started, input-count, gate-count, output-count, same-inputs, node-count, settings-stay, took-refused}
+use Rattle.circuit.specs.Took.{Ready, Took, same-prefix, shape-bits, room, not-true, none-there, other-line, started, gate-count, output-count, settings-stay, took-refused}
 
 module _ (i : ℕ) (s gs ps : List ℕ) (c : Circuit) where
   module _ (d e : ℕ) (v : Wires) (matched : Bool) (k : ℕ) (l : (d ≤ e) × (e ≤ length s)) (f : matched ≡ shape (v .count) (e - d))
@@ -43,7 +33,7 @@ module _ (i : ℕ) (s gs ps : List ℕ) (c : Circuit) where
         shape-bits (v .count) (e - d) (sym f ∙ not-false matched (unmet _ _ (omega arith) (nodes .1) .0))
 
     -- a gate with no fault fits
-    pub gate-fits : k ≡ 0 → c .inputs ≤ 32 → FineWires (c .inputs + c .gates) v → GateFits (length s) d v
+    pub gate-fits : k ≡ 0 → c .inputs ≤ 32 → FineWires (c .inputs + c .gates) v → GateStands (length s) d v
     gate-fits h inputs w =
         let nodes = unmet _ _ (omega arith) (unmet _ _ (omega arith) (unmet _ _ (omega arith) (sym g ∙ h) .1) .1) .0 in
         let few = room 96 (c .gates) _ k g h in
@@ -67,7 +57,7 @@ module _ (i : ℕ) (s gs ps : List ℕ) (c : Circuit) where
     pub gate-refused : (k ≡ 0 → ⊥) → Took i s gs ps c (GateBrief (bitsAt s d (e - d)) v) z (record { number = k; circuit = c; end = z }) gs ps
     gate-refused h = took-refused i s gs ps c (GateBrief (bitsAt s d (e - d)) v) k z number-gate h
 
-    module _ (h : k ≡ 0) (w : GateFits (length s) d v) (long : length gs ≡ 576) (x : Circuit) (bs hs : List ℕ)
+    module _ (h : k ≡ 0) (w : GateStands (length s) d v) (long : length gs ≡ 576) (x : Circuit) (bs hs : List ℕ)
         (q : x ≡ record { settings = c .settings; inputs = c .inputs; gates = c .gates + 1; outs = c .outs }) (t : bs ≡ gateBytes s d v) (u : hs ≡ paste gs (6 * c .gates) bs 6) where
       p : hs ≡ paste gs (6 * c .gates) (gateBytes s d v) 6
       p = u ∙ ap (λ m. paste gs (6 * c .gates) m 6) t

@@ -1,6 +1,5 @@
 -- A line as it is read and taken.
 use mathlib.Core.Path.{_≡_, refl, sym, ap, subst, _∙_}
-use mathlib.Core.Bool.{true}
 use mathlib.Core.List.{List}
 use mathlib.Core.Option.{Option, none, some, Option·some-injective, Option·none-ne-some}
 use Prim.Native.Nat.{ℕ, _+_, _≤_}
@@ -9,14 +8,14 @@ use lib.ListN.{length}
 use Rattle.rules.specs.declared.Wire.{Wire}
 use Rattle.rules.specs.Circuit as C
 use Rattle.rules.specs.CircuitText.{CircuitLine, FbsLine, InLine, GateLine, OutLine, Prefix, nodeCount, conditions, withLine, circuitLine}
-use Rattle.text.specs.Gives.{isBitWire}
 use Rattle.text.specs.Judged.{lowest}
+use Rattle.theorems.specs.LineBits.{WireBit}
+use Rattle.theorems.specs.SoundCircuits.{SoundLine, line-sound}
 use Rattle.circuit.specs.declared.Circuit.{Circuit}
 use Rattle.circuit.specs.declared.gate.Wires.{Wires}
 use Rattle.circuit.specs.declared.take.Step.{Step}
 use Rattle.circuit.specs.Brief.{Brief, FbsBrief, InBrief, GateBrief, OutBrief, briefConditions, brief, brief-conditions, told, brief-told}
 use Rattle.circuit.specs.LineRead.{kept}
-use Rattle.circuit.specs.Sound.{SoundLine, sound-line}
 use Rattle.circuit.specs.Took.{Ready, Took, node-count}
 use Rattle.circuit.specs.View.{prefixOf}
 use Rattle.circuit.specs.Wires.{FineWires, fine-wires, cap-bit}
@@ -75,10 +74,10 @@ abbrev FineBrief : ℕ → Brief → Type 0
 FineBrief n (FbsBrief f) = Unit {0}
 FineBrief n (InBrief a) = Unit {0}
 FineBrief n (GateBrief b v) = FineWires n v
-FineBrief n (OutBrief a w) = isBitWire w ≡ true
+FineBrief n (OutBrief a w) = WireBit w
 
 fine-brief : (n : ℕ) (l : CircuitLine) → SoundLine l → FineBrief n (brief n l)
-unfolding brief
+unfolding brief SoundLine
 fine-brief n (FbsLine f) h = tt
 fine-brief n (InLine a) h = tt
 fine-brief n (GateLine b ws) h = fine-wires n ws (h .1)
@@ -87,10 +86,10 @@ fine-brief n (OutLine o) h = cap-bit (o .wire) (h .1)
 fine-kept : (n : ℕ) (x : List ℕ) (b : Brief) → some b ≡ kept n (circuitLine x) → FineBrief n b
 fine-kept n x b e =
     let k = kept-line n b (circuitLine x) e in
-    subst (FineBrief n) (sym (k .2)) (fine-brief n (k .0) (sound-line x (k .0) (k .1)))
+    subst (FineBrief n) (sym (k .2)) (fine-brief n (k .0) (line-sound x (k .0) (k .1)))
 
 pub fine-gate : (n : ℕ) (x b : List ℕ) (v : Wires) → some (GateBrief b v) ≡ kept n (circuitLine x) → FineWires n v
 fine-gate n x b v e = fine-kept n x (GateBrief b v) e
 
-pub bit-out : (n : ℕ) (x : List ℕ) (a : C.Name) (w : Wire) → some (OutBrief a w) ≡ kept n (circuitLine x) → isBitWire w ≡ true
+pub bit-out : (n : ℕ) (x : List ℕ) (a : C.Name) (w : Wire) → some (OutBrief a w) ≡ kept n (circuitLine x) → WireBit w
 bit-out n x a w e = fine-kept n x (OutBrief a w) e

@@ -1,6 +1,6 @@
 -- A gate's wires, of which the code keeps how many there are, the first two, and whether one goes to no earlier node.
-use mathlib.Core.Path.{_≡_, refl, sym, ap, _∙_}
-use mathlib.Core.Bool.{Bool, true, false, _&&_, _||_, or-false, or-assoc}
+use mathlib.Core.Path.{_≡_, refl, sym, _∙_}
+use mathlib.Core.Bool.{Bool, false, _&&_, _||_, or-false, or-assoc}
 use mathlib.Core.Logic.{⊎-elim}
 use mathlib.Core.List.{List, [], _∷_}
 use Prim.Native.Nat.{ℕ, suc, _<_, _≤_, min}
@@ -12,8 +12,9 @@ use Rattle.laws.specs.Test.{if_then_else_, if-both, lt-or-le, neither-left, nei
 use Rattle.rules.specs.declared.Wire.{Wire}
 use Rattle.rules.specs.declared.Wire.the-variants.{Const, Node}
 use Rattle.rules.specs.CircuitText.{noNode, anyNoNode, matching}
-use Rattle.text.specs.Gives.{Each, isBitWire}
 use Rattle.text.specs.Wire.{capWire}
+use Rattle.theorems.specs.LineBits.{WireBit}
+use Rattle.theorems.specs.SoundCircuits.{WireBits}
 use Rattle.circuit.specs.declared.gate.Wires.{Wires}
 
 unfoldable pub noWires : Wires
@@ -93,34 +94,31 @@ shape-is n b (u ∷ v ∷ w ∷ ws) =
 -- ---- What is kept is read: constants are bits, and where no wire is astray the two that are kept go to earlier nodes.
 
 pub record FineWires (n : ℕ) (v : Wires) : Type 0 where
-  pub leftBit : isBitWire (v .left) ≡ true
-  pub rightBit : isBitWire (v .right) ≡ true
+  pub leftBit : WireBit (v .left)
+  pub rightBit : WireBit (v .right)
   pub leftNode : v .astray ≡ false → noNode n (v .left) ≡ false
   pub rightNode : v .astray ≡ false → noNode n (v .right) ≡ false
 
-fine-more : (n : ℕ) (v : Wires) (w : Wire) → FineWires n v → isBitWire w ≡ true → FineWires n (withWire n v w)
+fine-more : (n : ℕ) (v : Wires) (w : Wire) → FineWires n v → WireBit w → FineWires n (withWire n v w)
 unfolding withWire
 fine-more n v w f h =
     record {
-      leftBit = if-both (λ u. isBitWire u ≡ true) (eqb (v .count) 0) h (f .leftBit);
-      rightBit = if-both (λ u. isBitWire u ≡ true) (eqb (v .count) 1) h (f .rightBit);
+      leftBit = if-both WireBit (eqb (v .count) 0) h (f .leftBit);
+      rightBit = if-both WireBit (eqb (v .count) 1) h (f .rightBit);
       leftNode = λ e. if-both (λ u. noNode n u ≡ false) (eqb (v .count) 0) (neither-right (v .astray) (noNode n w) e) (f .leftNode (neither-left (v .astray) (noNode n w) e));
       rightNode = λ e. if-both (λ u. noNode n u ≡ false) (eqb (v .count) 1) (neither-right (v .astray) (noNode n w) e) (f .rightNode (neither-left (v .astray) (noNode n w) e));
     }
 
-pub cap-bit : (w : Wire) → isBitWire w ≡ true → isBitWire (capWire w) ≡ true
-unfolding capWire isBitWire
+pub cap-bit : (w : Wire) → WireBit w → WireBit (capWire w)
+unfolding capWire WireBit
 cap-bit (Const b) h = h
-cap-bit (Node i) h = refl
+cap-bit (Node i) h = tt
 
-abbrev pub BitWires : List Wire → Type 0
-BitWires ws = Each (λ w. isBitWire w ≡ true) ws
-
-fine-added : (n : ℕ) (v : Wires) (ws : List Wire) → FineWires n v → BitWires ws → FineWires n (withWires n v ws)
-unfolding withWires
+fine-added : (n : ℕ) (v : Wires) (ws : List Wire) → FineWires n v → WireBits ws → FineWires n (withWires n v ws)
+unfolding withWires WireBits
 fine-added n v [] f h = f
 fine-added n v (w ∷ ws) f h = fine-added n (withWire n v (capWire w)) ws (fine-more n v (capWire w) f (cap-bit w (h .0))) (h .1)
 
-pub fine-wires : (n : ℕ) (ws : List Wire) → BitWires ws → FineWires n (withWires n noWires ws)
-unfolding noWires isBitWire noNode
-fine-wires n ws h = fine-added n noWires ws (record { leftBit = refl; rightBit = refl; leftNode = λ e. refl; rightNode = λ e. refl }) h
+pub fine-wires : (n : ℕ) (ws : List Wire) → WireBits ws → FineWires n (withWires n noWires ws)
+unfolding noWires WireBit noNode
+fine-wires n ws h = fine-added n noWires ws (record { leftBit = omega arith; rightBit = omega arith; leftNode = λ e. refl; rightNode = λ e. refl }) h

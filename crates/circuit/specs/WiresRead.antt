@@ -6,7 +6,7 @@ use Prim.Native.Nat.{ℕ, _<_, _≤_}
 use native.Mathlib.Omega.{arith}
 use lib.ListN.{length, drop, length-drop}
 use Rattle.rules.specs.declared.Wire.{Wire}
-use Rattle.rules.specs.Form.{Piece, Reader, give, onward, _>>=_, _>>_, word, many, wire}
+use Rattle.rules.specs.Form.{Piece, Reader, give, onward, _>>_, word, many, wire}
 use Rattle.text.specs.Capped.{capped, exact-some, exact-none}
 use Rattle.text.specs.Many.{Takes, takes-then, takes-word, keeps-wire, many-none, many-some}
 use Rattle.text.specs.Wire.{capWire}

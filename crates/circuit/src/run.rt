@@ -9,8 +9,8 @@ ghost use Rattle.laws.specs.Over.{over};
 ghost use Rattle.rules.specs.Circuit.{wireBit, gateBit, gateValues, circuitRun};
 ghost use Rattle.rules.specs.CircuitText.{noNode};
 ghost use Rattle.rules.specs.Runs.{runReply, allBits, bitsFor, ran, runOn};
-ghost use Rattle.circuit.specs.Run.{padded, GoodPort, Runs, RunsOn, portBits};
-ghost use Rattle.circuit.specs.Sound.{SoundGate};
+ghost use Rattle.circuit.specs.Run.{Runs, RunsOn, portBits};
+ghost use Rattle.circuit.specs.RunGate.{padded, GoodPort, SlotsFit};
 ghost use Rattle.circuit.specs.View.{gateIn, gatesIn, circuitOf};
 use crate::Circuit;
 use crate::slot::port_wire;
@@ -31,7 +31,7 @@ fn wire_value(values: &[u8; 128], w: Wire) -> u8
 // The bit of gate i: its answer. Its line does not matter.
 fn gate_value(values: &[u8; 128], gates: &[u8; 576], i: usize) -> u8
     requires { ⌜ (length (now gates) ≡ 576) × (i < 96) ⌝ }
-    requires { ⌜ SoundGate 128 (gateIn (now gates) 0 i) ⌝ }
+    requires { ⌜ SlotsFit (now gates) i ⌝ }
     requires { ⌜ allBits (now values) ≡ true ⌝ }
     ensures { λ r. ⌜ r ≡ gateBit (now (values .entry)) (gateIn (now (gates .entry)) 0 i) ⌝ }
 {

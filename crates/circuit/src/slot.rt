@@ -1,9 +1,9 @@
 // Wires as numbers: a node's own, or from m on a constant's. In a gate's slots m is 128, in the ports it is 1000.
 ghost use mathlib.Core.Path.{_≡_};
-ghost use mathlib.Core.Bool.{true, false};
+ghost use mathlib.Core.Bool.{false};
 ghost use Prim.Native.Nat.{_+_, _≤_};
 ghost use Rattle.rules.specs.CircuitText.{noNode};
-ghost use Rattle.text.specs.Gives.{isBitWire};
+ghost use Rattle.theorems.specs.LineBits.{WireBit};
 ghost use Rattle.circuit.specs.Slots.{wireNumber};
 ghost use Rattle.circuit.specs.View.{wireIn, slotWire, portWire};
 use rules::Wire;
@@ -11,7 +11,7 @@ use rules::Wire;
 // A wire to a node below m, or to a bit.
 fn wire_number(m: usize, w: Wire) -> usize
     requires { ⌜ m ≤ 1000 ⌝ }
-    requires { ⌜ (noNode m w ≡ false) × (isBitWire w ≡ true) ⌝ }
+    requires { ⌜ (noNode m w ≡ false) × (WireBit w) ⌝ }
     ensures { λ r. ⌜ (r ≡ wireNumber m w) × (r ≤ m + 1) ⌝ }
 {
     match w {
@@ -21,14 +21,14 @@ fn wire_number(m: usize, w: Wire) -> usize
 }
 
 pub fn slot_of(w: Wire) -> u8
-    requires { ⌜ (noNode 128 w ≡ false) × (isBitWire w ≡ true) ⌝ }
+    requires { ⌜ (noNode 128 w ≡ false) × (WireBit w) ⌝ }
     ensures { λ r. ⌜ r ≡ wireNumber 128 w ⌝ }
 {
     wire_number(128, w) as u8
 }
 
 pub fn port_of(w: Wire) -> usize
-    requires { ⌜ (noNode 1000 w ≡ false) × (isBitWire w ≡ true) ⌝ }
+    requires { ⌜ (noNode 1000 w ≡ false) × (WireBit w) ⌝ }
     ensures { λ r. ⌜ r ≡ wireNumber 1000 w ⌝ }
 {
     wire_number(1000, w)

@@ -8,11 +8,11 @@ ghost use lib.Seq.{paste};
 ghost use Rattle.rules.specs.CircuitText.{listed, circuitLine};
 ghost use Rattle.text.specs.FirstLine.{firstLine};
 ghost use Rattle.text.specs.Forms.{Named};
-ghost use Rattle.text.specs.Gives.{isBitWire};
 ghost use Rattle.text.specs.Line.{lineStop};
+ghost use Rattle.theorems.specs.LineBits.{WireBit};
 ghost use Rattle.circuit.specs.Bits.{bitsAt};
 ghost use Rattle.circuit.specs.Brief.{FbsBrief, InBrief, GateBrief, OutBrief};
-ghost use Rattle.circuit.specs.GateBytes.{GateFits, gateBytes};
+ghost use Rattle.circuit.specs.GateBytes.{GateStands, gateBytes};
 ghost use Rattle.circuit.specs.Took.{Ready, Took};
 ghost use Rattle.circuit.specs.TookLine.{TookLine};
 ghost use Rattle.circuit.specs.View.{inputNames, NamedAt};
@@ -47,7 +47,7 @@ fn bit_of(b: u8) -> u8
 
 // The six bytes of a gate whose bits stand in s from d on.
 fn gate_bytes(s: &[u8], d: usize, v: Wires) -> [u8; 6]
-    requires { ⌜ GateFits (length (now s)) d v ⌝ }
+    requires { ⌜ GateStands (length (now s)) d v ⌝ }
     ensures { λ r. ⌜ r ≡ gateBytes (now (s .entry)) d v ⌝ }
 {
     let left = v.left;
@@ -203,7 +203,7 @@ fn take_out(
 ) -> Step
     requires { ⌜ Ready line (length (now s)) (now ports) c ⌝ }
     requires { ⌜ Named (length (now s)) a b ⌝ }
-    requires { ⌜ isBitWire wire ≡ true ⌝ }
+    requires { ⌜ WireBit wire ⌝ }
     ensures { λ r. ⌜ ((gs : List ℕ) → Took line (now (s .entry)) gs (now (ports .entry)) c (OutBrief (take (b - a) (drop a (now (s .entry)))) wire) end r gs (now (ports .exit))) ⌝ }
 {
     let astray = is_astray(c.inputs + c.gates, wire);

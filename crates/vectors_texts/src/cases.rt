@@ -10,6 +10,7 @@ use crate::print::put;
 use crate::print::put_all;
 use crate::print::put_next;
 use crate::print::put_value;
+use circuit::Reading;
 use rules::AdmitReply;
 use rules::RunReply;
 use rules::Stats;
@@ -147,16 +148,20 @@ fn answer_admission(text: &[u8]) {
 
 fn answer_reader(text: &[u8]) {
     let mut out = [0u8; 8192];
-    let r = circuit::read(text);
-    if r.number != 0 {
-        let n = put_refusal(&mut out, r.number, r.line);
-        end_line(&mut out, n);
-        return;
+    let mut gates = [0u8; 576];
+    let mut ports = [0usize; 160];
+    let r = circuit::read(text, &mut gates, &mut ports);
+    match r {
+        Reading::Refused(number, line) => {
+            let n = put_refusal(&mut out, number, line);
+            end_line(&mut out, n);
+        }
+        Reading::Good(c) => {
+            let a = put_all(&mut out, 0, b"0 ");
+            let n = put_circuit(&mut out, a, c, text, &gates, &ports);
+            end_line(&mut out, n);
+        }
     }
-    let c = r.circuit;
-    let a = put_all(&mut out, 0, b"0 ");
-    let n = put_circuit(&mut out, a, c);
-    end_line(&mut out, n);
 }
 
 fn network_run(text: &[u8], bits: &[u8], values: &mut [i64]) {

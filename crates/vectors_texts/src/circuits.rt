@@ -1,18 +1,18 @@
 // A circuit as forms without separator, a gate with its line's number for its name.
+ghost use mathlib.Core.Path.{_≡_};
 ghost use Prim.Native.Nat.{_≤_};
+ghost use lib.ListN.{length};
 use crate::print::put;
 use crate::print::put_all;
-use crate::print::put_first;
 use crate::print::put_next;
 use crate::print::put_number;
 use circuit::Circuit;
-use circuit::Gate;
-use circuit::Out;
+use circuit::slot::port_wire;
+use circuit::slot::slot_wire;
 use rules::Limit;
 use rules::Policy;
 use rules::Settings;
 use rules::Wire;
-use text::Name;
 
 fn at_most(n: usize, most: usize) -> usize
     ensures { λ r. ⌜ r ≤ most ⌝ }
@@ -50,9 +50,15 @@ fn put_settings(out: &mut [u8], at: usize, s: Settings) -> usize {
     put_all(out, f, b" one)")
 }
 
-fn put_name(out: &mut [u8], at: usize, name: Name) -> usize {
-    let bytes = name.bytes;
-    put_first(out, at, &bytes, name.len)
+// The bytes of s from `start` up to `end`.
+fn put_name(out: &mut [u8], at: usize, s: &[u8], start: usize, end: usize) -> usize {
+    if s.len() < end {
+        return at;
+    }
+    if end < start {
+        return at;
+    }
+    put_all(out, at, &s[start..end])
 }
 
 fn put_wire(out: &mut [u8], at: usize, w: Wire) -> usize {
@@ -82,94 +88,119 @@ fn put_bits(out: &mut [u8], at: usize, first: u8, second: u8) -> usize {
     put_bit(out, a, second)
 }
 
-fn put_unary(out: &mut [u8], at: usize, g: Gate) -> usize {
-    let left = g.left;
-    let a = put_bits(out, at, g.bits[0], g.bits[1]);
-    put_wire(out, a, left)
-}
-
-fn put_binary(out: &mut [u8], at: usize, g: Gate) -> usize {
-    let left = g.left;
-    let right = g.right;
-    let a = put_bits(out, at, g.bits[0], g.bits[1]);
-    let b = put_bits(out, a, g.bits[2], g.bits[3]);
-    let c = put_wire(out, b, left);
-    put_wire(out, c, right)
-}
-
-// One wire and two bits, or two wires and four.
-fn put_answers(out: &mut [u8], at: usize, g: Gate) -> usize {
-    if g.arity == 1 {
-        return put_unary(out, at, g);
+fn put_slot(out: &mut [u8], at: usize, n: u8) -> usize {
+    if 129 < n {
+        return at;
     }
-    put_binary(out, at, g)
+    put_wire(out, at, slot_wire(n))
 }
 
-fn put_gate(out: &mut [u8], at: usize, g: Gate) -> usize {
+// One wire and two bits, or two wires and four: the six bytes of a gate.
+fn put_answers(out: &mut [u8], at: usize, g: [u8; 6]) -> usize {
+    let a = put_bits(out, at, g[2], g[3]);
+    if g[1] == 255 {
+        return put_slot(out, a, g[0]);
+    }
+    let b = put_bits(out, a, g[4], g[5]);
+    let c = put_slot(out, b, g[0]);
+    put_slot(out, c, g[1])
+}
+
+fn put_gate(out: &mut [u8], at: usize, line: usize, g: [u8; 6]) -> usize {
     let a = put_all(out, at, b"(gate");
-    let b = put_next(out, a, g.line);
+    let b = put_next(out, a, line);
     let c = put(out, b, b' ');
     let d = put_answers(out, c, g);
     put(out, d, b')')
 }
 
-fn put_input(out: &mut [u8], at: usize, name: Name) -> usize {
+fn put_input(out: &mut [u8], at: usize, s: &[u8], start: usize, end: usize) -> usize {
     let a = put_all(out, at, b"(in ");
-    let b = put_name(out, a, name);
+    let b = put_name(out, a, s, start, end);
     put(out, b, b')')
 }
 
-fn put_output(out: &mut [u8], at: usize, o: Out) -> usize {
+fn put_port(out: &mut [u8], at: usize, n: usize) -> usize {
+    if 1001 < n {
+        return at;
+    }
+    put_wire(out, at, port_wire(n))
+}
+
+fn put_output(out: &mut [u8], at: usize, s: &[u8], start: usize, end: usize, wire: usize) -> usize {
     let a = put_all(out, at, b"(out ");
-    let name = o.name;
-    let wire = o.wire;
-    let b = put_name(out, a, name);
-    let c = put_wire(out, b, wire);
+    let b = put_name(out, a, s, start, end);
+    let c = put_port(out, b, wire);
     put(out, c, b')')
 }
 
-fn put_inputs(out: &mut [u8], at: usize, names: [Name; 32], n: usize) -> usize {
+fn put_inputs(out: &mut [u8], at: usize, s: &[u8], ports: &[usize; 160], n: usize) -> usize
+    requires { ⌜ length (now ports) ≡ 160 ⌝ }
+{
     let k = at_most(n, 32);
     let mut to = at;
     let mut i = 0;
     while i < k {
-        to = put_input(out, to, names[i]);
+        to = put_input(out, to, s, ports[2 * i], ports[2 * i + 1]);
         i += 1;
     }
     to
 }
 
-fn put_gates(out: &mut [u8], at: usize, gates: [Gate; 96], n: usize) -> usize {
+// The gates' lines stand behind the `fbs` line and those of the inputs.
+fn put_gates(out: &mut [u8], at: usize, gates: &[u8; 576], inputs: usize, n: usize) -> usize
+    requires { ⌜ length (now gates) ≡ 576 ⌝ }
+{
+    let first = at_most(inputs, 32) + 2;
     let k = at_most(n, 96);
     let mut to = at;
     let mut i = 0;
     while i < k {
-        to = put_gate(out, to, gates[i]);
+        let j = 6 * i;
+        let g = [
+            gates[j],
+            gates[j + 1],
+            gates[j + 2],
+            gates[j + 3],
+            gates[j + 4],
+            gates[j + 5],
+        ];
+        to = put_gate(out, to, first + i, g);
         i += 1;
     }
     to
 }
 
-fn put_outputs(out: &mut [u8], at: usize, outs: [Out; 32], n: usize) -> usize {
+fn put_outputs(out: &mut [u8], at: usize, s: &[u8], ports: &[usize; 160], n: usize) -> usize
+    requires { ⌜ length (now ports) ≡ 160 ⌝ }
+{
     let k = at_most(n, 32);
     let mut to = at;
     let mut i = 0;
     while i < k {
-        to = put_output(out, to, outs[i]);
+        let j = 64 + 3 * i;
+        to = put_output(out, to, s, ports[j], ports[j + 1], ports[j + 2]);
         i += 1;
     }
     to
 }
 
-pub fn put_circuit(out: &mut [u8], at: usize, c: Circuit) -> usize {
+// The circuit that the text s describes.
+pub fn put_circuit(
+    out: &mut [u8],
+    at: usize,
+    c: Circuit,
+    s: &[u8],
+    gates: &[u8; 576],
+    ports: &[usize; 160],
+) -> usize
+    requires { ⌜ (length (now gates) ≡ 576) × (length (now ports) ≡ 160) ⌝ }
+{
     let settings = c.settings;
-    let names = c.names;
-    let gates = c.gates;
-    let outs = c.outs;
     let a = put_settings(out, at, settings);
-    let b = put_inputs(out, a, names, c.inputs);
-    let d = put_gates(out, b, gates, c.gate_count);
-    put_outputs(out, d, outs, c.out_count)
+    let b = put_inputs(out, a, s, ports, c.inputs);
+    let d = put_gates(out, b, gates, c.inputs, c.gates);
+    put_outputs(out, d, s, ports, c.outs)
 }
 
 pub fn put_refusal(out: &mut [u8], number: usize, line: usize) -> usize {

@@ -19,14 +19,6 @@ pub fn put_all(out: &mut [u8], at: usize, w: &[u8]) -> usize {
     to
 }
 
-// The first n bytes.
-pub fn put_first(out: &mut [u8], at: usize, w: &[u8], n: usize) -> usize {
-    if n <= w.len() {
-        return put_all(out, at, &w[0..n]);
-    }
-    at
-}
-
 pub fn put_number(out: &mut [u8], at: usize, n: u64) -> usize {
     let mut digits = [0u8; 20];
     let k = io::decimal(n, &mut digits);

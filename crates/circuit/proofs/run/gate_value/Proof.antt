@@ -5,18 +5,18 @@ use borrow.Author.Needs.{needs}
 use lib.ListN.{getD}
 use Rattle.rules.specs.Circuit.{wireBit}
 use Rattle.rules.specs.CircuitText.{noNode}
-use Rattle.circuit.specs.Run.{wire-small, left-there, left-slot, right-there, right-slot, gate-one, gate-two}
+use Rattle.circuit.specs.RunGate.{wire-small, slot-node, slot-bit, gate-one, gate-two}
 use Rattle.circuit.specs.View.{slotWire}
 use Rattle.circuit.proofs.run.gate_value.Statement.{statement}
 use Rattle.circuit.proofs.run.gate_value.Tie as tie
 
 slot-wire-requires : tie.Need-slot-wire-requires
-slot-wire-requires c κs = let s0 = c .before in left-slot (s0 .args .gates .now) (s0 .args .i) (s0 .pre .1 .0)
+slot-wire-requires c κs = let s0 = c .before in s0 .pre .1 .0 .0
 
 wire-value-requires : tie.Need-wire-value-requires
 wire-value-requires c κs =
     let s0 = c .before .before in
-    ap (noNode 128) (c .slot-wire .ensures) ∙ left-there (s0 .args .gates .now) (s0 .args .i) (s0 .pre .1 .0) .0
+    ap (noNode 128) (c .slot-wire .ensures) ∙ slot-node 128 (getD (s0 .args .gates .now) (6 * s0 .args .i) 0)
 
 element-copy-out-result : tie.Need-element-copy-out-result
 element-copy-out-result c =
@@ -24,7 +24,7 @@ element-copy-out-result c =
     let w = v .before in
     let s0 = w .before .before in
     let A = s0 .args in
-    let l : v .wire-value .result ≤ 1 = wire-small (A .values .now) (slotWire (getD (A .gates .now) (6 * A .i) 0)) (s0 .pre .1 .1) (left-there (A .gates .now) (A .i) (s0 .pre .1 .0) .1) (v .wire-value .ensures ∙ ap (wireBit (A .values .now)) (w .slot-wire .ensures)) in
+    let l : v .wire-value .result ≤ 1 = wire-small (A .values .now) (slotWire (getD (A .gates .now) (6 * A .i) 0)) (s0 .pre .1 .1) (slot-bit 128 (getD (A .gates .now) (6 * A .i) 0) (s0 .pre .1 .0 .0)) (v .wire-value .ensures ∙ ap (wireBit (A .values .now)) (w .slot-wire .ensures)) in
     let k : A .i < 96 = s0 .pre .0 .1 in
     omega arith
 
@@ -36,18 +36,18 @@ returns c =
     let s0 = w .before .before in
     let A = s0 .args in
     let e : v .wire-value .result ≡ wireBit (A .values .now) (slotWire (getD (A .gates .now) (6 * A .i) 0)) = v .wire-value .ensures ∙ ap (wireBit (A .values .now)) (w .slot-wire .ensures) in
-    gate-one (A .values .now) (A .gates .now) (A .i) e (wire-small (A .values .now) (slotWire (getD (A .gates .now) (6 * A .i) 0)) (s0 .pre .1 .1) (left-there (A .gates .now) (A .i) (s0 .pre .1 .0) .1) e) (t .if1 .taken)
+    gate-one (A .values .now) (A .gates .now) (A .i) e (wire-small (A .values .now) (slotWire (getD (A .gates .now) (6 * A .i) 0)) (s0 .pre .1 .1) (slot-bit 128 (getD (A .gates .now) (6 * A .i) 0) (s0 .pre .1 .0 .0)) e) (t .if1 .taken)
 
 slot-wire-requires-2 : tie.Need-slot-wire-requires-2
 slot-wire-requires-2 c κs =
     let s0 = c .before .before .before .before .before in
-    right-slot (s0 .args .gates .now) (s0 .args .i) (s0 .pre .1 .0) (c .if1 .left)
+    s0 .pre .1 .0 .1 (c .if1 .left)
 
 wire-value-requires-2 : tie.Need-wire-value-requires-2
 wire-value-requires-2 c κs =
     let t = c .before in
     let s0 = t .before .before .before .before .before in
-    ap (noNode 128) (c .slot-wire2 .ensures) ∙ right-there (s0 .args .gates .now) (s0 .args .i) (s0 .pre .1 .0) (t .if1 .left) .0
+    ap (noNode 128) (c .slot-wire2 .ensures) ∙ slot-node 128 (getD (s0 .args .gates .now) (6 * s0 .args .i + 1) 0)
 
 element-copy-out-result-2 : tie.Need-element-copy-out-result-2
 element-copy-out-result-2 c =
@@ -57,8 +57,8 @@ element-copy-out-result-2 c =
     let w = v .before in
     let s0 = w .before .before in
     let A = s0 .args in
-    let l : v .wire-value .result ≤ 1 = wire-small (A .values .now) (slotWire (getD (A .gates .now) (6 * A .i) 0)) (s0 .pre .1 .1) (left-there (A .gates .now) (A .i) (s0 .pre .1 .0) .1) (v .wire-value .ensures ∙ ap (wireBit (A .values .now)) (w .slot-wire .ensures)) in
-    let r : c .wire-value2 .result ≤ 1 = wire-small (A .values .now) (slotWire (getD (A .gates .now) (6 * A .i + 1) 0)) (s0 .pre .1 .1) (right-there (A .gates .now) (A .i) (s0 .pre .1 .0) (t .if1 .left) .1) (c .wire-value2 .ensures ∙ ap (wireBit (A .values .now)) (x .slot-wire2 .ensures)) in
+    let l : v .wire-value .result ≤ 1 = wire-small (A .values .now) (slotWire (getD (A .gates .now) (6 * A .i) 0)) (s0 .pre .1 .1) (slot-bit 128 (getD (A .gates .now) (6 * A .i) 0) (s0 .pre .1 .0 .0)) (v .wire-value .ensures ∙ ap (wireBit (A .values .now)) (w .slot-wire .ensures)) in
+    let r : c .wire-value2 .result ≤ 1 = wire-small (A .values .now) (slotWire (getD (A .gates .now) (6 * A .i + 1) 0)) (s0 .pre .1 .1) (slot-bit 128 (getD (A .gates .now) (6 * A .i + 1) 0) (s0 .pre .1 .0 .1 (t .if1 .left))) (c .wire-value2 .ensures ∙ ap (wireBit (A .values .now)) (x .slot-wire2 .ensures)) in
     let k : A .i < 96 = s0 .pre .0 .1 in
     omega arith
 
@@ -73,8 +73,8 @@ returns-2 c =
     let A = s0 .args in
     let e : v .wire-value .result ≡ wireBit (A .values .now) (slotWire (getD (A .gates .now) (6 * A .i) 0)) = v .wire-value .ensures ∙ ap (wireBit (A .values .now)) (w .slot-wire .ensures) in
     let f : y .wire-value2 .result ≡ wireBit (A .values .now) (slotWire (getD (A .gates .now) (6 * A .i + 1) 0)) = y .wire-value2 .ensures ∙ ap (wireBit (A .values .now)) (x .slot-wire2 .ensures) in
-    gate-two (A .values .now) (A .gates .now) (A .i) e (wire-small (A .values .now) (slotWire (getD (A .gates .now) (6 * A .i) 0)) (s0 .pre .1 .1) (left-there (A .gates .now) (A .i) (s0 .pre .1 .0) .1) e) f
-    (wire-small (A .values .now) (slotWire (getD (A .gates .now) (6 * A .i + 1) 0)) (s0 .pre .1 .1) (right-there (A .gates .now) (A .i) (s0 .pre .1 .0) (t .if1 .left) .1) f) (t .if1 .left)
+    gate-two (A .values .now) (A .gates .now) (A .i) e (wire-small (A .values .now) (slotWire (getD (A .gates .now) (6 * A .i) 0)) (s0 .pre .1 .1) (slot-bit 128 (getD (A .gates .now) (6 * A .i) 0) (s0 .pre .1 .0 .0)) e) f
+    (wire-small (A .values .now) (slotWire (getD (A .gates .now) (6 * A .i + 1) 0)) (s0 .pre .1 .1) (slot-bit 128 (getD (A .gates .now) (6 * A .i + 1) 0) (s0 .pre .1 .0 .1 (t .if1 .left))) f) (t .if1 .left)
 
 pub gate-value-spec : {M : Type 1} → statement M
 gate-value-spec =

@@ -2,7 +2,8 @@ use mathlib.Core.Path.{_≡_, _∙_}
 use Prim.Native.Nat.{_-_, _≤_}
 use native.Mathlib.Omega.{arith}
 use borrow.Author.Needs.{needs}
-use Rattle.circuit.specs.Run.{padded, valuesAt, bits-many, run-start, run-bits, run-sound, run-next, run-done}
+use Rattle.circuit.specs.Run.{valuesAt, bits-many, run-start, run-bits, run-slots, run-next, run-done}
+use Rattle.circuit.specs.RunGate.{padded}
 use Rattle.circuit.specs.View.{gatesIn}
 use Rattle.circuit.proofs.run.gate_values.Statement.{statement}
 use Rattle.circuit.proofs.run.gate_values.Tie as tie
@@ -35,7 +36,7 @@ gate-value-requires c κs =
     let y = s0 .pre in
     let k = y .gates in
     let h = t .loop-test .taken in
-    ((y .long, omega arith), (run-sound (A .n) (A .count) (A .gates .now) (A .bits .now) y _ (o .loop .i) (o .loop .inv .1) h, run-bits (A .n) (A .count) (A .gates .now) (A .bits .now) y _ (o .loop .i) (o .loop .inv .1)))
+    ((y .long, omega arith), (run-slots (A .n) (A .count) (A .gates .now) (A .bits .now) y (o .loop .i) h, run-bits (A .n) (A .count) (A .gates .now) (A .bits .now) y _ (o .loop .i) (o .loop .inv .1)))
 
 add-values : tie.Need-add-values Inv-loop μ-loop
 add-values c =

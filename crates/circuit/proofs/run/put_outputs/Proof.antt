@@ -1,12 +1,13 @@
 use mathlib.Core.Path.{_≡_, ap, _∙_}
-use Prim.Native.Nat.{_+_, _*_, _-_, _≤_, _<_}
+use Prim.Native.Nat.{_-_, _≤_, _<_}
 use native.Mathlib.Omega.{arith}
 use borrow.Author.Needs.{needs}
-use lib.ListN.{length, getD}
+use lib.ListN.{length}
 use Rattle.laws.specs.Front.{Filling, filling-start}
 use Rattle.rules.specs.Circuit.{wireBit}
 use Rattle.rules.specs.CircuitText.{noNode}
-use Rattle.circuit.specs.Run.{portBits, port-small, out-next, out-done}
+use Rattle.circuit.specs.Run.{portBits, out-next, out-done}
+use Rattle.circuit.specs.RunGate.{port-node}
 use Rattle.circuit.proofs.run.put_outputs.Statement.{statement}
 use Rattle.circuit.proofs.run.put_outputs.Tie as tie
 
@@ -24,14 +25,14 @@ port-wire-requires c κs =
     let t = c .before in
     let o = t .before in
     let s0 = o .before .before in
-    port-small _ (s0 .pre .1 (o .loop .i) (t .loop-test .taken))
+    s0 .pre .1 (o .loop .i) (t .loop-test .taken) .0
 
 wire-value-requires : tie.Need-wire-value-requires Inv-loop μ-loop
 wire-value-requires c κs =
     let t = c .before .before in
     let o = t .before in
     let s0 = o .before .before in
-    ap (noNode 128) (c .port-wire .ensures) ∙ s0 .pre .1 (o .loop .i) (t .loop-test .taken) .0
+    ap (noNode 128) (c .port-wire .ensures) ∙ port-node _ (s0 .pre .1 (o .loop .i) (t .loop-test .taken))
 
 slice-write-out : tie.Need-slice-write-out Inv-loop μ-loop
 slice-write-out c =

@@ -1,7 +1,7 @@
 use mathlib.Core.Path.{sym, ap}
 use borrow.Author.Needs.{needs}
 use Rattle.rules.specs.Circuit.{wireBit}
-use Rattle.circuit.specs.Run.{node-below}
+use Rattle.circuit.specs.RunGate.{node-below}
 use Rattle.circuit.proofs.run.wire_value.Statement.{statement}
 use Rattle.circuit.proofs.run.wire_value.Tie as tie
 
