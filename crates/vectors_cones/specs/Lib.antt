@@ -1,2 +1,3 @@
 -- Laws of the tests that a stored cone has to pass.
 pub mod Tested
+pub mod Made

@@ -23,8 +23,8 @@ pub extended : (P : ℕ → Type 0) (i : ℕ) → ((k : ℕ) → k < i → P k) 
 extended P i h p k l = ⊎-elim (λ (e : k ≡ i). subst P (sym e) p) (λ e. h k (omega arith)) (eq-or-ne k i)
 
 -- all places are tested, and what lies past them is 0
-pub all-bits : (l : List ℕ) (i : ℕ) → length l ≤ i → ((k : ℕ) → k < i → getD l k 0 < 2) → (k : ℕ) → getD l k 0 < 2
-all-bits l i e h k =
+pub all-below : (m : ℕ) (l : List ℕ) (i : ℕ) → 0 < m → length l ≤ i → ((k : ℕ) → k < i → getD l k 0 < m) → (k : ℕ) → getD l k 0 < m
+all-below m l i o e h k =
     ⊎-elim
     (λ (q : k < length l). h k (omega arith))
     (λ (q : length l ≤ k). rw (List·getD-eq-default l 0 {n = k} q) (omega arith))
@@ -36,6 +36,9 @@ all-within m l i e h k =
     (λ (q : k < length l). h k (omega arith))
     (λ (q : length l ≤ k). rw (List·getD-eq-default l (pos 0) {n = k} q) zero-le)
     (lt-or-le k (length l))
+
+pub within-same : (k : ℕ) (x y : ℤ) → x ≡ y → natAbs y ≤ k → natAbs x ≤ k
+within-same k x y e h = rw e h
 
 pub small-between : (z : ℤ) → ltZ z (negsuc 30) ≡ false → ltZ (pos 31) z ≡ false → natAbs z ≤ 31
 unfolding plus minus

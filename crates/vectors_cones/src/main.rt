@@ -14,14 +14,18 @@ use vectors::next_token;
 use vectors::skip;
 ghost use mathlib.Core.Path.{_≡_};
 ghost use mathlib.Core.Bool.{true};
-ghost use Prim.Native.Nat.{ℕ, _≤_, _<_};
-ghost use lib.ListN.{length, getD};
+ghost use mathlib.Core.Option.{some};
+ghost use Prim.Native.Nat.{ℕ, _≤_, _<_, _^_};
+ghost use lib.ListN.{length, getD, take};
+ghost use Rattle.rules.specs.Builder.{knownEntries};
 ghost use Rattle.rules.specs.Cone.{linearTable};
 ghost use Rattle.rules.specs.Composition.{unionSupport};
 ghost use Rattle.rules.specs.NetworkText.{allDifferent};
 ghost use Rattle.rules.specs.Span.{span};
 ghost use Rattle.scale.specs.Limits.{Within};
+ghost use lib.IntN.{natAbs};
 ghost use Rattle.cone.specs.View.{coneOf, IsCone};
+ghost use Rattle.vectors_cones.specs.Made.{rowsOf, IsForm, IsSmall};
 
 // ---- reading
 
@@ -106,8 +110,16 @@ fn read_truth(text: &[u8], from: usize, rows: usize) -> Truth
     Truth { bits, next: at }
 }
 
+// A cone by its rows: the first n sources and coefficients, and a truth for each assignment of them.
+struct ConeRows {
+    n: usize,
+    support: [usize; 11],
+    coefs: [i64; 11],
+    truth: [u8; 2048],
+}
+
 struct Got {
-    cone: Cone,
+    cone: ConeRows,
     next: usize,
 }
 
@@ -121,7 +133,7 @@ fn read_cone(text: &[u8], from: usize) -> Got {
     let coefs = c.coefs;
     let truth = b.bits;
     Got {
-        cone: Cone {
+        cone: ConeRows {
             n,
             support,
             coefs,
@@ -163,12 +175,13 @@ fn are_small(coefs: &[i64]) -> bool
     true
 }
 
-fn are_bits(truth: &[u8]) -> bool
-    ensures { λ r. ⌜ (r ≡ true → ((i : ℕ) → getD (now (truth .entry)) i 0 < 2)) ⌝ }
+// They are nodes of a store.
+fn are_near(nodes: &[usize]) -> bool
+    ensures { λ r. ⌜ (r ≡ true → ((i : ℕ) → getD (now (nodes .entry)) i 0 < 672)) ⌝ }
 {
     let mut i = 0;
-    while i < truth.len() {
-        if 1 < truth[i] {
+    while i < nodes.len() {
+        if 671 < nodes[i] {
             return false;
         }
         i += 1;
@@ -186,24 +199,79 @@ fn is_narrow(coefs: &[i64]) -> bool
     cone::table::linear_span(coefs) <= 32
 }
 
-fn is_cone(cone: Cone) -> bool
-    ensures { λ r. ⌜ (r ≡ true → IsCone cone) ⌝ }
+// What has to hold of the sources and coefficients.
+fn is_form(n: usize, support: [usize; 11], coefs: [i64; 11]) -> bool
+    ensures { λ r. ⌜ (r ≡ true → IsForm n support coefs) ⌝ }
 {
-    let n = cone.n;
     if 11 < n {
         return false;
     }
-    let support = cone.support;
-    let coefs = cone.coefs;
-    let truth = cone.truth;
-    let rows = cone::table::rows_of(n);
     if !are_different(&support[..n]) {
         return false;
     }
-    if !is_narrow(&coefs[..n]) {
+    if !are_near(&support[..n]) {
         return false;
     }
-    are_bits(&truth[..rows])
+    is_narrow(&coefs[..n])
+}
+
+// The truth at each value; `one` where each value has one truth.
+struct Known {
+    one: bool,
+    known: [u8; 32],
+}
+
+fn known_at(values: &[i32], truth: &[u8], size: usize) -> Known
+    requires { ⌜ (length (now values) ≡ length (now truth)) × ((0 < length (now values)) × ((size ≡ span (now values)) × (size ≤ 32))) ⌝ }
+    ensures { λ r. ⌜ (r .one ≡ true → knownEntries (now (values .entry)) (now (truth .entry)) ≡ some (take size (r .known))) ⌝ }
+{
+    let bounds = rotation::bounds_of(values);
+    let mut known = [2u8; 32];
+    let one = rotation::enter(values, truth, bounds.low, &mut known[..size]);
+    Known { one, known }
+}
+
+fn known_of(n: usize, coefs: [i64; 11], truth: [u8; 2048]) -> Known
+    requires { ⌜ (n ≤ 11) × (span (linearTable (take n coefs)) ≤ 32) ⌝ }
+    ensures { λ r. ⌜ (r .one ≡ true → knownEntries (linearTable (take n coefs)) (take (2 ^ n) truth) ≡ some (take (span (linearTable (take n coefs))) (r .known))) ⌝ }
+{
+    let mut values = [0i32; 2048];
+    cone::table::values_of(coefs, n, &mut values);
+    let rows = cone::table::rows_of(n);
+    let size = cone::table::linear_span(&coefs[..n]);
+    known_at(&values[..rows], &truth[..rows], size)
+}
+
+// A cone, where the rows are those of one.
+struct Made {
+    is: bool,
+    cone: Cone,
+}
+
+fn made_of(c: ConeRows) -> Made
+    ensures { λ r. ⌜ (r .is ≡ true → IsCone (r .cone) × (coneOf (r .cone) ≡ rowsOf c)) ⌝ }
+{
+    let n = c.n;
+    let support = c.support;
+    let coefs = c.coefs;
+    let truth = c.truth;
+    if !is_form(n, support, coefs) {
+        return Made {
+            is: false,
+            cone: Cone::constant(0),
+        };
+    }
+    let k = known_of(n, coefs, truth);
+    let known = k.known;
+    Made {
+        is: k.one,
+        cone: Cone {
+            n,
+            support,
+            coefs,
+            known,
+        },
+    }
 }
 
 // ---- writing
@@ -314,20 +382,21 @@ fn show_measures(cone: Cone)
     show_signed(divisor_of(cone));
 }
 
-// The coefficients divided by their divisor, as the mapper's are before it simplifies.
-fn normalised(cone: Cone) -> Cone
+// The coefficients divided by their divisor, as the mapper's are before it simplifies; the truth at each row stays.
+fn normalised(cone: Cone) -> ConeRows
     requires { ⌜ IsCone cone ⌝ }
 {
-    let d = divisor_of(cone);
-    if d == 0 {
-        return cone;
-    }
     let n = cone.n;
     let support = cone.support;
     let mut coefs = cone.coefs;
-    let truth = cone.truth;
-    scale::divide_all(&mut coefs[..n], d);
-    Cone {
+    let mut values = [0i32; 2048];
+    let mut truth = [0u8; 2048];
+    cone::table::truths_of(cone, &mut values, &mut truth);
+    let d = divisor_of(cone);
+    if d != 0 {
+        scale::divide_all(&mut coefs[..n], d);
+    }
+    ConeRows {
         n,
         support,
         coefs,
@@ -350,9 +419,11 @@ fn show_judged(s: Settings, cone: Cone)
     let n = cone.n;
     let support = cone.support;
     let coefs = cone.coefs;
-    let truth = cone.truth;
     show_number(n);
     show_terms(support, coefs, n);
+    let mut values = [0i32; 2048];
+    let mut truth = [0u8; 2048];
+    cone::table::truths_of(cone, &mut values, &mut truth);
     show_truth(truth, cone::table::rows_of(n));
     io::print_decimal(
         STDOUT_FILENO,
@@ -365,53 +436,68 @@ fn no_cone() {
 }
 
 // The cone normalised and without unused sources.
-fn show_simplified(s: Settings, cone: Cone) {
-    if !is_cone(cone) {
+fn show_simplified(s: Settings, cone: Cone)
+    requires { ⌜ IsCone cone ⌝ }
+{
+    let m = made_of(normalised(cone));
+    if !m.is {
         no_cone();
         return;
     }
-    let c = normalised(cone);
-    if !is_cone(c) {
-        no_cone();
-        return;
-    }
-    show_judged(s, cone::simplify::simplify_cone(c));
+    show_judged(s, cone::simplify::simplify_cone(m.cone));
 }
 
-// The gate's truth over the union, with the left coefficients and with the right ones.
-fn show_merged(s: Settings, basis: Basis, truth: [u8; 2048]) {
+// a times the left coefficients and the right ones.
+fn merged_coefs(basis: Basis, a: i64) -> [i64; 11]
+    requires { ⌜ IsSmall basis × (natAbs a ≤ 32) ⌝ }
+{
+    let mut coefs = [0i64; 11];
+    let mut i = 0;
+    while i < basis.n {
+        coefs[i] = scale::scaled(a, basis.left[i], 1, basis.right[i]);
+        i += 1;
+    }
+    coefs
+}
+
+// The gate's truth over the union, with a times the left coefficients and the right ones.
+fn show_merged(s: Settings, basis: Basis, a: i64, truth: [u8; 2048])
+    requires { ⌜ IsSmall basis × (natAbs a ≤ 32) ⌝ }
+{
     let n = basis.n;
     let support = basis.support;
-    let left = basis.left;
-    let right = basis.right;
-    let lefts = Cone {
+    let coefs = merged_coefs(basis, a);
+    let m = made_of(ConeRows {
         n,
         support,
-        coefs: left,
+        coefs,
         truth,
-    };
-    let rights = Cone {
-        n,
-        support,
-        coefs: right,
-        truth,
-    };
-    show_simplified(s, lefts);
-    space();
-    show_simplified(s, rights);
+    });
+    if !m.is {
+        no_cone();
+        return;
+    }
+    show_simplified(s, m.cone);
 }
 
-// The union with both rows of coefficients, the three tables, and four cones simplified.
+fn span_of(cone: Cone) -> i64
+    requires { ⌜ IsCone cone ⌝ }
+    ensures { λ r. ⌜ natAbs r ≤ 32 ⌝ }
+{
+    cone.span() as i64
+}
+
+// The union with both rows of coefficients, the three tables, and four cones simplified: both, and both merged, the left one once and as often as the right span.
 fn run(s: Settings, left: Cone, right: Cone, gate: [u8; 4])
     requires { ⌜ IsCone left × (IsCone right × (length (unionSupport (coneOf left .support) (coneOf right .support)) ≤ 11)) ⌝ }
 {
     let basis = cone::compose::basis_of(left, right);
-    let t = cone::compose::compose(left, right, basis, gate);
-    let xs = t.xs;
-    let ys = t.ys;
-    let truth = t.truth;
-    let rows = cone::table::rows_of(basis.n);
+    let mut xs = [0i32; 2048];
+    let mut ys = [0i32; 2048];
+    let mut truth = [0u8; 2048];
+    cone::compose::cone_composition_tables(left, right, basis, gate, &mut xs, &mut ys, &mut truth);
     show_basis(basis);
+    let rows = cone::table::rows_of(basis.n);
     show_values(xs, rows);
     show_values(ys, rows);
     show_truth(truth, rows);
@@ -419,7 +505,9 @@ fn run(s: Settings, left: Cone, right: Cone, gate: [u8; 4])
     space();
     show_simplified(s, right);
     space();
-    show_merged(s, basis, truth);
+    show_merged(s, basis, 1, truth);
+    space();
+    show_merged(s, basis, span_of(right), truth);
 }
 
 fn union_size(left: Cone, right: Cone) -> usize
@@ -433,15 +521,9 @@ fn union_size(left: Cone, right: Cone) -> usize
     cone::support::union_support_size(&ls[..ln], &rs[..rn])
 }
 
-fn run_tested(s: Settings, left: Cone, right: Cone, gate: [u8; 4]) {
-    if !is_cone(left) {
-        no_cone();
-        return;
-    }
-    if !is_cone(right) {
-        no_cone();
-        return;
-    }
+fn run_both(s: Settings, left: Cone, right: Cone, gate: [u8; 4])
+    requires { ⌜ IsCone left × IsCone right ⌝ }
+{
     if 11 < union_size(left, right) {
         no_cone();
         return;
@@ -449,6 +531,20 @@ fn run_tested(s: Settings, left: Cone, right: Cone, gate: [u8; 4]) {
     show_measures(left);
     show_measures(right);
     run(s, left, right, gate);
+}
+
+fn run_tested(s: Settings, left: ConeRows, right: ConeRows, gate: [u8; 4]) {
+    let l = made_of(left);
+    if !l.is {
+        no_cone();
+        return;
+    }
+    let r = made_of(right);
+    if !r.is {
+        no_cone();
+        return;
+    }
+    run_both(s, l.cone, r.cone, gate);
 }
 
 fn limit_of(n: usize) -> Limit {

@@ -36,12 +36,22 @@ fn stored(support: Vec<usize>, coefficients: Vec<i64>, truth_table: Vec<u8>) -> 
     }
 }
 
-/// At most 11 sources, all different, and a span of at most 32.
+/// At most 11 sources, all different nodes of a store, a span of at most 32, and one truth at each value.
 fn is_stored_cone(cone: &Cone) -> bool {
     let mut sources = cone.support.clone();
     sources.sort();
     sources.dedup();
-    sources.len() == cone.support.len() && sources.len() <= 11 && cone.span() <= 32
+    let mut truths = std::collections::BTreeMap::new();
+    let one_truth = cone
+        .multivalue_table
+        .iter()
+        .zip(&cone.truth_table)
+        .all(|(value, truth)| truths.entry(*value).or_insert(*truth) == truth);
+    sources.len() == cone.support.len()
+        && sources.len() <= 11
+        && sources.iter().all(|&node| node < 672)
+        && cone.span() <= 32
+        && one_truth
 }
 
 fn digits(bits: &[u8]) -> String {
@@ -67,6 +77,9 @@ fn measures(cone: &Cone) -> String {
 
 /// The cone without unused sources, and what validate_cone says of it.
 fn simplified(mapper: &Mapper, cone: Cone) -> String {
+    if !is_stored_cone(&cone) {
+        return "no cone".to_owned();
+    }
     let cone = simplify_cone(cone).unwrap();
     assert_eq!(cone.multivalue_table, linear_table(&cone.coefficients));
     let mut text = format!("{}", cone.support.len());
@@ -107,16 +120,12 @@ pub fn replay(line: &str) -> String {
     for (node, (l, r)) in support.iter().zip(&basis) {
         text.push_str(&format!(" {node} {l} {r}"));
     }
-    let lefts = stored(
-        support.clone(),
-        basis.iter().map(|pair| pair.0).collect(),
-        truth.clone(),
-    );
-    let rights = stored(
-        support,
-        basis.iter().map(|pair| pair.1).collect(),
-        truth.clone(),
-    );
+    let merged = |scale: i64| {
+        let coefficients = basis.iter().map(|pair| scale * pair.0 + pair.1).collect();
+        stored(support.clone(), coefficients, truth.clone())
+    };
+    let sum = merged(1);
+    let naive = merged(i64::try_from(right.span()).unwrap());
     format!(
         "{text} {} {} {} {} {} {} {}",
         letters(xy.iter().map(|row| row.0)),
@@ -124,7 +133,7 @@ pub fn replay(line: &str) -> String {
         digits(&truth),
         simplified(&mapper, left),
         simplified(&mapper, right),
-        simplified(&mapper, lefts),
-        simplified(&mapper, rights),
+        simplified(&mapper, sum),
+        simplified(&mapper, naive),
     )
 }

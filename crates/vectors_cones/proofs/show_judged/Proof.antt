@@ -1,11 +1,18 @@
 -- `vectors_cones::show_judged` is safe: at most 11 sources have at most 2,048 rows.
 use borrow.Author.Needs.{needs}
-use lib.Pow.{pow-mono}
+use Rattle.cone.specs.View.{rows-fit}
 use Rattle.vectors_cones.proofs.show_judged.Statement.{statement}
 use Rattle.vectors_cones.proofs.show_judged.Tie as tie
 
+truths-of-requires : tie.Need-truths-of-requires
+truths-of-requires c κs =
+    let s = c .before .before .before .before .before .before in
+    (s .pre, (rows-fit (s .args .cone) (s .pre), rows-fit (s .args .cone) (s .pre)))
+
 show-truth-requires : tie.Need-show-truth-requires
-show-truth-requires c κs = rw (c .rows-of .ensures) (pow-mono {j = 11} (c .before .before .before .before .before .before .pre .few))
+show-truth-requires c κs =
+    let s = c .before .before .before .before .before .before .before .before .before .before in
+    rw (c .rows-of .ensures) (rows-fit (s .args .cone) (s .pre))
 
 pub show-judged-spec : {M : Type 1} → statement M
 show-judged-spec =
@@ -13,6 +20,9 @@ show-judged-spec =
     (tie.spec
     (λ c κs. search needs)
     (λ c κs. search needs)
+    (λ c. search needs)
+    (λ c. search needs)
+    truths-of-requires
     (λ c κs. search needs)
     show-truth-requires
     (λ c κs. search needs)

@@ -4,20 +4,14 @@ use borrow.Author.Tests.{not-false}
 use Rattle.vectors_cones.proofs.show_simplified.Statement.{statement}
 use Rattle.vectors_cones.proofs.show_simplified.Tie as tie
 
-normalised-requires : tie.Need-normalised-requires
-normalised-requires c κs = let t = c .before .is-cone in t .ensures (not-false (t .result) (c .if1 .left))
-
 simplify-cone-requires : tie.Need-simplify-cone-requires
-simplify-cone-requires c κs = let t = c .before .is-cone2 in t .ensures (not-false (t .result) (c .if2 .left))
+simplify-cone-requires c κs = let t = c .before .before .made-of in t .ensures (not-false (t .result .is) (c .if1 .left)) .0
 
 pub show-simplified-spec : {M : Type 1} → statement M
 show-simplified-spec =
     tie.close
     (tie.spec
     (λ c κs. search needs)
-    (λ c κs. search needs)
-    (λ c. search needs)
-    normalised-requires
     (λ c κs. search needs)
     (λ c κs. search needs)
     (λ c. search needs)
