@@ -200,11 +200,11 @@ module _ {count : ℕ} {before : List ℕ} {w : Sides} (r : Ready before count w
   left-steps bytes b p =
       record {
         ready = λ z. let m = p .most z in let f = r .fits in record {
-              store = p .store z;
-              both = record { left = p .stands z; right = stands-more (p .least z) (r .both .right) };
-              bits = r .bits;
-              fits = omega arith;
-            };
+          store = p .store z;
+          both = record { left = p .stands z; right = stands-more (p .least z) (r .both .right) };
+          bits = r .bits;
+          fits = omega arith;
+        };
         least = p .least;
         most = λ z. let m = p .most z in omega arith;
       }
@@ -214,11 +214,11 @@ module _ {count : ℕ} {before : List ℕ} {w : Sides} (r : Ready before count w
   right-steps bytes b p =
       record {
         ready = λ z. let m = p .most z in let f = r .fits in record {
-              store = p .store z;
-              both = record { left = stands-more (p .least z) (r .both .left); right = p .stands z };
-              bits = r .bits;
-              fits = omega arith;
-            };
+          store = p .store z;
+          both = record { left = stands-more (p .least z) (r .both .left); right = p .stands z };
+          bits = r .bits;
+          fits = omega arith;
+        };
         least = p .least;
         most = λ z. let m = p .most z in omega arith;
       }

@@ -13,7 +13,7 @@ use borrow.Author.Needs.{needs}
 use Rattle.mapper.proofs.gate.map_two.Statement.{statement}
 use Rattle.mapper.proofs.gate.map_two.Tie as tie
 
-long : (c : tie.Start) → length (c .args .gate) ≡ 4
+long : (c : tie.Start) → length (c .args .t6) ≡ 4
 long c = search needs
 
 -- the constant side's bit
@@ -53,10 +53,10 @@ array-read-map-unary-2 : tie.Need-array-read-map-unary-2
 array-read-map-unary-2 c = omega (arith, small (c .before))
 
 map-unary-requires : tie.Need-map-unary-requires
-map-unary-requires c κs = let s = c .before .before .before .before in let p = s .pre .1 .1 .1 in let t = is-T _ (p .1 .1) in (s .pre .0, (p .1 .0, (bit-at (s .args .gate) _ t, bit-at (s .args .gate) _ t)))
+map-unary-requires c κs = let s = c .before .before .before .before in let p = s .pre .1 .1 .1 in let t = is-T _ (p .1 .1) in (s .pre .0, (p .1 .0, (bit-at (s .args .t6) _ t, bit-at (s .args .t6) _ t)))
 
 returns : tie.Need-returns
-returns c = let s = c .before .before .before .before .before in let b = bit (c .before .before) in (c .map-unary .ensures .0 _ ∙ two-left (s .args .s) _ (coneOf (s .args .left)) (coneOf (s .args .right)) (s .args .gate) _ (b .0) (b .1) (small (c .before .before)) (long s), c .map-unary .ensures .1 _ (s .pre .1 .0))
+returns c = let s = c .before .before .before .before .before in let b = bit (c .before .before) in (c .map-unary .ensures .0 _ ∙ two-left (s .args .s) _ (coneOf (s .args .left)) (coneOf (s .args .right)) (s .args .t6) _ (b .0) (b .1) (small (c .before .before)) (long s), c .map-unary .ensures .1 _ (s .pre .1 .0))
 
 enum-told : tie.Need-enum-told
 enum-told c = search needs
@@ -80,10 +80,10 @@ array-read-map-unary-4 : tie.Need-array-read-map-unary-4
 array-read-map-unary-4 c = omega (arith, small2 (c .before))
 
 map-unary-requires-2 : tie.Need-map-unary-requires-2
-map-unary-requires-2 c κs = let s = c .before .before .before .before .before .before .before in let p = s .pre .1 .1 .1 in let t = is-T _ (p .1 .1) in (s .pre .0, (p .0, (bit-at (s .args .gate) _ t, bit-at (s .args .gate) _ t)))
+map-unary-requires-2 c κs = let s = c .before .before .before .before .before .before .before in let p = s .pre .1 .1 .1 in let t = is-T _ (p .1 .1) in (s .pre .0, (p .0, (bit-at (s .args .t6) _ t, bit-at (s .args .t6) _ t)))
 
 returns-2 : tie.Need-returns-2
-returns-2 c = let s = c .before .before .before .before .before .before .before .before in let b = bit2 (c .before .before) in (c .map-unary2 .ensures .0 _ ∙ two-right (s .args .s) _ (coneOf (s .args .left)) (coneOf (s .args .right)) (s .args .gate) _ (no-of (coneOf (s .args .left)) (sym (c .before .before .before .before .before .enum-told .given .1) ∙ c .before .before .before .before .before .before .before .constant-value .ensures)) (b .0) (b .1), c .map-unary2 .ensures .1 _ (s .pre .1 .0))
+returns-2 c = let s = c .before .before .before .before .before .before .before .before in let b = bit2 (c .before .before) in (c .map-unary2 .ensures .0 _ ∙ two-right (s .args .s) _ (coneOf (s .args .left)) (coneOf (s .args .right)) (s .args .t6) _ (no-of (coneOf (s .args .left)) (sym (c .before .before .before .before .before .enum-told .given .1) ∙ c .before .before .before .before .before .before .before .constant-value .ensures)) (b .0) (b .1), c .map-unary2 .ensures .1 _ (s .pre .1 .0))
 
 enum-told-2 : tie.Need-enum-told-2
 enum-told-2 c = search needs
@@ -92,7 +92,7 @@ map-binary-requires : tie.Need-map-binary-requires
 map-binary-requires c κs = search needs
 
 returns-3 : tie.Need-returns-3
-returns-3 c = let s = c .before .before .before .before .before .before .before .before in (c .map-binary .ensures .0 ∙ two-binary (s .args .s) _ (coneOf (s .args .left)) (coneOf (s .args .right)) (s .args .gate) (no-of (coneOf (s .args .left)) (sym (c .before .before .before .before .before .enum-told .given .1) ∙ c .before .before .before .before .before .before .before .constant-value .ensures)) (no-of (coneOf (s .args .right)) (sym (c .before .before .enum-told2 .given .1) ∙ c .before .before .before .before .constant-value2 .ensures)), c .map-binary .ensures .1)
+returns-3 c = let s = c .before .before .before .before .before .before .before .before in (c .map-binary .ensures .0 ∙ two-binary (s .args .s) _ (coneOf (s .args .left)) (coneOf (s .args .right)) (s .args .t6) (no-of (coneOf (s .args .left)) (sym (c .before .before .before .before .before .enum-told .given .1) ∙ c .before .before .before .before .before .before .before .constant-value .ensures)) (no-of (coneOf (s .args .right)) (sym (c .before .before .enum-told2 .given .1) ∙ c .before .before .before .before .constant-value2 .ensures)), c .map-binary .ensures .1)
 
 pub map-two-spec : {M : Type 1} → statement M
 map-two-spec =
