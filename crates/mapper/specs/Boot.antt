@@ -1,5 +1,5 @@
 -- A cone's sum and its bootstrap in the store.
-use mathlib.Core.Path.{_≡_, refl, sym, ap, ap₂, subst, _∙_}
+use mathlib.Core.Path.{_≡_, sym, ap, ap₂, _∙_}
 use mathlib.Core.List.{List, [], _∷_, _++_}
 use mathlib.Core.Logic.{⊎-elim}
 use mathlib.Core.Option.{Option, none, some}
@@ -22,13 +22,11 @@ use Rattle.theorems.specs.Interned.{interned, interned-most}
 use Rattle.cone.specs.declared.Cone.{Cone}
 use Rattle.cone.specs.View.{coneOf, IsCone, small, low-small}
 use Rattle.lut.specs.declared.Linked.{Linked}
-use Rattle.lut.specs.declared.Signal.{Signal}
 use Rattle.lut.specs.declared.Signal.the-variants as Signals
 use Rattle.lut.specs.declared.Terms.{Terms}
 use Rattle.lut.specs.Store.{Interns, Bootstraps}
-use Rattle.lut.specs.View.{term, termsIn, termsOver, FineTerms, GoodTerms, storeOf, store-length, IsStore}
-use Rattle.mapper.specs.declared.boot.Booted.{Booted}
-use Rattle.mapper.specs.View.{Below, Stands, Grown, Boots, bootedOf}
+use Rattle.lut.specs.View.{term, termsIn, FineTerms, GoodTerms, storeOf, store-length}
+use Rattle.mapper.specs.View.{Below, Stands, Boots, bootedOf}
 
 -- The terms stand for the cone's sum.
 pub record SumOf (d : Cone) (t : Terms) : Type 0 where

@@ -1,6 +1,7 @@
 -- What the mapper's structs stand for, and the laws that its code is proved by.
 pub mod Boot
 pub mod Form
+pub mod FormWalk
 pub mod View
 pub mod Gate
 pub mod GateSteps

@@ -1,12 +1,12 @@
 -- `mapper::boot::sum_of` meets its contract.
-use mathlib.Core.Path.{_≡_, refl, sym, ap, _∙_}
+use mathlib.Core.Path.{_≡_, refl, ap, _∙_}
 use Prim.Native.Nat.{_≤_}
 use native.Mathlib.Omega.{arith}
 use lib.IntN.{ℤ, pos, negℤ, natAbs, _-ℤ_}
 use mir.Syntax.{w64}
 use mir.Val.{toZ, ofZ, SFits}
 use mir.Facts.{toZ-ofZ}
-use Rattle.laws.specs.Integer.{ints, plus, minus, abs-parts, sub-parts, plus-neg, minus-neg, abs-neg, read-back, fits-abs}
+use Rattle.laws.specs.Integer.{ints, plus, minus, sub-parts, plus-neg, minus-neg, abs-neg, read-back, fits-abs}
 use Rattle.rules.specs.Cone.{values}
 use Rattle.rules.specs.Span.{least}
 use Rattle.rules.specs.Store.{terms}

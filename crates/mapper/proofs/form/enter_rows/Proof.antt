@@ -9,7 +9,7 @@ use mir.Syntax.{w32}
 use mir.Val.{toZ, ofZ}
 use borrow.Author.Needs.{needs}
 use lib.IntN.{ℤ}
-use lib.ListN.{length, take, replicate, length-replicate}
+use lib.ListN.{take, replicate, length-replicate}
 use lib.Seq.{take-at}
 use Rattle.laws.specs.Integer.{read-back-at}
 use Rattle.laws.specs.Tail.{head-length, take-replicate}

@@ -1,12 +1,11 @@
 -- `mapper::form::realign` meets its contract: the best form of the nodes passed, and those to come.
-use mathlib.Core.Path.{_≡_, sym}
 use Prim.Native.Nat.{_-_, _≤_}
 use native.Mathlib.Omega.{arith}
 use borrow.Author.Needs.{needs}
 use borrow.Author.Tests.{not-true, not-false}
 use Rattle.cone.specs.View.{coneOf}
 use Rattle.lut.specs.View.{storeOf, is-node}
-use Rattle.mapper.specs.Form.{Walked, walk-start, walk-on, walk-end, walk-stands, not-realigned}
+use Rattle.mapper.specs.FormWalk.{Walked, walk-start, walk-on, walk-end, walk-stands, not-realigned}
 use Rattle.mapper.proofs.form.realign.Statement.{statement}
 use Rattle.mapper.proofs.form.realign.Tie as tie
 
