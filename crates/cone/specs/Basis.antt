@@ -18,7 +18,7 @@ use Rattle.rules.specs.Store.{terms, coefficientOf}
 use Rattle.rules.specs.Composition.{unionSupport, gateTruth}
 use Rattle.scale.specs.Limits.{Within}
 use Rattle.cone.specs.declared.compose.Basis.{Basis}
-use Rattle.cone.specs.Span.{total, table-within-total}
+use Rattle.cone.specs.Span.{total}
 use Rattle.cone.specs.Support.{termsOver, terms-are}
 
 -- A cone's coefficients over a support.
@@ -60,7 +60,7 @@ pub coefficientsOver-within : (k : ℕ) (U : List ℕ) (c : Cone) → Within k (
 unfolding coefficientsOver
 coefficientsOver-within k U c w = map-within k (coefficientOf (terms c)) (λ n. rw (terms-are c) (coefficient-within k (c .coefficients) (c .support) n w)) U
 
--- ---- over different sources the coefficients add up to no more than the cone's, so no value is larger than the cone's own
+-- ---- over different sources the coefficients add up to no more than the cone's
 zeros-total : (U : List ℕ) → total (map (λ (n : ℕ). pos 0) U) ≡ 0
 unfolding total
 zeros-total [] = refl
@@ -91,7 +91,3 @@ terms-total (c ∷ cs) (m ∷ ns) U d =
 pub coefficientsOver-total : (U : List ℕ) (c : Cone) → allDifferent U ≡ true → total (coefficientsOver U c) ≤ total (c .coefficients)
 unfolding coefficientsOver
 coefficientsOver-total U c d = rw (terms-are c) (terms-total (c .coefficients) (c .support) U d)
-
--- so the values of a cone over different sources are within its own limits
-pub over-within : (U : List ℕ) (c : Cone) → allDifferent U ≡ true → total (c .coefficients) ≤ 31 → Within 31 (linearTable (coefficientsOver U c))
-over-within U c d t i = omega (arith, table-within-total (coefficientsOver U c) i, coefficientsOver-total U c d)
