@@ -1,16 +1,15 @@
 -- Two cones laid over their sources together, and the tables of their composition.
-use mathlib.Core.Path.{_≡_, refl, sym, ap, _∙_}
-use mathlib.Core.Bool.{Bool, true, false, true≢false, not, _||_}
-use mathlib.Core.List.{List, [], _∷_, _++_, map, zipWith, map-id}
-use mathlib.Core.Logic.{⊎-elim, _≢_}
+use mathlib.Core.Path.{_≡_, refl}
+use mathlib.Core.Bool.{true, false, not}
+use mathlib.Core.List.{List, [], _∷_, map, zipWith}
+use mathlib.Core.Logic.{⊎-elim}
 use Prim.Native.Nat.{ℕ, zero, suc, _+_, _≤_, _^_, zero-le}
 use native.Mathlib.Omega.{arith}
 use borrow.Author.Tests.{eq-eqb, ne-eqb, not-true}
 use lib.Dec.{eqb}
 use lib.IntN.{ℤ, pos, natAbs}
-use lib.ListN.{length, take, length-append}
+use lib.ListN.{length, take}
 use Rattle.laws.specs.Over.{over}
-use Rattle.laws.specs.Select.{select}
 use Rattle.laws.specs.Test.{if_then_else_, if-both, eq-or-ne, neither-left, neither-right, both-left, both-right}
 use Rattle.rules.specs.Cone.{Cone, linearTable}
 use Rattle.rules.specs.Network.{member}
@@ -19,8 +18,8 @@ use Rattle.rules.specs.Store.{terms, coefficientOf}
 use Rattle.rules.specs.Composition.{unionSupport, gateTruth}
 use Rattle.scale.specs.Limits.{Within}
 use Rattle.cone.specs.declared.compose.Basis.{Basis}
-use Rattle.cone.specs.Span.{total, table-within-total}
-use Rattle.cone.specs.Support.{termsOver, terms-are, isNew, union-is, different-select}
+use Rattle.cone.specs.Span.{total}
+use Rattle.cone.specs.Support.{termsOver, terms-are}
 
 -- A cone's coefficients over a support.
 unfoldable pub coefficientsOver : List ℕ → Cone → List ℤ
@@ -61,7 +60,7 @@ pub coefficientsOver-within : (k : ℕ) (U : List ℕ) (c : Cone) → Within k (
 unfolding coefficientsOver
 coefficientsOver-within k U c w = map-within k (coefficientOf (terms c)) (λ n. rw (terms-are c) (coefficient-within k (c .coefficients) (c .support) n w)) U
 
--- ---- over different sources the coefficients add up to no more than the cone's, so no value is larger than the cone's own
+-- ---- over different sources the coefficients add up to no more than the cone's
 zeros-total : (U : List ℕ) → total (map (λ (n : ℕ). pos 0) U) ≡ 0
 unfolding total
 zeros-total [] = refl
@@ -92,89 +91,3 @@ terms-total (c ∷ cs) (m ∷ ns) U d =
 pub coefficientsOver-total : (U : List ℕ) (c : Cone) → allDifferent U ≡ true → total (coefficientsOver U c) ≤ total (c .coefficients)
 unfolding coefficientsOver
 coefficientsOver-total U c d = rw (terms-are c) (terms-total (c .coefficients) (c .support) U d)
-
--- the sources of two cones together are different
-module _ (f : ℕ → Bool) where
-  -- where the test fails at a node, the node is left out
-  left-out : (m : ℕ) (l : List ℕ) → f m ≡ false → member m (select f l) ≡ false
-  unfolding select member
-  left-out m [] h = refl
-  left-out m (n ∷ l) h =
-      ⊎-elim
-      (λ (e : m ≡ n). rw (← e, h) (left-out m l h))
-      (λ e. by (f n) (ne-eqb m n e) (left-out m l h))
-      (eq-or-ne m n)
-    where
-      by : (t : Bool) → eqb m n ≡ false → member m (select f l) ≡ false → member m (if t then n ∷ select f l else select f l) ≡ false
-      by true e r = rw (e, r)
-      by false e r = r
-
-member-append : (m : ℕ) (l s : List ℕ) → member m l ≡ false → member m s ≡ false → member m (l ++ s) ≡ false
-unfolding member
-member-append m [] s h k = k
-member-append m (n ∷ l) s h k = rw (neither-left (eqb m n) (member m l) h, member-append m l s (neither-right (eqb m n) (member m l) h) k)
-
-append-different : (l s : List ℕ) → allDifferent l ≡ true → allDifferent s ≡ true → ((m : ℕ) → member m l ≡ true → member m s ≡ false) → allDifferent (l ++ s) ≡ true
-unfolding allDifferent member
-append-different [] s d e h = e
-append-different (m ∷ l) s d e h =
-    rw (member-append m l s (not-true (member m l) (both-left (not (member m l)) (allDifferent l) d)) (h m (rw (eq-eqb m m refl))))
-    (append-different l s (both-right (not (member m l)) (allDifferent l) d) e (λ n k. h n (more (eqb n m) (member n l) k)))
-  where
-    more : (a b : Bool) → b ≡ true → (a || b) ≡ true
-    more true b k = refl
-    more false b k = k
-
-pub union-different : (left right : List ℕ) → allDifferent left ≡ true → allDifferent right ≡ true → allDifferent (unionSupport left right) ≡ true
-unfolding isNew
-union-different left right d e =
-    rw union-is
-    (append-different left (select (isNew left) right) d (rw (map-id (select (isNew left) right)) at (different-select (λ (n : ℕ). n) (isNew left) right (rw (map-id right) e))) (λ m k. left-out (isNew left) m right (ap not k)))
-
--- ---- the sources of two cones together are no fewer than the right ones
-module _ (f g : ℕ → Bool) (m : ℕ) (same : (n : ℕ) → n ≢ m → f n ≡ g n) where
-  same-select : (rs : List ℕ) → member m rs ≡ false → select f rs ≡ select g rs
-  unfolding select member
-  same-select [] h = refl
-  same-select (r ∷ rs) h =
-      rw (same r (λ e. true≢false (sym (eq-eqb m r (sym e)) ∙ neither-left (eqb m r) (member m rs) h)), same-select rs (neither-right (eqb m r) (member m rs) h))
-
-  -- a test that fails at one more node drops at most one of different nodes
-  one-fewer : (rs : List ℕ) → allDifferent rs ≡ true → length (select f rs) ≤ 1 + length (select g rs)
-  unfolding select allDifferent
-  one-fewer [] d = zero-le
-  one-fewer (r ∷ rs) d =
-      ⊎-elim
-      (λ (e : r ≡ m). at (f r) (g r) (ap length (same-select rs (rw e at (not-true (member r rs) (both-left (not (member r rs)) (allDifferent rs) d))))))
-      (λ e. rw (same r e) (on (g r) (one-fewer rs (both-right (not (member r rs)) (allDifferent rs) d))))
-      (eq-or-ne r m)
-    where
-      at : (a b : Bool) → length (select f rs) ≡ length (select g rs) → length (if a then r ∷ select f rs else select f rs) ≤ 1 + length (if b then r ∷ select g rs else select g rs)
-      at true true e = omega arith
-      at true false e = omega arith
-      at false true e = omega arith
-      at false false e = omega arith
-
-      on : (a : Bool) → length (select f rs) ≤ 1 + length (select g rs) → length (if a then r ∷ select f rs else select f rs) ≤ 1 + length (if a then r ∷ select g rs else select g rs)
-      on true h = omega arith
-      on false h = omega arith
-
-all-new : (l : List ℕ) → select (isNew []) l ≡ l
-unfolding select isNew member
-all-new [] = refl
-all-new (n ∷ l) = ap {B = List ℕ} (λ r. n ∷ r) (all-new l)
-
-one-newer : (m : ℕ) (left : List ℕ) (n : ℕ) → n ≢ m → isNew left n ≡ isNew (m ∷ left) n
-unfolding isNew member
-one-newer m left n e = rw (ne-eqb n m e)
-
-new-within : (left right : List ℕ) → allDifferent right ≡ true → length right ≤ length left + length (select (isNew left) right)
-new-within [] right d = omega (arith, ap length (all-new right))
-new-within (m ∷ left) right d = omega (arith, new-within left right d, one-fewer (isNew left) (isNew (m ∷ left)) m (one-newer m left) right d)
-
-pub right-within : (left right : List ℕ) → allDifferent right ≡ true → length right ≤ length (unionSupport left right)
-right-within left right d = omega (arith, new-within left right d, ap length (union-is left right), length-append left (select (isNew left) right))
-
--- so the values of a cone over a union are within its own limits
-pub over-within : (U : List ℕ) (c : Cone) → allDifferent U ≡ true → total (c .coefficients) ≤ 31 → Within 31 (linearTable (coefficientsOver U c))
-over-within U c d t i = omega (arith, table-within-total (coefficientsOver U c) i, coefficientsOver-total U c d)

@@ -15,9 +15,10 @@ use Rattle.rules.specs.Cone.{linearTable}
 use Rattle.rules.specs.Composition.{unionSupport, gateTruth}
 use Rattle.scale.specs.Limits.{Within}
 use Rattle.cone.specs.Table.{table-length}
+use Rattle.theorems.specs.Unions.{right-le}
 use Rattle.cone.specs.View.{coneOf, small, rows-are, view-sources, view-coefs}
 use Rattle.cone.specs.Compose.{union-length}
-use Rattle.cone.specs.Basis.{IsBasis, Room, coefficientsOver-within, right-within}
+use Rattle.cone.specs.Basis.{IsBasis, Room, coefficientsOver-within}
 use Rattle.cone.proofs.compose.cone_composition_tables.Statement.{statement}
 use Rattle.cone.proofs.compose.cone_composition_tables.Tie as tie
 
@@ -63,7 +64,7 @@ left-rows c =
 right-rows : (c : tie.Start) → length (rules.values (coneOf (c .args .right))) ≤ length (linearTable (take (c .args .basis .n) (c .args .basis .right)))
 right-rows c =
     rw (rows-are (c .args .right), table-length (take (c .args .basis .n) (c .args .basis .right)), length-take-le (c .args .basis .n) (c .args .basis .right) (omega (arith, is-basis c .few, sides-long c .1)), view-coefs (c .args .right) (c .pre .1 .0) (lengths c .1 .1))
-    (pow-mono (omega (arith, is-basis c .count, right-within (coneOf (c .args .left) .support) (coneOf (c .args .right) .support) (c .pre .1 .0 .different), view-sources (c .args .right) (c .pre .1 .0) (lengths c .1 .0))))
+    (pow-mono (omega (arith, is-basis c .count, right-le (coneOf (c .args .left) .support) (coneOf (c .args .right) .support) (c .pre .1 .0 .different), view-sources (c .args .right) (c .pre .1 .0) (lengths c .1 .0))))
 
 -- the lent tables keep their lengths
 kept : (c : tie.After-gate-truths) → let s = c .before .before .before .before .before .before .before .before .before in

@@ -9,9 +9,10 @@ use lib.ListN.{length, take}
 use lib.Pow.{pow-mono}
 use Rattle.laws.specs.Over.{over, take-over}
 use Rattle.laws.specs.Tail.{head-length}
+use Rattle.theorems.specs.Unions.{right-le}
 use Rattle.cone.specs.View.{coneOf, rows-fit, view-sources, view-rows}
 use Rattle.cone.specs.Compose.{union-length}
-use Rattle.cone.specs.Basis.{Room, right-within}
+use Rattle.cone.specs.Basis.{Room}
 use Rattle.cone.proofs.compose.gate_truths.Statement.{statement}
 use Rattle.cone.proofs.compose.gate_truths.Tie as tie
 
@@ -30,7 +31,7 @@ left-rows c = pow-mono (omega (arith, ap length (c .pre .1 .1 .0), union-length 
 
 right-rows : (c : tie.Start) → 2 ^ c .args .right .n ≤ 2 ^ length (c .args .support .now)
 right-rows c =
-    pow-mono (omega (arith, ap length (c .pre .1 .1 .0), right-within (coneOf (c .args .left) .support) (coneOf (c .args .right) .support) (c .pre .1 .0 .different), view-sources (c .args .right) (c .pre .1 .0) (support-long c .1)))
+    pow-mono (omega (arith, ap length (c .pre .1 .1 .0), right-le (coneOf (c .args .left) .support) (coneOf (c .args .right) .support) (c .pre .1 .0 .different), view-sources (c .args .right) (c .pre .1 .0) (support-long c .1)))
 
 lefts-long : (c : tie.After-truths-of) → length (c .truths-of .last .1 .1 .0) ≡ 2048
 lefts-long c = search needs
