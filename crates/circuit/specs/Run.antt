@@ -16,9 +16,10 @@ use Rattle.laws.specs.Test.{is-T, T-is, and-left, and-right}
 use Rattle.rules.specs.Circuit as C
 use Rattle.rules.specs.Circuit.{wireBit, position, gateBit, gateValues}
 use Rattle.rules.specs.Runs.{allBits, bitsFor}
+use Rattle.theorems.specs.Bits.{bit-at}
 use Rattle.circuit.specs.declared.Circuit.{Circuit}
 use Rattle.circuit.specs.Fits.{GateFits}
-use Rattle.circuit.specs.RunGate.{padded, GoodPort, SlotsFit, bits-get, answer-bits, bits-append, padded-wire, padded-gate, padded-bits, padded-set}
+use Rattle.circuit.specs.RunGate.{padded, GoodPort, SlotsFit, answer-bits, bits-append, padded-wire, padded-gate, padded-bits, padded-set}
 use Rattle.circuit.specs.View.{portWire, gateIn, gatesIn, outputIn, outputsIn}
 
 -- What a run needs of n inputs, the gates and the bits.
@@ -61,7 +62,7 @@ unfolding gateValues gateBit allBits
 values-bits values [] d h e = e
 values-bits values (g ∷ gs) d h e =
     values-bits (values ++ (gateBit values g ∷ [])) gs d (λ i l. h (suc i) (omega arith))
-    (bits-append values _ e (rw (le-leb (gateBit values g) 1 (bits-get (g .bits) (position 0 values (g .wires)) (h 0 (omega arith))))))
+    (bits-append values _ e (rw (le-leb (gateBit values g) 1 (bit-at (g .bits) (position 0 values (g .wires)) (is-T _ (h 0 (omega arith)))))))
 
 -- ---- Whether there is a bit for each input.
 

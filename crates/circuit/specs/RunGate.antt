@@ -7,7 +7,7 @@ use native.Mathlib.Nat.{zero-add}
 use native.Mathlib.Numerals.{add-one}
 use native.Mathlib.Omega.{arith}
 use borrow.Author.Tests.{leb-false, ltb-true, le-leb, lt-leb, ne-eqb, eqb-false}
-use lib.Dec.{leb, ltb, eqb, leb→le}
+use lib.Dec.{leb, ltb, eqb}
 use lib.ListN.{length, getD, drop, set, replicate, length-replicate, length-append}
 use lib.Seq.{getD-drop, drop-cons, set-at}
 use Rattle.laws.specs.Over.{over}
@@ -18,6 +18,7 @@ use Rattle.rules.specs.Circuit as C
 use Rattle.rules.specs.Circuit.{wireBit, position, gateBit}
 use Rattle.rules.specs.CircuitText.{noNode}
 use Rattle.rules.specs.Runs.{allBits}
+use Rattle.theorems.specs.Bits.{bit-at}
 use Rattle.theorems.specs.LineBits.{WireBit}
 use Rattle.circuit.specs.Fits.{GateFits}
 use Rattle.circuit.specs.View.{wireIn, slotWire, portWire, wiresIn, answersIn, gateIn}
@@ -31,16 +32,10 @@ pub node-below : (n : ℕ) (w : Wire) (i : ℕ) → noNode n w ≡ false → w �
 unfolding noNode
 node-below n w i h e = omega (arith, leb-false, sym (ap (noNode n) e) ∙ h)
 
-pub bits-get : (l : List ℕ) (i : ℕ) → allBits l ≡ true → getD l i 0 ≤ 1
-unfolding allBits
-bits-get [] i e = omega arith
-bits-get (b ∷ l) zero e = leb→le b 1 (and-left (leb b 1) (allBits l) (is-T _ e))
-bits-get (b ∷ l) (suc i) e = bits-get l i (T-is _ (and-right (leb b 1) (allBits l) (is-T _ e)))
-
 pub wire-small : (values : List ℕ) (w : Wire) {l : ℕ} → allBits values ≡ true → WireBit w → l ≡ wireBit values w → l ≤ 1
 unfolding wireBit WireBit
 wire-small values (Const b) h k e = omega arith
-wire-small values (Node i) h k e = omega (arith, bits-get values i h)
+wire-small values (Node i) h k e = omega (arith, bit-at values i (is-T _ h))
 
 -- Every number is a node below m or a constant, and up to m + 1 the constant is a bit.
 pub slot-node : (m k : ℕ) → noNode m (wireIn m k) ≡ false

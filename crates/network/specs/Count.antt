@@ -14,14 +14,10 @@ use Rattle.laws.specs.Tabulate.{tabulate, tabulate-length, tabulate-at}
 use Rattle.laws.specs.Test.{if_then_else_, if-both, eq-or-ne}
 use Rattle.rules.specs.Circuit.{Name}
 use Rattle.rules.specs.Network.{Term, LutNode, Input, Linear, Bootstrap, isLinear, isBootstrap, tableLength, nodeNorm, count, largest, bootSources, member, different}
+use Rattle.theorems.specs.Counts.{count-snoc, count-most}
 use Rattle.network.specs.Bounds.{coefNorm}
 use Rattle.network.specs.Tally.{Room, noNodes, withInput, withSum, withBoot}
 use Rattle.network.specs.declared.tally.Tally.{Tally}
-
-pub count-more : (f : LutNode → Bool) (ns : List LutNode) (n : LutNode) → count f (ns ++ (n ∷ [])) ≡ count f ns + (if f n then 1 else 0)
-unfolding count
-count-more f [] n = omega arith
-count-more f (m ∷ ns) n = let h = count-more f ns n in omega arith
 
 largest-more : (f : LutNode → ℕ) (ns : List LutNode) (n : LutNode) → largest f (ns ++ (n ∷ [])) ≡ max (largest f ns) (f n)
 unfolding largest
@@ -110,7 +106,7 @@ module _ (ns : List LutNode) where
   tally-input n =
       let m = Input n in
       let e = sources-append ns (m ∷ []) ∙ append-nil (bootSources ns) in
-      tallies (omega (arith, count-more isLinear ns m)) (omega (arith, count-more isBootstrap ns m)) (sym (ap different e))
+      tallies (omega (arith, count-snoc isLinear ns m)) (omega (arith, count-snoc isBootstrap ns m)) (sym (ap different e))
       (omega (arith, largest-more tableLength ns m)) (omega (arith, largest-more nodeNorm ns m)) (sym (ap takenOf e))
 
   pub tally-sum : (c : ℤ) (ts : List Term) → withSum (tallyOf ns) (coefNorm ts) ≡ tallyOf (ns ++ (Linear c ts ∷ []))
@@ -118,7 +114,7 @@ module _ (ns : List LutNode) where
   tally-sum c ts =
       let m = Linear c ts in
       let e = sources-append ns (m ∷ []) ∙ append-nil (bootSources ns) in
-      tallies (omega (arith, count-more isLinear ns m)) (omega (arith, count-more isBootstrap ns m)) (sym (ap different e))
+      tallies (omega (arith, count-snoc isLinear ns m)) (omega (arith, count-snoc isBootstrap ns m)) (sym (ap different e))
       (omega (arith, largest-more tableLength ns m)) (omega (arith, largest-more nodeNorm ns m)) (sym (ap takenOf e))
 
   pub tally-table : (i : ℕ) (table : List ℕ) (k : ℕ) → i < 672 → length table ≡ k → withBoot (tallyOf ns) i k ≡ tallyOf (ns ++ (Bootstrap i table ∷ []))
@@ -126,7 +122,7 @@ module _ (ns : List LutNode) where
   tally-table i table k h l =
       let m = Bootstrap i table in
       let e = sources-append ns (m ∷ []) in
-      tallies (omega (arith, count-more isLinear ns m)) (omega (arith, count-more isBootstrap ns m))
+      tallies (omega (arith, count-snoc isLinear ns m)) (omega (arith, count-snoc isBootstrap ns m))
       (rw (taken-at (bootSources ns) i h, e, different-more i (bootSources ns)) (by (member i (bootSources ns)) (different (bootSources ns))))
       (omega (arith, largest-more tableLength ns m)) (omega (arith, largest-more nodeNorm ns m)) (taken-more (bootSources ns) i h ∙ sym (ap takenOf e))
     where
@@ -135,11 +131,6 @@ module _ (ns : List LutNode) where
       by false d = refl
 
 -- Every count is at most the count of nodes.
-count-within : (f : LutNode → Bool) (ns : List LutNode) → count f ns ≤ length ns
-unfolding count
-count-within f [] = omega arith
-count-within f (n ∷ ns) = let h = count-within f ns in if-both (λ k. k + count f ns ≤ suc (length ns)) (f n) (omega arith) (omega arith)
-
 different-within : (ns : List LutNode) → different (bootSources ns) ≤ length ns
 unfolding different bootSources
 different-within [] = omega arith
@@ -153,7 +144,7 @@ pub tally-room : (ns : List LutNode) → length ns ≤ 672 → Room (tallyOf ns)
 unfolding tallyOf
 tally-room ns h =
     record {
-      sums = omega (arith, count-within isLinear ns);
-      boots = omega (arith, count-within isBootstrap ns);
+      sums = omega (arith, count-most isLinear ns);
+      boots = omega (arith, count-most isBootstrap ns);
       sources = omega (arith, different-within ns);
     }

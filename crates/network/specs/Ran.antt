@@ -25,7 +25,7 @@ use Rattle.rules.specs.Rotation.{rotated, rotatable, centre}
 use Rattle.rules.specs.Rotation as R
 use Rattle.rules.specs.Runs.{allBits}
 use Rattle.theorems.specs.RotationRule.{rotation-rule}
-use Rattle.network.specs.Table.{bits-small}
+use Rattle.theorems.specs.Bits.{bit-at}
 use Rattle.network.specs.Work.{byteOf, sumBytes, noValues, withValue, withOut}
 use Rattle.network.specs.declared.value.Work.{Work}
 
@@ -73,7 +73,7 @@ boot-byte P table (pos a) y b e =
         let r = rotation-rule P table in
         let t : T (isSome (centre P table)) = subst (λ (o : Option ℕ). T (isSome o)) (sym f) tt in
         let g : y ≡ pos (getD table a 0) = Option·some-injective _ _ (sym e ∙ r .boots (r .decides .0 t) a h) in
-        rw g (same-byte (getD table a 0) (let k = bits-small table a b in omega arith))
+        rw g (same-byte (getD table a 0) (let k = bit-at table a b in omega arith))
 
 -- The values of the nodes are at the front of the array; those of no `lin` are bytes.
 pub record Bytes (ns : List LutNode) (values : List ℤ) : Type 0 where

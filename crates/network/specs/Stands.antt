@@ -35,8 +35,8 @@ use Rattle.network_text.specs.declared.line.Line.{Line}
 use Rattle.network_text.specs.declared.line.Line.the-variants.{Bad, Net as NetRead, In, Lin as Sum, Boot, Out}
 use Rattle.network_text.specs.declared.line.Read.{Read}
 use Rattle.network_text.specs.declared.sum.Lin.{Lin}
+use Rattle.theorems.specs.Counts.{count-snoc}
 use Rattle.network.specs.Bounds.{fitOf, tableFit, bitBounds, coefNorm}
-use Rattle.network.specs.Count.{count-more}
 use Rattle.network.specs.Seen.{noLines, Sized, namesOf, repeated, inConditions, nodeConditions, badSource, linConditions, bootConditions, notBit, wireConditions, outConditions, seenConditions, withNet, withNode, withName, withOutput, RoomFor, Follows}
 use Rattle.network.specs.Table.{table-length}
 use Rattle.network.specs.Tally.{Takes}
@@ -233,7 +233,7 @@ module _ {k : Seen} {w : NetPrefix} (s : Stands k w) (i : ℕ) where
           started = s .started;
           settings = s .settings;
           count = omega (arith, s .count, length-append (w .nodes) (n ∷ []));
-          inputs = s .inputs ∙ sym (count-more isInput (w .nodes) n ∙ rw e (omega arith));
+          inputs = s .inputs ∙ sym (count-snoc isInput (w .nodes) n ∙ rw e (omega arith));
           outputs = s .outputs;
           names = s .names ∙ sym (names-other (w .nodes) n e);
           linear = flag-more isLinear (k .linear) false (w .nodes) n (k .count) (s .count) (omega (arith, z .linear)) (s .linear) b p;
@@ -260,7 +260,7 @@ module _ {k : Seen} {w : NetPrefix} (s : Stands k w) (i : ℕ) where
         started = s .started;
         settings = s .settings;
         count = omega (arith, s .count, length-append (w .nodes) (Input y ∷ []));
-        inputs = ap (λ m. m + 1) (s .inputs) ∙ sym (count-more isInput (w .nodes) (Input y));
+        inputs = ap (λ m. m + 1) (s .inputs) ∙ sym (count-snoc isInput (w .nodes) (Input y));
         outputs = s .outputs;
         names =
             ap (λ m. map nameBytes (take m (set (k .names) (k .inputs) n))) (add-one (k .inputs))

@@ -8,7 +8,7 @@ use Prim.Native.Nat.{ℕ, zero, suc, _+_, _*_, _-_, _<_, _≤_}
 use native.Mathlib.Omega.{arith}
 use native.Mathlib.Nat.{zero-add}
 use borrow.Author.Tests.{eq-eqb, ne-eqb, le-leb, lt-leb, lt-ltb, le-ltb}
-use lib.Dec.{T, leb, ltb, eqb, leb→le}
+use lib.Dec.{T, leb, ltb, eqb}
 use lib.IntN.{ℤ, pos, negsuc, negℤ, natAbs, _+ℤ_, _-ℤ_}
 use lib.ListN.{length, getD, take, drop, length-take, length-drop}
 use lib.Seq.{getD-take, getD-drop}
@@ -18,12 +18,12 @@ use mir.Val.{SFits, Fits, toZ}
 use Rattle.laws.specs.Integer.{plus, minus, ltZ-true, ltZ-false, read-back, abs-add, abs-neg}
 use Rattle.laws.specs.Front.{front}
 use Rattle.laws.specs.Over.{over, over-length, take-over, front-over}
-use Rattle.laws.specs.Test.{if_then_else_, if-both, isSome, allb, and-left, and-right, eq-or-ne}
+use Rattle.laws.specs.Test.{if_then_else_, if-both, isSome, allb, eq-or-ne}
 use Rattle.rules.specs.Form.{bitsFrom}
 use Rattle.rules.specs.Rotation.{pairSum, sameSum, centre, rotatable, coefficient, rotatedBy, rotated}
-use Rattle.rules.specs.Runs.{allBits}
 use Rattle.text.specs.Name.{bits-length}
 use Rattle.network_text.specs.Lines.{TablePlace}
+use Rattle.theorems.specs.Bits.{bit-at}
 use Rattle.network.specs.declared.table.Value.{Value}
 use Rattle.network.specs.declared.table.Value.the-variants.{At, Broken}
 
@@ -39,12 +39,6 @@ unfolding bitsFrom
 bits-at [] i = refl
 bits-at (b ∷ w) zero = refl
 bits-at (b ∷ w) (suc i) = bits-at w i
-
-pub bits-small : (bs : List ℕ) (i : ℕ) → T (allBits bs) → getD bs i 0 ≤ 1
-unfolding allBits
-bits-small [] i h = omega arith
-bits-small (b ∷ bs) zero h = leb→le b 1 (and-left (leb b 1) (allBits bs) h)
-bits-small (b ∷ bs) (suc i) h = bits-small bs i (and-right (leb b 1) (allBits bs) h)
 
 -- The bits of the place, which a loop fills the table with.
 unfoldable pub bitsOf : List ℕ → ℕ → ℕ → List ℕ
@@ -68,7 +62,7 @@ module _ {l : List ℕ} {a e : ℕ} (p : TablePlace l a e) where
       let w = take (e - a) (drop a l) in
       let q : getD w i 0 ≡ getD l (a + i) 0 = rw (getD-take, getD-drop) in
       let b : getD (bitsFrom w) i 0 ≡ getD l (a + i) 0 - 48 = bits-at w i ∙ ap (λ x. x - 48) q in
-      let s = bits-small (bitsFrom w) i (p .bits) in
+      let s = bit-at (bitsFrom w) i (p .bits) in
       ⊎-elim (λ (f : getD l (a + i) 0 ≡ 49). rw (eq-eqb (getD l (a + i) 0) 49 f) (omega arith))
       (λ (n : getD l (a + i) 0 ≡ 49 → ⊥). rw (ne-eqb (getD l (a + i) 0) 49 n) (omega arith)) (eq-or-ne (getD l (a + i) 0) 49)
 

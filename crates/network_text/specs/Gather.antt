@@ -24,6 +24,7 @@ use Rattle.text.specs.Many.{many-none, many-some}
 use Rattle.text.specs.Number.{digitsValue}
 use Rattle.text.specs.Reads.{found, ends}
 use Rattle.text.specs.Signed.{capSigned, cap-abs, cap-exact, cap-back}
+use Rattle.theorems.specs.Terms.{sources-length}
 use Rattle.network_text.specs.Lines.{capTerm, capTerms}
 use Rattle.network_text.specs.Places.{goodCoef, noPlaces, withPlace, Parts, apart, goodNext}
 use Rattle.network_text.specs.Term.{spacedTerm, capCoef, termTaken, termEnd, Node, ReadsTerm, DigitsAt, takes-term}
@@ -43,11 +44,6 @@ sources-append : (ts us : List Term) → sources (ts ++ us) ≡ sources ts ++ so
 unfolding sources
 sources-append [] us = refl
 sources-append (t ∷ ts) us = ap {B = List ℕ} (λ is. t .node ∷ is) (sources-append ts us)
-
-sources-length : (ts : List Term) → length (sources ts) ≡ length ts
-unfolding sources
-sources-length [] = refl
-sources-length (t ∷ ts) = ap suc (sources-length ts)
 
 terms-append : (ts us : List Term) → goodTerms (ts ++ us) ≡ (goodTerms ts && goodTerms us)
 unfolding goodTerms

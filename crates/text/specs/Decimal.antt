@@ -13,8 +13,8 @@ use lib.ListN.{length, take, drop, length-drop}
 use Rattle.laws.specs.Test.{if_then_else_, decide, lt-or-le, and-left, and-right, is-T}
 use Rattle.rules.specs.CircuitText.{sameName}
 use Rattle.rules.specs.Form.{give, onward, run, runOf, number, isNumber, isDigit, valueFrom}
+use Rattle.theorems.specs.Names.{name-self, name-is}
 use Rattle.text.specs.Run.{runStop, run-within, run-end}
-use Rattle.text.specs.Same.{same-self, same-is}
 
 unfoldable pub Digits : List ℕ → Type 0
 Digits [] = Unit {0}
@@ -118,6 +118,6 @@ same-digits w u p q e =
 
 pub same-number : (w u : List ℕ) → Decimal w → Decimal u → sameName w u ≡ eqb (valueFrom 0 w) (valueFrom 0 u)
 same-number w u p q =
-    ⊎-elim (λ (e : sameName w u ≡ true). e ∙ sym (eq-eqb (valueFrom 0 w) (valueFrom 0 u) (ap (valueFrom 0) (same-is w u (is-T _ e)))))
-    (λ (e : sameName w u ≡ false). e ∙ sym (ne-eqb (valueFrom 0 w) (valueFrom 0 u) (λ v. true≢false (sym (same-self w) ∙ ap (sameName w) (same-digits w u p q v) ∙ e))))
+    ⊎-elim (λ (e : sameName w u ≡ true). e ∙ sym (eq-eqb (valueFrom 0 w) (valueFrom 0 u) (ap (valueFrom 0) (name-is w u e))))
+    (λ (e : sameName w u ≡ false). e ∙ sym (ne-eqb (valueFrom 0 w) (valueFrom 0 u) (λ v. true≢false (sym (name-self w) ∙ ap (sameName w) (same-digits w u p q v) ∙ e))))
     (decide (sameName w u))

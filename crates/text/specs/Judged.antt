@@ -7,7 +7,7 @@ use Prim.Native.Nat.{ℕ, _+_, _-_, _<_, _≤_}
 use native.Mathlib.Omega.{arith}
 use lib.ListN.{length, take, drop}
 use Rattle.laws.specs.Test.{if_then_else_}
-use Rattle.rules.specs.Form.{Condition, Reading, Good, Refused, judged, onLine, readLines, lines}
+use Rattle.rules.specs.Form.{Condition, Reading, Refused, judged, onLine, readLines, lines}
 use Rattle.text.specs.Line.{LineEnd, no-lines}
 
 unfoldable pub lowest : List Condition → ℕ
@@ -74,35 +74,3 @@ module _ {S L A : Type 0} (form : List ℕ → Option L) (noForm : ℕ) (conditi
           → readFrom s i c a ≡ readFrom s (i + 1) (withLine i c l) e
       unfolding readFrom readLines onLine
       read-next l f p k = rw (h .line, f) (judged-good i (conditions c l) _ p k)
-
--- ---- What every good line keeps holds of a good text.
-
-refused-good : {A : Type 0} {n i : ℕ} {a : A} → Refused n i ≡ Good a → ⊥
-refused-good e = let z : _≡_ {A = ℕ} 0 1 = cc in omega arith
-
-passed : {A : Type 0} (i : ℕ) (ks : List Condition) (next : Reading A) (a : A) → judged i ks next ≡ Good a → (lowest ks ≡ 0) × (next ≡ Good a)
-unfolding judged lowest
-passed i [] next a e = (refl, e)
-passed i (k ∷ ks) next a e = by (k .met) e (passed i ks next a)
-  where
-    by : (b : Bool) → (if b then Refused (k .no) i else judged i ks next) ≡ Good a → (judged i ks next ≡ Good a → (lowest ks ≡ 0) × (next ≡ Good a))
-        → ((if b then k .no else lowest ks) ≡ 0) × (next ≡ Good a)
-    by true d f = absurd (refused-good d)
-    by false d f = f d
-
-module _ {S L A : Type 0} (form : List ℕ → Option L) (noForm : ℕ) (conditions : S → L → List Condition) (withLine : ℕ → S → L → S)
-    (ended : ℕ → S → Reading A) (P : S → Type 0)
-    (keeps : (i : ℕ) (c : S) (x : List ℕ) (l : L) → form x ≡ some l → lowest (conditions c l) ≡ 0 → P c → P (withLine i c l)) where
-  pub good-lines : (ls : List (List ℕ)) (i : ℕ) (c : S) (a : A) → P c → readLines form noForm conditions withLine ended i c ls ≡ Good a
-      → (j : ℕ) × (d : S) × P d × (ended j d ≡ Good a)
-  unfolding readLines onLine
-  good-lines [] i c a p e = (i, c, p, e)
-  good-lines (x ∷ ls) i c a p e = by (form x) refl e (λ d. good-lines ls (i + 1) d a)
-    where
-      by : (o : Option L) → form x ≡ o → onLine form noForm conditions withLine ended i c o (λ d. readLines form noForm conditions withLine ended (i + 1) d ls) ≡ Good a
-          → ((d : S) → P d → readLines form noForm conditions withLine ended (i + 1) d ls ≡ Good a → (j : ℕ) × (d : S) × P d × (ended j d ≡ Good a))
-          → (j : ℕ) × (d : S) × P d × (ended j d ≡ Good a)
-      by none f g h = absurd (refused-good g)
-      by (some l) f g h =
-          let q = passed i (conditions c l) (readLines form noForm conditions withLine ended (i + 1) (withLine i c l) ls) a g in
-          h (withLine i c l) (keeps i c x l f (q .0) p) (q .1)

@@ -6,7 +6,6 @@ pub mod Cap
 pub mod Many
 pub mod FirstLine
 pub mod LineForms
-pub mod Gives
 pub mod Exactly
 pub mod Run
 pub mod Chain

@@ -1,7 +1,7 @@
 -- Decimal numbers: what a number that was read says of its digits, and when two are the same.
 use mathlib.Core.Path.{_≡_, refl, subst}
 use mathlib.Core.Bool.{or-true}
-use mathlib.Core.List.{List, [], _∷_, _++_}
+use mathlib.Core.List.{List, []}
 use mathlib.Core.Option.{Option, none, some}
 use Prim.Native.Nat.{ℕ, suc, _+_, _*_, _-_, _<_, _≤_, min}
 use native.Mathlib.Nat.{add-zero}
@@ -12,6 +12,7 @@ use lib.ListN.{length, getD, take, drop, length-drop}
 use lib.Seq.{take-suc, getD-take, getD-drop, drop-cons}
 use Rattle.laws.specs.Test.{and-left, is-T}
 use Rattle.rules.specs.Form.{Piece, give, number, isNumber, isDigit, valueFrom}
+use Rattle.theorems.specs.Decimals.{value-snoc}
 use Rattle.text.specs.declared.Number.{Number}
 use Rattle.text.specs.declared.Number.the-variants.{At, Nothing}
 use Rattle.text.specs.Chain.{step, stop}
@@ -51,11 +52,6 @@ pub number-value : {s : List ℕ} {a v e : ℕ} {r : Number} → ReadsNumber s a
 number-value {s} {a} h k = subst (λ q. numberValue q ≡ min 65536 (exactValue s a q)) k (h .capped)
 
 -- ---- The value, digit by digit.
-
-value-snoc : (u : ℕ) (w : List ℕ) (d : ℕ) → valueFrom u (w ++ (d ∷ [])) ≡ 10 * valueFrom u w + (d - 48)
-unfolding valueFrom
-value-snoc u [] d = refl
-value-snoc u (b ∷ w) d = value-snoc (10 * u + (b - 48)) w d
 
 -- A loop has the value of the digits from a up to i, at most 65536.
 module _ (s : List ℕ) (a : ℕ) where

@@ -1,31 +1,17 @@
 -- Two parts of texts compared byte by byte.
-use mathlib.Core.Path.{_≡_, refl, sym, ap, ap₂, _∙_}
+use mathlib.Core.Path.{_≡_, refl, sym, ap, _∙_}
 use mathlib.Core.Bool.{Bool, true, false, and-false}
 use mathlib.Core.List.{List, [], _∷_}
 use Prim.Native.Nat.{ℕ, suc, _+_, _-_, _<_, _≤_}
 use native.Mathlib.Nat.{add-zero}
 use native.Mathlib.Omega.{arith}
 use borrow.Author.Tests.{eq-eqb, ne-eqb}
-use lib.Dec.{T, eqb, eqb→eq}
+use lib.Dec.{eqb}
 use lib.ListN.{length, getD, take, drop, length-take, length-drop}
 use lib.Seq.{drop-cons}
-use Rattle.laws.specs.Test.{and-left, and-right}
 use Rattle.rules.specs.CircuitText.{sameName}
 
 -- ---- What the comparison says.
-
-pub same-self : (w : List ℕ) → sameName w w ≡ true
-unfolding sameName
-same-self [] = refl
-same-self (b ∷ w) = rw (eq-eqb b b refl) (same-self w)
-
-pub same-is : (w v : List ℕ) → T (sameName w v) → w ≡ v
-unfolding sameName
-same-is [] [] t = refl
-same-is [] (c ∷ v) t = absurd t
-same-is (b ∷ w) [] t = absurd t
-same-is (b ∷ w) (c ∷ v) t =
-    ap₂ {C = List ℕ} (λ x y. x ∷ y) (eqb→eq b c (and-left (eqb b c) (sameName w v) t)) (same-is w v (and-right (eqb b c) (sameName w v) t))
 
 lengths-differ : (w v : List ℕ) → (length w ≡ length v → ⊥) → sameName w v ≡ false
 unfolding sameName
