@@ -1,14 +1,14 @@
 -- A binary gate's steps on the way, and how much room in the store its sides still ask for.
-use mathlib.Core.Path.{_≡_, refl, sym, ap, _∙_}
+use mathlib.Core.Path.{_≡_, refl, ap, _∙_}
 use mathlib.Core.Bool.{Bool, true, false}
-use mathlib.Core.List.{List, [], _∷_}
+use mathlib.Core.List.{List}
 use mathlib.Core.Option.{Option, none, some}
 use Prim.Native.Nat.{ℕ, _+_, _≤_, _<_}
 use native.Mathlib.Omega.{arith}
-use borrow.Author.Tests.{eq-eqb, ne-eqb, le-leb, lt-leb}
+use borrow.Author.Tests.{eq-eqb, le-leb, lt-leb}
 use lib.Dec.{eqb, leb}
-use lib.ListN.{length, getD}
-use Rattle.laws.specs.Test.{if_then_else_, if-both, zero≢one, T-is, is-T}
+use lib.ListN.{length}
+use Rattle.laws.specs.Test.{if_then_else_, if-both, zero≢one}
 use Rattle.rules.specs.Cone as C
 use Rattle.rules.specs.Cone.{Result, ok, err, identity, bootstrapTable, _>>=_}
 use Rattle.rules.specs.Mapper as M
@@ -16,7 +16,6 @@ use Rattle.rules.specs.Network.{LutNode}
 use Rattle.rules.specs.declared.Settings.{Settings}
 use Rattle.rules.specs.Runs.{allBits}
 use Rattle.rules.specs.Store.{Stored, bootstrapped, bootstrapCone, realigned}
-use Rattle.theorems.specs.Bits.{bit-at, all-bits-of}
 use Rattle.cone.specs.declared.Cone.{Cone}
 use Rattle.cone.specs.declared.order.Sides.{Sides}
 use Rattle.cone.specs.Order.{sideOf, sidesOf}
@@ -24,8 +23,7 @@ use Rattle.cone.specs.View.{coneOf, IsCone, view-sources}
 use Rattle.lut.specs.View.{storeOf, IsStore}
 use Rattle.mapper.specs.declared.boot.Booted.{Booted}
 use Rattle.mapper.specs.declared.gate.Limited.{Limited}
-use Rattle.mapper.specs.declared.gate.Mapped.{Mapped}
-use Rattle.mapper.specs.View.{Stands, StandsBoth, Grown, Boots, bootedOf, limitedOf}
+use Rattle.mapper.specs.View.{Stands, StandsBoth, Boots, bootedOf, limitedOf}
 
 -- ---- Room: a bootstrap may add a sum and a table; a cone of no source or one source stays as it was.
 

@@ -19,7 +19,6 @@ ghost use mathlib.Core.Path.{_≡_};
 ghost use mathlib.Core.Bool.{true};
 ghost use mathlib.Core.List.{List, [], _∷_};
 ghost use Prim.Native.Nat.{ℕ, _+_, _≤_, _<_};
-ghost use lib.ListN.{length};
 ghost use Rattle.rules.specs.CircuitText.{inLimits};
 ghost use Rattle.rules.specs.Cone.{Result, err};
 ghost use Rattle.rules.specs.Runs.{allBits};

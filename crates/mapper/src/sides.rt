@@ -13,7 +13,7 @@ use rules::Settings;
 ghost use mathlib.Core.Path.{_≡_};
 ghost use mathlib.Core.Bool.{true};
 ghost use mathlib.Core.List.{List};
-ghost use Prim.Native.Nat.{ℕ, _+_, _≤_};
+ghost use Prim.Native.Nat.{_+_, _≤_};
 ghost use lib.ListN.{length};
 ghost use Rattle.rules.specs.CircuitText.{inLimits};
 ghost use Rattle.rules.specs.Composition.{unionSupport};
@@ -23,7 +23,7 @@ ghost use Rattle.rules.specs.Mapper.{sides, largerFirst, overLimit as isOver, b
 ghost use Rattle.cone.specs.View.{coneOf, IsCone};
 ghost use Rattle.cone.specs.Order.{sidesOf};
 ghost use Rattle.lut.specs.View.{storeOf, IsStore};
-ghost use Rattle.mapper.specs.View.{Stands, StandsBoth, bootedOf, limitedOf};
+ghost use Rattle.mapper.specs.View.{Stands, bootedOf, limitedOf};
 ghost use Rattle.mapper.specs.Gate.{room, Spends, Ready, Steps, Same};
 
 // Both sides of a gate, the larger one left.

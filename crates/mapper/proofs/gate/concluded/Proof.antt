@@ -1,5 +1,5 @@
 -- `mapper::gate::concluded` meets its contract.
-use mathlib.Core.Path.{_≡_, refl, sym, ap, _∙_}
+use mathlib.Core.Path.{_∙_}
 use Rattle.mapper.specs.GateSteps.{answer-refused, answer-cone, mapped-switched, mapped-kept, kept-maps}
 use borrow.Author.Needs.{needs}
 use Rattle.mapper.proofs.gate.concluded.Statement.{statement}

@@ -1,7 +1,7 @@
 -- `mapper::gate::map_two` meets its contract.
 use mathlib.Core.Path.{_≡_, sym, _∙_}
 use native.Mathlib.Omega.{arith}
-use Prim.Native.Nat.{_+_, _*_, _≤_}
+use Prim.Native.Nat.{_≤_}
 use lib.ListN.{length}
 use mathlib.Core.Bool.{true}
 use Rattle.laws.specs.Test.{is-T}

@@ -1,5 +1,5 @@
 -- `mapper::gate::map_unary` meets its contract.
-use mathlib.Core.Path.{_≡_, refl, sym, ap, _∙_}
+use mathlib.Core.Path.{sym, ap, _∙_}
 use native.Mathlib.Omega.{arith}
 use Rattle.rules.specs.Mapper as M
 use Rattle.rules.specs.Cone as C

@@ -1,5 +1,5 @@
 -- `mapper::sides::limit_second` meets its contract.
-use mathlib.Core.Path.{_≡_, refl, sym, ap, _∙_}
+use mathlib.Core.Path.{sym, _∙_}
 use Rattle.mapper.specs.View.{limitedOf}
 use Rattle.mapper.specs.GateSteps.{second-not, second-over, steps-none}
 use borrow.Author.Needs.{needs}

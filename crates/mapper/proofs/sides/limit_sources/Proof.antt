@@ -1,5 +1,5 @@
 -- `mapper::sides::limit_sources` meets its contract.
-use mathlib.Core.Path.{_≡_, refl, sym, ap, _∙_}
+use mathlib.Core.Path.{sym, ap, _∙_}
 use borrow.Author.Tests.{not-true, not-false}
 use Rattle.rules.specs.Mapper as M
 use Rattle.mapper.specs.View.{limitedOf}

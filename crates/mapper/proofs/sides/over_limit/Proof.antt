@@ -1,5 +1,5 @@
 -- `mapper::sides::over_limit` meets its contract.
-use mathlib.Core.Path.{_≡_, refl, sym, ap, _∙_}
+use mathlib.Core.Path.{ap}
 use lib.Dec.{ltb}
 use Rattle.cone.specs.Order.{sideOf, sidesOf}
 use Rattle.rules.specs.Mapper as M
