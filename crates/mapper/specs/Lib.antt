@@ -9,3 +9,5 @@ pub mod Merged
 pub mod Pair
 pub mod PairSources
 pub mod PairTrial
+pub mod Wired
+pub mod Gates

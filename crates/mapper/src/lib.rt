@@ -2,5 +2,6 @@
 pub mod boot;
 pub mod form;
 pub mod gate;
+pub mod gates;
 pub mod pair;
 pub mod sides;

@@ -1,0 +1,28 @@
+use mathlib.Core.Path.{refl}
+use mathlib.Core.Logic.{inl, inr}
+use Rattle.mapper.specs.Wired.{put, same, not-true, not-false}
+use borrow.Author.Needs.{needs}
+use Rattle.mapper.proofs.gates.put_new.Statement.{statement}
+use Rattle.mapper.proofs.gates.put_new.Tie as tie
+use Rattle.mapper.proofs.gates.put_new.Reads as reads
+use Rattle.mapper.proofs.gates.put_new.Lts as lts
+use Rattle.cone.proofs.wires.put_cone.Reads as put-cone-reads
+
+-- src/gates.rt:163:9
+returns : tie.Need-returns
+returns c = same refl (inl (not-true _ (c .if1 .taken)))
+
+-- src/gates.rt:166:9
+returns-2 : tie.Need-returns-2
+returns-2 c = same refl (inr (c .if2 .taken))
+
+-- src/gates.rt:169:5
+put-cone-requires : tie.Need-put-cone-requires
+put-cone-requires c κs = search needs
+
+-- src/gates.rt:158:1
+returns-3 : tie.Need-returns-3
+returns-3 c = put (not-false _ (c .before .before .before .before .if1 .left)) (c .before .before .before .if2 .left) (c .put-cone .ensures)
+
+pub put-new-spec : {M : Type 1} → statement M
+put-new-spec = tie.close (tie.spec returns returns-2 put-cone-requires returns-3)

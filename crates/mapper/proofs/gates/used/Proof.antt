@@ -1,0 +1,27 @@
+use Rattle.mapper.specs.Wired.{not-true, not-false}
+use Rattle.mapper.specs.Gates.{used-other, used-equal, used-unequal}
+use borrow.Author.Needs.{needs}
+use Rattle.mapper.proofs.gates.used.Statement.{statement}
+use Rattle.mapper.proofs.gates.used.Tie as tie
+use Rattle.mapper.proofs.gates.used.Reads as reads
+use Rattle.mapper.proofs.gates.used.Lts as lts
+use Rattle.mapper.proofs.gates.is_basic.Reads as is-basic-reads
+
+-- src/gates.rt:50:9
+is-basic-requires : tie.Need-is-basic-requires
+is-basic-requires c κs = search needs
+
+-- src/gates.rt:51:9
+returns : tie.Need-returns
+returns c = used-other _ _ (c .before .is-basic .ensures) (not-true _ (c .if1 .taken))
+
+-- src/gates.rt:46:1
+returns-2 : tie.Need-returns-2
+returns-2 c = used-equal _ _ (c .before .before .before .is-basic .ensures) (not-false _ (c .before .before .if1 .left)) (c .if2 .taken)
+
+-- src/gates.rt:46:1
+returns-3 : tie.Need-returns-3
+returns-3 c = used-unequal _ _ (c .before .before .before .is-basic .ensures) (not-false _ (c .before .before .if1 .left)) (c .if2 .left)
+
+pub used-spec : {M : Type 1} → statement M
+used-spec = tie.close (tie.spec is-basic-requires returns returns-2 returns-3)
