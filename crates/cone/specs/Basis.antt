@@ -18,8 +18,9 @@ use Rattle.rules.specs.Store.{terms, coefficientOf}
 use Rattle.rules.specs.Composition.{unionSupport, gateTruth}
 use Rattle.scale.specs.Limits.{Within}
 use Rattle.cone.specs.declared.compose.Basis.{Basis}
-use Rattle.cone.specs.Span.{total}
-use Rattle.cone.specs.Support.{termsOver, terms-are}
+use Rattle.theorems.specs.LinearTables.{total}
+use Rattle.cone.specs.Support.{terms-are}
+use Rattle.theorems.specs.Terms.{termsOver}
 
 -- A cone's coefficients over a support.
 unfoldable pub coefficientsOver : List ℕ → Cone → List ℤ

@@ -21,6 +21,7 @@ use Rattle.rules.specs.Cone.{rowFrom}
 use Rattle.rules.specs.Composition.{assignments, assigned, overRows}
 use Rattle.rules.specs.Network.{member}
 use Rattle.rules.specs.NetworkText.{allDifferent}
+use Rattle.theorems.specs.ConeRows.{rowFrom-shift}
 
 -- ---- A row is the number that its digits make.
 
@@ -234,12 +235,6 @@ unfolding toggleMask hitMask
 toggleMask-next U rs z =
     ap (rowFrom 0) (map-same _ _ rs (changed-next U z))
     ∙ sym (row-by-row bitOr max or-step _ _ (hit-digit U (z + 1)) (changed-digit U z) rs 0 0)
-
--- one more source in front
-rowFrom-shift : (x : ℕ) (bs : List ℕ) → rowFrom x bs ≡ x * 2 ^ length bs + rowFrom 0 bs
-unfolding rowFrom
-rowFrom-shift x [] = omega arith
-rowFrom-shift x (b ∷ bs) = rowFrom-shift (2 * x + b) bs ∙ rw (two-pow-succ, rowFrom-shift (2 * 0 + b) bs) (omega arith)
 
 pub hitMask-cons : (U rs : List ℕ) (s z : ℕ) → hitMask U (s ∷ rs) z ≡ hit U z s * 2 ^ length rs + hitMask U rs z
 unfolding hitMask rowFrom

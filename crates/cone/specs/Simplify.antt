@@ -20,11 +20,14 @@ use Rattle.rules.specs.Network.{Term}
 use Rattle.rules.specs.NetworkText.{sources, allDifferent}
 use Rattle.rules.specs.Store.{terms, isUsed}
 use Rattle.rules.specs.Composition.{assigned, overRows, simplifyCone}
-use Rattle.theorems.specs.ZeroSources.{coefs, Bits, weigh, value-at, weigh-selected, unused-zero}
+use Rattle.theorems.specs.ZeroSources.{coefs, weigh-selected}
+use Rattle.theorems.specs.ConeRows.{Bits}
+use Rattle.theorems.specs.Terms.{unused-zero, termsOver, sources-of, terms-length, sources-are}
+use Rattle.theorems.specs.ConeValues.{value-at, weigh}
 use Rattle.cone.specs.declared.simplify.Retained.{Retained}
 use Rattle.cone.specs.Rows.{rowOver, overRows-are, rowFrom-digits, own-digits, assigned-digit}
-use Rattle.cone.specs.Span.{total, lower}
-use Rattle.cone.specs.Support.{termsOver, different-select}
+use Rattle.theorems.specs.LinearTables.{lower, total}
+use Rattle.theorems.specs.Members.{different-select}
 
 -- The arrays hold these terms.
 pub record IsRetained (ts : List Term) (r : Retained) : Type 0 where
@@ -56,13 +59,6 @@ module _ {A : Type 0} (f : A → Bool) where
       by true r = omega arith
       by false r = omega arith
 
-pub sources-of : (cs : List ℤ) (ns : List ℕ) → length cs ≡ length ns → sources (termsOver cs ns) ≡ ns
-unfolding sources termsOver zipWith
-sources-of [] [] e = refl
-sources-of [] (n ∷ ns) e = absurd (omega arith)
-sources-of (c ∷ cs) [] e = absurd (omega arith)
-sources-of (c ∷ cs) (n ∷ ns) e = ap {B = List ℕ} (λ l. n ∷ l) (sources-of cs ns (omega arith))
-
 pub coefs-of : (cs : List ℤ) (ns : List ℕ) → length cs ≡ length ns → coefs (termsOver cs ns) ≡ cs
 unfolding coefs termsOver zipWith
 coefs-of [] [] e = refl
@@ -74,13 +70,6 @@ pub coefs-long : (ts : List Term) → length (sources ts) ≡ length (coefs ts)
 unfolding sources coefs
 coefs-long [] = refl
 coefs-long (t ∷ ts) = ap suc (coefs-long ts)
-
-pub terms-length : (cs : List ℤ) (ns : List ℕ) → length cs ≡ length ns → length (termsOver cs ns) ≡ length ns
-unfolding termsOver zipWith
-terms-length [] [] e = refl
-terms-length [] (n ∷ ns) e = absurd (omega arith)
-terms-length (c ∷ cs) [] e = absurd (omega arith)
-terms-length (c ∷ cs) (n ∷ ns) e = let r = terms-length cs ns (omega arith) in omega arith
 
 -- what is left of the used terms from i on, as a loop goes through them
 unfoldable pub usedFrom : List ℤ → List ℕ → ℕ → List Term
@@ -106,11 +95,6 @@ module _ (cs : List ℤ) (ns : List ℕ) (i : ℕ) (same : length cs ≡ length 
     unused-on e = rw (drop-cons cs i (pos 0) (omega arith), drop-cons ns i 0 h, e, add-one)
 
 -- ---- the used sources are different too, and their coefficients are no larger
-sources-are : (ts : List Term) → sources ts ≡ map (λ (t : Term). t .node) ts
-unfolding sources
-sources-are [] = refl
-sources-are (t ∷ ts) = ap {B = List ℕ} (λ l. t .node ∷ l) (sources-are ts)
-
 module _ (f : Term → Bool) where
   pub different-sources : (ts : List Term) → allDifferent (sources ts) ≡ true → allDifferent (sources (select f ts)) ≡ true
   different-sources ts d = rw (sources-are (select f ts)) (different-select (λ (t : Term). t .node) f ts (rw (sources-are ts) at d))

@@ -19,6 +19,7 @@ use Rattle.rules.specs.NetworkText.{allDifferent}
 use Rattle.rules.specs.Cone.{Cone}
 use Rattle.rules.specs.Store.{terms, coefficientOf}
 use Rattle.rules.specs.Composition.{unionSupport}
+use Rattle.theorems.specs.Terms.{termsOver}
 use Rattle.cone.specs.Rows.{position}
 
 -- ---- a turn of the loop that looks for a node
@@ -92,35 +93,7 @@ pub new-end : (left right : List ℕ) (i : ℕ) → length right ≤ i → selec
 unfolding select
 new-end left right i h = rw (drop-of-length-le right {i = i} h)
 
--- ---- elements that have different nodes, of which a test keeps some
-module _ {A : Type 0} (node : A → ℕ) (f : A → Bool) where
-  member-select : (n : ℕ) (l : List A) → member n (map node l) ≡ false → member n (map node (select f l)) ≡ false
-  unfolding select member
-  member-select n [] h = refl
-  member-select n (x ∷ l) h =
-      by (f x) (neither-left (eqb n (node x)) (member n (map node l)) h) (member-select n l (neither-right (eqb n (node x)) (member n (map node l)) h))
-    where
-      by : (t : Bool) → eqb n (node x) ≡ false → member n (map node (select f l)) ≡ false → member n (map node (if t then x ∷ select f l else select f l)) ≡ false
-      by true e r = rw (e, r)
-      by false e r = r
-
-  pub different-select : (l : List A) → allDifferent (map node l) ≡ true → allDifferent (map node (select f l)) ≡ true
-  unfolding select allDifferent
-  different-select [] d = refl
-  different-select (x ∷ l) d =
-      by (f x) (not-true (member (node x) (map node l)) (both-left (not (member (node x) (map node l))) (allDifferent (map node l)) d))
-      (different-select l (both-right (not (member (node x) (map node l))) (allDifferent (map node l)) d))
-    where
-      by : (t : Bool) → member (node x) (map node l) ≡ false → allDifferent (map node (select f l)) ≡ true
-          → allDifferent (map node (if t then x ∷ select f l else select f l)) ≡ true
-      by true m r = rw (member-select (node x) l m, r)
-      by false m r = r
-
 -- ---- coefficients
-
--- `terms` of a cone with these coefficients and sources
-unfoldable pub termsOver : List ℤ → List ℕ → List Term
-termsOver = zipWith (λ (k : ℤ) (n : ℕ). record { coef = k; node = n })
 
 pub terms-are : (c : Cone) → terms c ≡ termsOver (c .coefficients) (c .support)
 unfolding terms termsOver

@@ -10,6 +10,7 @@ use lib.Pow.{pow-pos}
 use Rattle.laws.specs.Integer.{abs-add}
 use Rattle.rules.specs.Cone.{linearTable}
 use Rattle.scale.specs.Limits.{Within}
+use Rattle.theorems.specs.ConeValues.{linearTable-length}
 
 -- c added to each value
 unfoldable pub shifted : ℤ → List ℤ → List ℤ
@@ -23,18 +24,12 @@ pub table-cons : (c : ℤ) (cs : List ℤ) → linearTable (c ∷ cs) ≡ linear
 unfolding linearTable shifted
 table-cons c cs = refl
 
-pub table-length : (cs : List ℤ) → length (linearTable cs) ≡ 2 ^ length cs
-unfolding linearTable
-table-length [] = refl
-table-length (c ∷ cs) =
-    rw (length-append, length-map, two-pow-succ) (let ih = table-length cs in omega arith)
-
 -- the first assignment is all zeros
 pub table-first : (cs : List ℤ) → getD (linearTable cs) 0 (pos 0) ≡ pos 0
 unfolding linearTable
 table-first [] = refl
 table-first (c ∷ cs) =
-    List·getD-append (linearTable cs) (map (λ v. c +ℤ v) (linearTable cs)) (pos 0) 0 (rw table-length (pow-pos (length cs))) ∙ table-first cs
+    List·getD-append (linearTable cs) (map (λ v. c +ℤ v) (linearTable cs)) (pos 0) 0 (rw linearTable-length (pow-pos (length cs))) ∙ table-first cs
 
 pub within-append : (k : ℕ) (s t : List ℤ) → Within k s → Within k t → Within k (s ++ t)
 within-append k [] t h g i = g i

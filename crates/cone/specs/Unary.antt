@@ -16,7 +16,7 @@ use Rattle.rules.specs.Composition.{allEqual}
 use Rattle.rules.specs.Cone as rules
 use Rattle.rules.specs.Span.{least, span}
 use Rattle.theorems.specs.KnownRows.{hits, hit-row}
-use Rattle.theorems.specs.ZeroSources.{map-at}
+use Rattle.laws.specs.Lists.{map-at}
 use Rattle.theorems.specs.Rows.{offset}
 use Rattle.theorems.specs.Spans.{offset-lt}
 use Rattle.theorems.specs.Truths.{throughGate, allEqual-true, allEqual-false}

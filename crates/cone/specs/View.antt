@@ -21,14 +21,15 @@ use Rattle.rules.specs.NetworkText.{allDifferent}
 use Rattle.rules.specs.Span.{least, span}
 use Rattle.scale.specs.Limits.{Within}
 use Rattle.theorems.specs.KnownRows.{hits, known-fine, known-bit, known-unhit, known-held}
-use Rattle.theorems.specs.ZeroSources.{map-at}
+use Rattle.laws.specs.Lists.{map-at}
 use Rattle.theorems.specs.Rows.{offset}
 use Rattle.theorems.specs.Spans.{offset-lt}
 use Rattle.cone.specs.declared.Cone.{Cone}
 use Rattle.cone.specs.declared.Constant.{Constant}
 use Rattle.cone.specs.declared.Constant.the-variants.{Bit, No}
-use Rattle.cone.specs.Span.{lower, total, total-parts, least-table, span-table, within-total}
-use Rattle.cone.specs.Table.{table-length}
+use Rattle.cone.specs.Span.{within-total}
+use Rattle.theorems.specs.LinearTables.{least-table, lower, span-table, total, total-parts}
+use Rattle.theorems.specs.ConeValues.{linearTable-length}
 
 -- the entry of a value, counted from a least one
 unfoldable pub entryAt : ℤ → List ℕ → ℤ → ℕ
@@ -70,11 +71,11 @@ module _ (c : Cone) where
   pub truth-entry : (i : ℕ) → i < length (rules.values (coneOf c))
       → getD (coneOf c .truth) i 0 ≡ getD (c .known) (offset (least (rules.values (coneOf c))) (rules.values (coneOf c)) i) 0
   unfolding coneOf rules.values truthAt entryAt
-  truth-entry i h = map-at _ (linearTable (take (c .n) (c .coefs))) i 0 (pos 0) h
+  truth-entry i h = map-at _ (linearTable (take (c .n) (c .coefs))) i (pos 0) 0 h
 
   pub rows-are : length (rules.values (coneOf c)) ≡ 2 ^ length (coneOf c .coefficients)
   unfolding rules.values
-  rows-are = table-length (coneOf c .coefficients)
+  rows-are = linearTable-length (coneOf c .coefficients)
 
   -- how a cone is made, which is seen as v
   pub is-cone : (v : rules.Cone) → coneOf c ≡ v → length (c .known) ≡ 32 → c .n ≤ 11 → allDifferent (v .support) ≡ true → total (v .coefficients) ≤ 31

@@ -15,7 +15,7 @@ ghost use Rattle.laws.specs.Over.{over};
 ghost use Rattle.rules.specs.Cone.{values};
 ghost use Rattle.rules.specs.Composition.{unionSupport, gateTruth};
 ghost use Rattle.rules.specs.Store.{coefficientOf};
-ghost use Rattle.cone.specs.Support.{termsOver};
+ghost use Rattle.theorems.specs.Terms.{termsOver};
 ghost use Rattle.cone.specs.View.{coneOf, IsCone};
 ghost use Rattle.cone.specs.Basis.{IsBasis, Room, Composed};
 

@@ -6,7 +6,7 @@ ghost use lib.ListN.{length};
 ghost use Rattle.laws.specs.Select.{select};
 ghost use Rattle.rules.specs.Store.{isUsed};
 ghost use Rattle.rules.specs.Composition.{simplifyCone};
-ghost use Rattle.cone.specs.Support.{termsOver};
+ghost use Rattle.theorems.specs.Terms.{termsOver};
 ghost use Rattle.cone.specs.View.{coneOf, IsCone};
 ghost use Rattle.cone.specs.Simplify.{IsRetained};
 

@@ -5,7 +5,7 @@ ghost use Prim.Native.Nat.{ℕ, _+_, _≤_, _<_, _^_};
 ghost use lib.ListN.{length, take, getD};
 ghost use Rattle.rules.specs.Composition.{unionSupport};
 ghost use Rattle.rules.specs.Store.{coefficientOf};
-ghost use Rattle.cone.specs.Support.{termsOver};
+ghost use Rattle.theorems.specs.Terms.{termsOver};
 ghost use Rattle.cone.specs.Rows.{position, hitMask, toggleMask};
 
 // The sources of a cone, or of two together: the first n; 0 past them.

@@ -20,7 +20,8 @@ use Rattle.rules.specs.Network.{Term, LutNode, Input, Linear, Bootstrap, member
 use Rattle.rules.specs.NetworkText.{sources}
 use Rattle.rules.specs.Store.{needs, termsOf, coefficientOf, sameSources}
 use Rattle.lut.specs.declared.forms.Aligned.{Aligned}
-use Rattle.lut.specs.Nodes.{kindOf, sources-length, sources-at}
+use Rattle.lut.specs.Nodes.{kindOf, sources-at}
+use Rattle.theorems.specs.Terms.{sources-length}
 use Rattle.lut.specs.View.{term, nodeOf, IsNode}
 
 -- the number of the first term of this source; as many as there are where it has none

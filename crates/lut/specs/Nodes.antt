@@ -15,6 +15,7 @@ use Rattle.rules.specs.NetworkText.{sources}
 use Rattle.rules.specs.Store.{needs, termsOf}
 use Rattle.lut.specs.Sums.{fine-at}
 use Rattle.lut.specs.View.{biased, unbiased, biased-back, biased-small, packed, padded, bytesOf, recordOf, recordAt, nodeOf, term, Fine, IsNode, byte-at, part-drop}
+use Rattle.theorems.specs.Terms.{sources-length}
 
 -- 0 an input, 1 a sum, 2 a bootstrap
 unfoldable pub kindOf : LutNode → ℕ
@@ -56,11 +57,6 @@ unfolding recordOf padded over bytesOf kindOf
 first-byte (Input name) = refl
 first-byte (Linear c ts) = refl
 first-byte (Bootstrap i table) = refl
-
-pub sources-length : (ts : List Term) → length (sources ts) ≡ length ts
-unfolding sources
-sources-length [] = refl
-sources-length (t ∷ ts) = ap suc (sources-length ts)
 
 pub sources-at : (ts : List Term) (k : ℕ) → k < length ts → getD (sources ts) k 0 ≡ getD ts k (term (pos 0) 0) .node
 unfolding sources

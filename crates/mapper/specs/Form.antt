@@ -24,7 +24,7 @@ use Rattle.theorems.specs.Rows.{offset}
 use Rattle.theorems.specs.Spans.{offset-lt}
 use Rattle.cone.specs.declared.Cone.{Cone}
 use Rattle.scale.specs.Limits.{Within}
-use Rattle.cone.specs.Table.{table-length}
+use Rattle.theorems.specs.ConeValues.{linearTable-length}
 use Rattle.cone.specs.View.{coneOf, IsCone, truth-length, truth-entry, view-rows}
 use Rattle.lut.specs.declared.forms.Aligned.{Aligned}
 use Rattle.lut.specs.Forms.{formTerms, FormOf, NodesTo}
@@ -97,7 +97,7 @@ module _ (c : Cone) (is : IsCone c) (long : length (c .coefs) ≡ 11) (coefs : L
   rows-same : length (linearTable (take (c .n) coefs)) ≡ length (coneOf c .truth)
   rows-same =
       let n : length (take (c .n) coefs) ≡ c .n = length-take-le (c .n) coefs (omega (arith, is .few)) in
-      table-length (take (c .n) coefs) ∙ ap (λ k. 2 ^ k) n ∙ sym (view-rows c is long)
+      linearTable-length (take (c .n) coefs) ∙ ap (λ k. 2 ^ k) n ∙ sym (view-rows c is long)
 
   formed-truth : coneOf formed .truth ≡ coneOf c .truth
   unfolding coneOf values coneSpan
@@ -119,15 +119,6 @@ module _ (c : Cone) (is : IsCone c) (long : length (c .coefs) ≡ 11) (coefs : L
       }
 
 -- ---- laws: whether the form fits
-
-pub table-short : (s : Settings) → inLimits s ≡ true → s .m ≤ 32
-unfolding inLimits tableLimits
-table-short s e =
-    let table = both-left (tableLimits (s .p) (s .m)) (leb 1 (s .t) && leb (s .t) 10) e in
-    let lower = both-left (leb 2 (s .p) && leb (s .p) 16 && leb (s .p) (s .m)) (leb (s .m) (2 * s .p)) table in
-    let m = leb-true (s .m) (2 * s .p) (both-right (leb 2 (s .p) && leb (s .p) 16 && leb (s .p) (s .m)) (leb (s .m) (2 * s .p)) table) in
-    let p = leb-true (s .p) 16 (both-right (leb 2 (s .p)) (leb (s .p) 16) (both-left (leb 2 (s .p) && leb (s .p) 16) (leb (s .p) (s .m)) lower)) in
-    omega (arith, m, p)
 
 and-false : (b : Bool) → (b && false) ≡ false
 and-false true = refl

@@ -28,7 +28,8 @@ use Rattle.cone.specs.Basis.{coefficientsOver, IsBasis}
 use Rattle.cone.specs.View.{coneOf, IsCone, truth-length, truth-entry, rows-are}
 use Rattle.search.specs.declared.score.Score.{Score}
 use Rattle.search.specs.Candidates.{mergedCone, candidateOf, Found}
-use Rattle.search.specs.MergedValues.{merged-coefficients, normalised-length}
+use Rattle.search.specs.MergedValues.{merged-coefficients}
+use Rattle.theorems.specs.Normalised.{normalised-length}
 use Rattle.search.specs.Pair.{Rows, Scaling, mergedRow, merged, row-length}
 use Rattle.search.specs.Policies.{Finds}
 use Rattle.search.specs.Score.{scoreList}

@@ -17,7 +17,6 @@ use Rattle.rules.specs.Cone.{Result, ok, constant, linearTable}
 use Rattle.rules.specs.Composition.{unionSupport, gateTruth, allEqual, mergeCones, findCandidate, compose}
 use Rattle.rules.specs.Network.{LutNode}
 use Rattle.rules.specs.Span.{least, span}
-use Rattle.theorems.specs.BuilderExact.{limits-most}
 use Rattle.cone.specs.declared.Cone.{Cone}
 use Rattle.cone.specs.declared.compose.Basis.{Basis}
 use Rattle.cone.specs.Basis.{IsBasis}
@@ -58,16 +57,7 @@ gated s nodes left right gate =
     let merged = Option·map (mergeCones s) (findCandidate s nodes support left right truth) in
     if allEqual truth then some (ok (constant (getD truth 0 0))) else merged
 
--- ---- laws: the limits
-pub limits-m : (s : Settings) → inLimits s ≡ true → s .m ≤ 32
-unfolding inLimits
-limits-m s e = limits-most (s .p) (s .m) (both-left (tableLimits (s .p) (s .m)) (leb 1 (s .t) && leb (s .t) 10) e)
-
-pub limits-t : (s : Settings) → inLimits s ≡ true → s .t ≤ 10
-unfolding inLimits
-limits-t s e = leb-true (s .t) 10 (both-right (leb 1 (s .t)) (leb (s .t) 10) (both-right (tableLimits (s .p) (s .m)) (leb 1 (s .t) && leb (s .t) 10) e))
-
--- too many sources, or not
+-- ---- laws: too many sources, or not
 module _ (s : Settings) (nodes : List LutNode) (left right : C.Cone) (gate : List ℕ) where
   pub compose-over : s .t + 1 < length (unionSupport (left .support) (right .support)) → none ≡ compose s nodes left right gate
   unfolding compose

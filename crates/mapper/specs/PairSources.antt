@@ -15,10 +15,10 @@ use Rattle.rules.specs.Composition.{unionSupport, simplifyCone}
 use Rattle.rules.specs.Network.{Term, member}
 use Rattle.rules.specs.NetworkText.{sources}
 use Rattle.rules.specs.Store.{isUsed}
-use Rattle.theorems.specs.Terms.{sources-are}
+use Rattle.theorems.specs.Terms.{sources-are, termsOver}
 use Rattle.cone.specs.declared.Cone.{Cone}
-use Rattle.cone.specs.Simplify.{sources-of, simplified}
-use Rattle.cone.specs.Support.{termsOver}
+use Rattle.cone.specs.Simplify.{simplified}
+use Rattle.theorems.specs.Terms.{sources-of}
 use Rattle.cone.specs.View.{coneOf, IsCone}
 use Rattle.mapper.specs.View.{Below, Stands}
 

@@ -27,8 +27,9 @@ use Rattle.cone.specs.declared.Cone.{Cone}
 use Rattle.cone.specs.declared.compose.Basis.{Basis}
 use Rattle.cone.specs.Basis.{coefficientsOver, Composed, coefficientsOver-total}
 use Rattle.cone.specs.Compose.{gateTruth-length}
-use Rattle.cone.specs.Span.{span-table, table-within-total}
-use Rattle.cone.specs.Table.{table-length}
+use Rattle.cone.specs.Span.{table-within-total}
+use Rattle.theorems.specs.LinearTables.{span-table}
+use Rattle.theorems.specs.ConeValues.{linearTable-length}
 use Rattle.cone.specs.View.{coneOf, narrow-total}
 use Rattle.search.specs.declared.rows.Frame.{Frame}
 use Rattle.search.specs.declared.energy.Moments.{Moments}
@@ -43,7 +44,8 @@ use Rattle.search.specs.RowsFrame.{InFrame, Framed, Moved, tables-framed}
 use Rattle.search.specs.Search.{Ready}
 use Rattle.mapper.specs.Merged.{mergedOf, Mergeable, judgedBy, Judges, merged-support, merged-coefs-long, found-mergeable, judged-is}
 use Rattle.mapper.specs.View.{Stands}
-use Rattle.mapper.specs.Pair.{FrameOf, Tabled, Trial, limits-m}
+use Rattle.mapper.specs.Pair.{FrameOf, Tabled, Trial}
+use Rattle.theorems.specs.SettingLimits.{limits-m}
 use Rattle.mapper.specs.PairSources.{Each, union-each, each-near, simplified-below}
 
 -- ---- sums over rows, and the gate's answers
@@ -113,10 +115,10 @@ module _ (s : Settings) (bytes : List ℕ) (count : ℕ) (left right : Cone) (ba
     rows-few = omega (arith, tab .many, pow-mono {j = 11} (t .over .few))
 
     x-rows : length (linearTable L) ≡ rows
-    x-rows = table-length L ∙ ap (λ k. 2 ^ k) lefts-long ∙ sym (tab .many)
+    x-rows = linearTable-length L ∙ ap (λ k. 2 ^ k) lefts-long ∙ sym (tab .many)
 
     y-rows : length (linearTable R) ≡ rows
-    y-rows = table-length R ∙ ap (λ k. 2 ^ k) rights-long ∙ sym (tab .many)
+    y-rows = linearTable-length R ∙ ap (λ k. 2 ^ k) rights-long ∙ sym (tab .many)
 
     pub trial-framed : (f : Frame) (counts : List ℕ) → FrameOf (linearTable L) (linearTable R) f → length counts ≡ 2048 → Framed f rows xs ys ts counts
     trial-framed f counts o long =
@@ -238,8 +240,8 @@ module _ (s : Settings) (bytes : List ℕ) (count : ℕ) (left right : Cone) (ba
       → Tabled basis rows xs′ ys′ ts′ × (take rows ts′ ≡ gateTruth U (coneOf left) (coneOf right) gate)
   trial-tabled gate b rows e xs ys ts xs′ ys′ ts′ lx ly lt c =
       let most : rows ≤ 2048 = omega (arith, e, pow-mono {j = 11} (t .over .few)) in
-      let nx : length (linearTable (coefficientsOver U (coneOf left))) ≡ rows = table-length (coefficientsOver U (coneOf left)) ∙ ap (λ k. 2 ^ k) (over-long (coneOf left)) ∙ sym e in
-      let ny : length (linearTable (coefficientsOver U (coneOf right))) ≡ rows = table-length (coefficientsOver U (coneOf right)) ∙ ap (λ k. 2 ^ k) (over-long (coneOf right)) ∙ sym e in
+      let nx : length (linearTable (coefficientsOver U (coneOf left))) ≡ rows = linearTable-length (coefficientsOver U (coneOf left)) ∙ ap (λ k. 2 ^ k) (over-long (coneOf left)) ∙ sym e in
+      let ny : length (linearTable (coefficientsOver U (coneOf right))) ≡ rows = linearTable-length (coefficientsOver U (coneOf right)) ∙ ap (λ k. 2 ^ k) (over-long (coneOf right)) ∙ sym e in
       let nt : length (gateTruth U (coneOf left) (coneOf right) gate) ≡ rows = gateTruth-length U (coneOf left) (coneOf right) gate ∙ ap (λ k. 2 ^ k) (sym (t .over .count)) ∙ sym e in
       let truths : take rows ts′ ≡ gateTruth U (coneOf left) (coneOf right) gate = ap (take rows) (c .t) ∙ take-over (gateTruth U (coneOf left) (coneOf right) gate) ts rows nt in (
         record {

@@ -11,7 +11,7 @@ use Rattle.laws.specs.Integer.{ints, plus, minus, add-parts, plus-mul, minus-mu
 use Rattle.rules.specs.Scale.{divisor, normalised}
 use Rattle.rules.specs.Cone.{linearTable, energy}
 use Rattle.scale.specs.Divisor.{divisor-not-zero}
-use Rattle.cone.specs.Table.{table-length}
+use Rattle.theorems.specs.ConeValues.{linearTable-length}
 use Rattle.scale.specs.Limits.{Within}
 use Rattle.search.specs.MergedIntegers.{mul-add, add-mul, quot-of}
 use Rattle.search.specs.MergedValues.{combined, times, table-combined, table-times-divisor}
@@ -122,7 +122,7 @@ pub energy-by-moments : (a b : ℤ) (l r : List ℤ) → length r ≡ length l
 energy-by-moments a b l r e =
     let cs = zipWith (combined a b) l r in
     energy-of-quotients a b (divisor cs) (linearTable (normalised cs)) (linearTable l) (linearTable r) (divisor-not-zero cs)
-    (rw (table-length r, table-length l, e)) (table-times-divisor cs ∙ table-combined a b l r e)
+    (rw (linearTable-length r, linearTable-length l, e)) (table-times-divisor cs ∙ table-combined a b l r e)
 
 -- ---- How large a sum over the rows is.
 

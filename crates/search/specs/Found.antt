@@ -24,7 +24,7 @@ use Rattle.rules.specs.Store.{linearOf, terms}
 use Rattle.theorems.specs.Rows.{Within, entered-entries, unknown-entries}
 use Rattle.theorems.specs.Spans.{offset-lt}
 use Rattle.cone.specs.Basis.{coefficientsOver}
-use Rattle.cone.specs.Table.{table-length}
+use Rattle.theorems.specs.ConeValues.{linearTable-length}
 use Rattle.search.specs.declared.Ranges.{Ranges}
 use Rattle.search.specs.declared.energy.Moments.{Moments}
 use Rattle.search.specs.declared.pair.Pair.{Pair}
@@ -134,7 +134,7 @@ module _ (s : Settings) (nodes : List LutNode) (support : List ℕ) (left right 
     all-is = merged-values a b L R even
 
     columns : length (linearTable R) ≡ length (linearTable L)
-    columns = rw (table-length R, table-length L, even)
+    columns = rw (linearTable-length R, linearTable-length L, even)
 
     inside : Within (least all) all (span all)
     inside = record { at = λ i h. offset-lt all i h }

@@ -13,8 +13,9 @@ use Rattle.rules.specs.Store.{terms, coefficientOf}
 use Rattle.rules.specs.Composition.{Scales, mergedCoefficients}
 use Rattle.scale.specs.Divisor.{divisor-not-zero, normalised-exact}
 use Rattle.cone.specs.Basis.{coefficientsOver}
-use Rattle.cone.specs.Table.{table-length}
+use Rattle.theorems.specs.ConeValues.{linearTable-length}
 use Rattle.search.specs.MergedIntegers.{mul-add, add-mul, quot-of, zipWith-append, map-zipWith}
+use Rattle.theorems.specs.Normalised.{normalised-length}
 
 -- The value of a row before it is divided, and after.
 unfoldable pub combined : ℤ → ℤ → ℤ → ℤ → ℤ
@@ -52,7 +53,7 @@ table-combined a b [] (d ∷ r) e = absurd (omega arith)
 table-combined a b (c ∷ l) [] e = absurd (omega arith)
 table-combined a b (c ∷ l) (d ∷ r) e =
     let q : length r ≡ length l = omega arith in
-    let long : length (linearTable r) ≡ length (linearTable l) = rw (table-length r, table-length l, q) in
+    let long : length (linearTable r) ≡ length (linearTable l) = rw (linearTable-length r, linearTable-length l, q) in
     ap {B = List ℤ} (λ t. t ++ map (λ v. combined a b c d +ℤ v) t) (table-combined a b l r q)
     ∙ ap {B = List ℤ} (λ t. zipWith (combined a b) (linearTable l) (linearTable r) ++ t) (sym (combined-shifted a b c d (linearTable l) (linearTable r)))
     ∙ sym (zipWith-append (combined a b) (linearTable l) (map (λ v. c +ℤ v) (linearTable l)) (linearTable r) (map (λ v. d +ℤ v) (linearTable r)) long)
@@ -93,10 +94,6 @@ times-of d [] [] e h = refl
 times-of d [] (y ∷ l) e h = absurd (omega arith)
 times-of d (x ∷ q) [] e h = absurd (omega arith)
 times-of d (x ∷ q) (y ∷ l) e h = ap₂ {C = List ℤ} (λ v r. v ∷ r) (h 0) (times-of d q l (omega arith) (λ i. h (suc i)))
-
-pub normalised-length : (cs : List ℤ) → length (normalised cs) ≡ length cs
-unfolding normalised quotients
-normalised-length cs = length-map cs (λ (x : ℤ). quotZ x (divisor cs))
 
 pub normalised-times : (cs : List ℤ) → times (divisor cs) (normalised cs) ≡ cs
 normalised-times cs = times-of (divisor cs) (normalised cs) cs (normalised-length cs) (normalised-exact cs)

@@ -19,10 +19,12 @@ use Rattle.rules.specs.Scale.{divisor, quotients, normalised, isScalePair, norm
 use Rattle.rules.specs.Span.{least, span}
 use Rattle.scale.specs.Limits.{Within, Machine}
 use Rattle.scale.specs.Divisor.{divisor-not-zero}
-use Rattle.cone.specs.Span.{total, within-total}
+use Rattle.cone.specs.Span.{within-total}
+use Rattle.theorems.specs.LinearTables.{total}
 use Rattle.search.specs.declared.pair.Pair.{Pair}
 use Rattle.search.specs.MergedIntegers.{zipWith-length, zipWith-at}
-use Rattle.search.specs.MergedValues.{combined, mergedValue, normalised-length}
+use Rattle.search.specs.MergedValues.{combined, mergedValue}
+use Rattle.theorems.specs.Normalised.{normalised-length}
 
 -- Two rows of coefficients over the same sources, each of a cone within the limits.
 pub record Rows (left right : List ℤ) : Type 0 where

@@ -25,7 +25,7 @@ use Rattle.scale.specs.Divisor.{divisor-not-zero}
 use Rattle.theorems.specs.Normalised.{divisor-abs}
 use Rattle.scale.specs.Limits.{Within}
 use Rattle.cone.specs.Span.{table-within-total}
-use Rattle.cone.specs.Table.{table-length}
+use Rattle.theorems.specs.ConeValues.{linearTable-length}
 use Rattle.theorems.specs.Rows.{enter-turn, enter-stop, enter-end, entered-entries, unknown-entries}
 use Rattle.theorems.specs.Spans.{least-le, offset-lt}
 use Rattle.search.specs.declared.energy.Moments.{Moments}
@@ -36,6 +36,7 @@ use Rattle.search.specs.MergedValues.{mergedValue, merged-values}
 use Rattle.search.specs.Pair.{Scaling, mergedRow, merged, weighed, measured, noPair, pairOf, levelOf, Level, row-small}
 use Rattle.search.specs.Score.{betterScore}
 use Rattle.search.specs.Search.{Context, rowValues, enteredFrom, energyBy, reuseOf, scoreOf, considered, stepOf, stepAt, ValuesIn, Ready, Scored, Merges}
+use Rattle.cone.specs.Table.{table-first}
 
 module _ (k : Context) (xs ys : List ℤ) (ts : List ℕ) (origin u v : ℕ) (best : Score) (c : Pair)
     (e : c ≡ pairOf (k .settings) (k .left) (k .right) (pos u) (pos v -ℤ pos origin)) where
@@ -120,15 +121,6 @@ unfolding gcdFrom
 gcds-small k g [] h w = h
 gcds-small k g (c ∷ cs) h w = gcds-small k (gcd g (natAbs c)) cs (gcd-small k g (natAbs c) h (w 0)) (λ i. w (suc i))
 
-first-of : (s t : List ℤ) → 0 < length s → getD (s ++ t) 0 (pos 0) ≡ getD s 0 (pos 0)
-first-of [] t h = absurd (omega arith)
-first-of (x ∷ s) t h = refl
-
-first-value : (cs : List ℤ) → getD (linearTable cs) 0 (pos 0) ≡ pos 0
-unfolding linearTable
-first-value [] = refl
-first-value (c ∷ cs) = first-of (linearTable cs) (map (λ v. c +ℤ v) (linearTable cs)) (rw (table-length cs) (pow-pos (length cs))) ∙ first-value cs
-
 low-below : (l v : ℤ) (n : ℕ) → v ≡ pos 0 → natAbs (v -ℤ l) < n → n ≤ 32 → natAbs l ≤ 31
 unfolding plus minus
 low-below l v n e h k =
@@ -147,7 +139,7 @@ module _ (s : Settings) (left right xs ys : List ℤ) (ts : List ℕ) (m : Momen
   unfolding mergedRow
   all-long =
       ap length (merged-values a b left right (ready .rows .even))
-      ∙ zipWith-length (mergedValue a b (divisor cs)) (linearTable left) (linearTable right) (rw (table-length right, table-length left, ready .rows .even))
+      ∙ zipWith-length (mergedValue a b (divisor cs)) (linearTable left) (linearTable right) (rw (linearTable-length right, linearTable-length left, ready .rows .even))
 
   -- a row's value is one of all
   value-at : (i : ℕ) (x y : ℤ) → i < length (linearTable left) → getD (linearTable left) i (pos 0) ≡ x → getD (linearTable right) i (pos 0) ≡ y
@@ -155,7 +147,7 @@ module _ (s : Settings) (left right xs ys : List ℤ) (ts : List ℕ) (m : Momen
   unfolding mergedRow
   value-at i x y h ex ey =
       ap (λ l. getD l i (pos 0)) (merged-values a b left right (ready .rows .even))
-      ∙ zipWith-at (mergedValue a b (divisor cs)) (linearTable left) (linearTable right) i (pos 0) (pos 0) (pos 0) (rw (table-length right, table-length left, ready .rows .even)) h
+      ∙ zipWith-at (mergedValue a b (divisor cs)) (linearTable left) (linearTable right) i (pos 0) (pos 0) (pos 0) (rw (linearTable-length right, linearTable-length left, ready .rows .even)) h
       ∙ ap₂ (mergedValue a b (divisor cs)) ex ey
 
   fits-span : measured s a b cs .ok ≡ true → span all ≤ 32
@@ -164,8 +156,8 @@ module _ (s : Settings) (left right xs ys : List ℤ) (ts : List ℕ) (m : Momen
 
   low-small : span all ≤ 32 → natAbs (least all) ≤ 31
   low-small h =
-      low-below (least all) (getD all 0 (pos 0)) (span all) (first-value (normalised cs))
-      (offset-lt all 0 (rw (table-length (normalised cs)) (pow-pos (length (normalised cs))))) h
+      low-below (least all) (getD all 0 (pos 0)) (span all) (table-first (normalised cs))
+      (offset-lt all 0 (rw (linearTable-length (normalised cs)) (pow-pos (length (normalised cs))))) h
 
   scored-measured : measured s a b cs .ok ≡ true → Scored (measured s a b cs)
   unfolding measured weighed

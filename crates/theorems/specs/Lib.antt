@@ -6,6 +6,7 @@ pub mod Rows
 pub mod KnownRows
 pub mod Truths
 pub mod BuilderExact
+pub mod SettingLimits
 pub mod Worked
 pub mod Refusals
 pub mod Readings

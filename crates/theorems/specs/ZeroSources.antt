@@ -1,102 +1,19 @@
--- The value of a row is the coefficients of its sources that are 1, added: sources of coefficient 0 do not count.
+-- Sources of coefficient 0 change neither the value of a row nor the values that a linear form has.
 use mathlib.Core.Path.{_≡_, refl, sym, ap, _∙_}
 use mathlib.Core.Bool.{Bool, true, false, _||_}
 use mathlib.Core.List.{List, [], _∷_, _++_, map}
-use Prim.Native.Nat.{ℕ, zero, suc, _+_, _*_, _≤_, _<_, _^_}
-use native.Mathlib.Nat.{two-pow-succ, one-mul, not-suc-le-zero, le-of-suc-le-suc}
+use Prim.Native.Nat.{ℕ, zero, suc}
 use native.Mathlib.Omega.{arith}
-use borrow.Author.Tests.{eqb-true, not-false}
-use lib.Dec.{eqb}
-use lib.IntN.{ℤ, pos, natAbs, _+ℤ_}
-use lib.ListN.{length, getD, length-append, length-map, List·getD-append}
-use lib.Seq.{getD-append-add}
+use lib.IntN.{ℤ, natAbs, _+ℤ_}
 use Rattle.laws.specs.Integer.{ints, abs-parts, add-parts}
 use Rattle.laws.specs.Select.{select, any}
 use Rattle.laws.specs.Test.{if_then_else_}
-use Rattle.rules.specs.Cone.{rowFrom, linearTable}
+use Rattle.rules.specs.Cone.{linearTable}
 use Rattle.rules.specs.Network.{Term}
 use Rattle.rules.specs.NetworkText.{sources}
 use Rattle.rules.specs.Store.{isUsed}
-
-pub map-at : {A B : Type 0} (f : A → B) (l : List A) (i : ℕ) (d : B) (e : A) → i < length l → getD (map f l) i d ≡ f (getD l i e)
-map-at f [] i d e h = absurd (not-suc-le-zero h)
-map-at f (x ∷ l) zero d e h = refl
-map-at f (x ∷ l) (suc i) d e h = map-at f l i d e (le-of-suc-le-suc h)
-
--- ---- The number of a row.
-
--- Each number is a bit.
-unfoldable pub Bits : List ℕ → Type 0
-Bits [] = Unit {0}
-Bits (b ∷ bs) = (b ≤ 1) × Bits bs
-
-rowFrom-shift : (x : ℕ) (bs : List ℕ) → rowFrom x bs ≡ x * 2 ^ length bs + rowFrom 0 bs
-unfolding rowFrom
-rowFrom-shift x [] = omega arith
-rowFrom-shift x (b ∷ bs) = rowFrom-shift (2 * x + b) bs ∙ rw (two-pow-succ, rowFrom-shift (2 * 0 + b) bs) (omega arith)
-
-row-zero : (bs : List ℕ) → rowFrom 0 (0 ∷ bs) ≡ rowFrom 0 bs
-unfolding rowFrom
-row-zero bs = refl
-
-row-one : (bs : List ℕ) → rowFrom 0 (1 ∷ bs) ≡ 2 ^ length bs + rowFrom 0 bs
-unfolding rowFrom
-row-one bs = rowFrom-shift 1 bs ∙ rw one-mul
-
-pub row-lt : (bs : List ℕ) → Bits bs → rowFrom 0 bs < 2 ^ length bs
-unfolding rowFrom Bits
-row-lt [] h = omega arith
-row-lt (zero ∷ bs) h = rw (row-zero bs, two-pow-succ) (omega (arith, row-lt bs (h .1)))
-row-lt (suc zero ∷ bs) h = rw (row-one bs, two-pow-succ) (omega (arith, row-lt bs (h .1)))
-row-lt (suc (suc b) ∷ bs) h = absurd (omega (arith, h .0))
-
--- a list of two halves: the first source tells which one
-module _ {A : Type 0} (s t : List A) (bs : List ℕ) (d : A) (half : length s ≡ 2 ^ length bs) (bits : Bits bs) where
-  pub at-lower : getD (s ++ t) (rowFrom 0 (0 ∷ bs)) d ≡ getD s (rowFrom 0 bs) d
-  at-lower = rw (row-zero bs) (List·getD-append s t d (rowFrom 0 bs) (rw half (row-lt bs bits)))
-
-  pub at-upper : getD (s ++ t) (rowFrom 0 (1 ∷ bs)) d ≡ getD t (rowFrom 0 bs) d
-  at-upper = rw (row-one bs, ← half) (getD-append-add s t (rowFrom 0 bs) d)
-
--- ---- The value of a row.
-
--- The coefficients of the sources that are 1, added.
-unfoldable pub weigh : List ℤ → List ℕ → ℤ
-weigh [] bs = pos 0
-weigh (c ∷ cs) [] = pos 0
-weigh (c ∷ cs) (zero ∷ bs) = weigh cs bs
-weigh (c ∷ cs) (suc b ∷ bs) = c +ℤ weigh cs bs
-
-pub linearTable-length : (cs : List ℤ) → length (linearTable cs) ≡ 2 ^ length cs
-unfolding linearTable
-linearTable-length [] = refl
-linearTable-length (c ∷ cs) = rw (length-append, length-map, two-pow-succ) (omega (arith, linearTable-length cs))
-
-pub value-at : (cs : List ℤ) (bs : List ℕ) → length bs ≡ length cs → Bits bs → getD (linearTable cs) (rowFrom 0 bs) (pos 0) ≡ weigh cs bs
-unfolding linearTable weigh Bits rowFrom
-value-at [] [] e h = refl
-value-at [] (b ∷ bs) e h = absurd (omega arith)
-value-at (c ∷ cs) [] e h = absurd (omega arith)
-value-at (c ∷ cs) (zero ∷ bs) e h =
-    let q : length bs ≡ length cs = omega arith in
-    at-lower (linearTable cs) (map (λ v. c +ℤ v) (linearTable cs)) bs (pos 0) (rw q (linearTable-length cs)) (h .1) ∙ value-at cs bs q (h .1)
-value-at (c ∷ cs) (suc zero ∷ bs) e h =
-    let q : length bs ≡ length cs = omega arith in
-    at-upper (linearTable cs) (map (λ v. c +ℤ v) (linearTable cs)) bs (pos 0) (rw q (linearTable-length cs)) (h .1)
-    ∙ map-at (λ v. c +ℤ v) (linearTable cs) (rowFrom 0 bs) (pos 0) (pos 0) (rw (linearTable-length cs, ← q) (row-lt bs (h .1)))
-    ∙ ap (λ v. c +ℤ v) (value-at cs bs q (h .1))
-value-at (c ∷ cs) (suc (suc b) ∷ bs) e h = absurd (omega (arith, h .0))
-
--- ---- Sources of coefficient 0 do not count.
-
-pub unused-zero : (t : Term) → isUsed t ≡ false → natAbs (t .coef) ≡ 0
-unfolding isUsed
-unused-zero t e = eqb-true (natAbs (t .coef)) 0 (not-false (eqb (natAbs (t .coef)) 0) e)
-
-pub weigh-unused : (c : ℤ) (cs : List ℤ) (b : ℕ) (bs : List ℕ) → natAbs c ≡ 0 → weigh (c ∷ cs) (b ∷ bs) ≡ weigh cs bs
-unfolding weigh
-weigh-unused c cs zero bs e = refl
-weigh-unused c cs (suc b) bs e = omega (arith, ints, abs-parts c, add-parts c (weigh cs bs))
+use Rattle.theorems.specs.ConeValues.{weigh, weigh-unused}
+use Rattle.theorems.specs.Terms.{unused-zero}
 
 weigh-rest : (c : ℤ) (cs ds : List ℤ) (b : ℕ) (s t : List ℕ) → weigh cs s ≡ weigh ds t → weigh (c ∷ cs) (b ∷ s) ≡ weigh (c ∷ ds) (b ∷ t)
 unfolding weigh

@@ -22,12 +22,12 @@ use Rattle.scale.specs.Limits.{Within}
 use Rattle.theorems.specs.KnownRows.{known-hit, known-bit, known-unhit}
 use Rattle.theorems.specs.Rows.{offset}
 use Rattle.theorems.specs.Spans.{offset-lt}
-use Rattle.theorems.specs.ZeroSources.{map-at}
+use Rattle.laws.specs.Lists.{map-at}
 use Rattle.cone.specs.declared.Cone.{Cone}
 use Rattle.cone.specs.declared.compose.Basis.{Basis}
 use Rattle.cone.specs.Basis.{IsBasis, coefficientsOver, coefficientsOver-within}
-use Rattle.cone.specs.Span.{total, span-table}
-use Rattle.cone.specs.Table.{table-length}
+use Rattle.theorems.specs.LinearTables.{span-table, total}
+use Rattle.theorems.specs.ConeValues.{linearTable-length}
 use Rattle.cone.specs.View.{coneOf, entryAt, truthAt, is-cone, IsCone}
 use Rattle.vectors_cones.specs.declared.ConeRows.{ConeRows}
 
@@ -44,7 +44,7 @@ pub record IsForm (n : ℕ) (support : List ℕ) (coefs : List ℤ) : Type 0 whe
 module _ (n : ℕ) (support : List ℕ) (coefs : List ℤ) (truth known : List ℕ) (form : IsForm n support coefs) (c11 : length coefs ≡ 11) (t2048 : length truth ≡ 2048)
     (one : knownEntries (linearTable (take n coefs)) (take (2 ^ n) truth) ≡ some (take (span (linearTable (take n coefs))) known)) where
   rows-are : length (linearTable (take n coefs)) ≡ 2 ^ n
-  rows-are = table-length (take n coefs) ∙ ap (λ k. 2 ^ k) (length-take-le n coefs (omega (arith, form .few)))
+  rows-are = linearTable-length (take n coefs) ∙ ap (λ k. 2 ^ k) (length-take-le n coefs (omega (arith, form .few)))
 
   same : length (linearTable (take n coefs)) ≡ length (take (2 ^ n) truth)
   same =
@@ -64,7 +64,7 @@ module _ (n : ℕ) (support : List ℕ) (coefs : List ℤ) (truth known : List �
       (λ i h. by i (rw length-map at h))
     where
       by : (i : ℕ) → i < length (linearTable (take n coefs)) → getD (map (truthAt (take n coefs) known) (linearTable (take n coefs))) i 0 ≡ getD (take (2 ^ n) truth) i 0
-      by i h = map-at _ (linearTable (take n coefs)) i 0 (pos 0) h ∙ at i h
+      by i h = map-at _ (linearTable (take n coefs)) i (pos 0) 0 h ∙ at i h
 
   seen : coneOf (record { n = n; support = support; coefs = coefs; known = known }) ≡ rowsOf (record { n = n; support = support; coefs = coefs; truth = truth })
   unfolding coneOf rowsOf
@@ -85,7 +85,7 @@ module _ (n : ℕ) (support : List ℕ) (coefs : List ℤ) (truth known : List �
 -- the first rows of a table of values, and what is known of them
 pub values-first : (n rows : ℕ) (coefs ts vs : List ℤ) → n ≤ 11 → length coefs ≡ 11 → rows ≡ 2 ^ n → vs ≡ over (linearTable (take n coefs)) ts → take rows vs ≡ linearTable (take n coefs)
 values-first n rows coefs ts vs few long e f =
-    ap (λ t. take rows t) f ∙ take-over (linearTable (take n coefs)) ts rows (table-length (take n coefs) ∙ ap (λ k. 2 ^ k) (length-take-le n coefs (omega arith)) ∙ sym e)
+    ap (λ t. take rows t) f ∙ take-over (linearTable (take n coefs)) ts rows (linearTable-length (take n coefs) ∙ ap (λ k. 2 ^ k) (length-take-le n coefs (omega arith)) ∙ sym e)
 
 pub known-same : (ws vs : List ℤ) (truth known : List ℕ) (rows n size : ℕ) → ws ≡ vs → rows ≡ n → size ≡ span vs
     → knownEntries ws (take rows truth) ≡ some (take size known) → knownEntries vs (take n truth) ≡ some (take (span vs) known)

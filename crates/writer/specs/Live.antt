@@ -20,7 +20,8 @@ use Rattle.rules.specs.NetworkText.{sources, nodeAt}
 use Rattle.rules.specs.Store.{needs, termsOf}
 use Rattle.rules.specs.Writing.{signedText, termsText, nodeText, nodesText}
 use Rattle.theorems.specs.Members.{member-head, member-tail, member-cons}
-use Rattle.lut.specs.Nodes.{kindOf, constantOf, bytesIn, sources-length, sources-at}
+use Rattle.lut.specs.Nodes.{kindOf, constantOf, bytesIn, sources-at}
+use Rattle.theorems.specs.Terms.{sources-length}
 use Rattle.lut.specs.Sums.{fine-at}
 use Rattle.lut.specs.View.{term, nodeOf, storeOf, FineTerms, Fine, IsNode, IsStore, at-store, store-length, is-node}
 use Rattle.writer.specs.Lines.{termText}

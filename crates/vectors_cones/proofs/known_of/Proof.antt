@@ -10,7 +10,8 @@ use Rattle.laws.specs.Tail.{head-length}
 use Rattle.rules.specs.Cone.{linearTable}
 use Rattle.rules.specs.Span.{span}
 use Rattle.scale.specs.Limits.{Within}
-use Rattle.cone.specs.Span.{total, span-table, within-total}
+use Rattle.cone.specs.Span.{within-total}
+use Rattle.theorems.specs.LinearTables.{span-table, total}
 use Rattle.vectors_cones.specs.Made.{values-first, known-same}
 use Rattle.vectors_cones.proofs.known_of.Statement.{statement}
 use Rattle.vectors_cones.proofs.known_of.Tie as tie

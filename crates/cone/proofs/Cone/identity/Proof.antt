@@ -13,7 +13,7 @@ use Rattle.rules.specs.Span.{least, leastFrom, greatest, greatestFrom, span}
 use Rattle.theorems.specs.KnownRows.{hits, isAt}
 use Rattle.cone.specs.declared.Cone.{Cone}
 use Rattle.cone.specs.View.{coneOf, IsCone, is-cone, truthAt, entryAt}
-use Rattle.cone.specs.Span.{total}
+use Rattle.theorems.specs.LinearTables.{total}
 use Rattle.cone.proofs.Cone.identity.Statement.{statement}
 use Rattle.cone.proofs.Cone.identity.Tie as tie
 

@@ -10,7 +10,8 @@ use Rattle.laws.specs.Tail.{head-length}
 use Rattle.rules.specs.Cone as rules
 use Rattle.rules.specs.Store.{coefficientOf}
 use Rattle.rules.specs.Composition.{unionSupport}
-use Rattle.cone.specs.Support.{termsOver, terms-are}
+use Rattle.cone.specs.Support.{terms-are}
+use Rattle.theorems.specs.Terms.{termsOver}
 use Rattle.cone.specs.View.{coneOf}
 use Rattle.cone.specs.Basis.{coefficientsOver}
 use Rattle.cone.proofs.compose.basis_of.Statement.{statement}

@@ -14,7 +14,7 @@ use Rattle.rules.specs.Cone as rules
 use Rattle.rules.specs.Cone.{linearTable}
 use Rattle.rules.specs.Composition.{unionSupport, gateTruth}
 use Rattle.scale.specs.Limits.{Within}
-use Rattle.cone.specs.Table.{table-length}
+use Rattle.theorems.specs.ConeValues.{linearTable-length}
 use Rattle.theorems.specs.Unions.{right-le}
 use Rattle.cone.specs.View.{coneOf, small, rows-are, view-sources, view-coefs}
 use Rattle.cone.specs.Compose.{union-length}
@@ -58,12 +58,12 @@ sides-long c = (search needs, search needs)
 -- each cone's rows are no more than the union's
 left-rows : (c : tie.Start) → length (rules.values (coneOf (c .args .left))) ≤ length (linearTable (take (c .args .basis .n) (c .args .basis .left)))
 left-rows c =
-    rw (rows-are (c .args .left), table-length (take (c .args .basis .n) (c .args .basis .left)), length-take-le (c .args .basis .n) (c .args .basis .left) (omega (arith, is-basis c .few, sides-long c .0)), view-coefs (c .args .left) (c .pre .0) (lengths c .0 .1))
+    rw (rows-are (c .args .left), linearTable-length (take (c .args .basis .n) (c .args .basis .left)), length-take-le (c .args .basis .n) (c .args .basis .left) (omega (arith, is-basis c .few, sides-long c .0)), view-coefs (c .args .left) (c .pre .0) (lengths c .0 .1))
     (pow-mono (omega (arith, is-basis c .count, union-length (coneOf (c .args .left) .support) (coneOf (c .args .right) .support), view-sources (c .args .left) (c .pre .0) (lengths c .0 .0))))
 
 right-rows : (c : tie.Start) → length (rules.values (coneOf (c .args .right))) ≤ length (linearTable (take (c .args .basis .n) (c .args .basis .right)))
 right-rows c =
-    rw (rows-are (c .args .right), table-length (take (c .args .basis .n) (c .args .basis .right)), length-take-le (c .args .basis .n) (c .args .basis .right) (omega (arith, is-basis c .few, sides-long c .1)), view-coefs (c .args .right) (c .pre .1 .0) (lengths c .1 .1))
+    rw (rows-are (c .args .right), linearTable-length (take (c .args .basis .n) (c .args .basis .right)), length-take-le (c .args .basis .n) (c .args .basis .right) (omega (arith, is-basis c .few, sides-long c .1)), view-coefs (c .args .right) (c .pre .1 .0) (lengths c .1 .1))
     (pow-mono (omega (arith, is-basis c .count, right-le (coneOf (c .args .left) .support) (coneOf (c .args .right) .support) (c .pre .1 .0 .different), view-sources (c .args .right) (c .pre .1 .0) (lengths c .1 .0))))
 
 -- the lent tables keep their lengths

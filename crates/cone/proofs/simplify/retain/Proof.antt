@@ -16,9 +16,9 @@ use Rattle.laws.specs.Select.{select}
 use Rattle.rules.specs.NetworkText.{sources}
 use Rattle.rules.specs.Store.{isUsed}
 use Rattle.cone.specs.declared.simplify.Retained.{Retained}
-use Rattle.cone.specs.Support.{termsOver}
 use Rattle.theorems.specs.ZeroSources.{coefs}
-use Rattle.cone.specs.Simplify.{IsRetained, usedFrom, used-all, used-on, unused-on, used-end, select-le, terms-length}
+use Rattle.cone.specs.Simplify.{IsRetained, usedFrom, used-all, used-on, unused-on, used-end, select-le}
+use Rattle.theorems.specs.Terms.{terms-length, termsOver}
 use Rattle.cone.proofs.simplify.retain.Statement.{statement}
 use Rattle.cone.proofs.simplify.retain.Tie as tie
 

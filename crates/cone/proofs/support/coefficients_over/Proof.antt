@@ -9,7 +9,7 @@ use lib.ListN.{length, getD, take, set, length-set, length-map, List·getD-map}
 use Rattle.laws.specs.Front.{taken-step, taken-all}
 use Rattle.laws.specs.Integer.{read-back}
 use Rattle.rules.specs.Store.{coefficientOf}
-use Rattle.cone.specs.Support.{termsOver}
+use Rattle.theorems.specs.Terms.{termsOver}
 use Rattle.cone.proofs.support.coefficients_over.Statement.{statement}
 use Rattle.cone.proofs.support.coefficients_over.Tie as tie
 

@@ -13,7 +13,8 @@ use mir.Syntax.{w64}
 use mir.Val.{toZ, ofZ, SFits}
 use mir.Facts.{toZ-ofZ}
 use Rattle.laws.specs.Integer.{read-back, plus, minus, abs-parts, add-parts, one-part-zero, ltZ-true, ltZ-false, fits-abs, ints, plus-neg, minus-neg}
-use Rattle.cone.specs.Span.{lower, lower-on, lower-end, lower-small, least-table}
+use Rattle.cone.specs.Span.{lower-on, lower-end, lower-small}
+use Rattle.theorems.specs.LinearTables.{least-table, lower}
 use Rattle.cone.proofs.table.linear_least.Statement.{statement}
 use Rattle.cone.proofs.table.linear_least.Tie as tie
 

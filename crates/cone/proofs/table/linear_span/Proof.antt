@@ -8,7 +8,8 @@ use lib.ListN.{length, getD, drop}
 use mir.Syntax.{w64}
 use mir.Val.{toZ, ofZ}
 use Rattle.laws.specs.Integer.{read-back}
-use Rattle.cone.specs.Span.{total, total-on, total-end, total-small, span-table}
+use Rattle.cone.specs.Span.{total-on, total-end, total-small}
+use Rattle.theorems.specs.LinearTables.{span-table, total}
 use Rattle.cone.proofs.table.linear_span.Statement.{statement}
 use Rattle.cone.proofs.table.linear_span.Tie as tie
 

@@ -13,7 +13,7 @@ use mir.Facts.{toZ-ofZ}
 use Rattle.laws.specs.Integer.{read-back-at}
 use Rattle.laws.specs.Front.{Filling, filling-start, filling-step}
 use Rattle.laws.specs.Over.{over, front-over}
-use Rattle.theorems.specs.ZeroSources.{map-at}
+use Rattle.laws.specs.Lists.{map-at}
 use Rattle.theorems.specs.Spans.{least-le, offset-lt}
 use Rattle.cone.specs.View.{entryAt}
 use Rattle.cone.proofs.table.look_up.Statement.{statement}
@@ -28,7 +28,7 @@ abbrev μ-loop : tie.MeasureT-loop
 -- one row's entry, and the rows at the end
 looked : (low : ℤ) (known : List ℕ) (values : List ℤ) (i k : ℕ) → i < length values → k ≡ natAbs (getD values i (pos 0) -ℤ low) → getD known k 0 ≡ getD (map (entryAt low known) values) i 0
 unfolding entryAt
-looked low known values i k h e = ap (λ n. getD known n 0) e ∙ sym (map-at (entryAt low known) values i 0 (pos 0) h)
+looked low known values i k h e = ap (λ n. getD known n 0) e ∙ sym (map-at (entryAt low known) values i (pos 0) 0 h)
 
 whole : (low z : ℤ) (known : List ℕ) (values : List ℤ) (d t : List ℕ) (i : ℕ) → z ≡ low → Filling (map (entryAt z known) values) d t i → length values ≡ i → length values ≤ length d
     → t ≡ over (map (entryAt low known) values) d

@@ -13,7 +13,7 @@ use Rattle.laws.specs.Tail.{head-length}
 use Rattle.rules.specs.Cone as rules
 use Rattle.rules.specs.Span.{least, span}
 use Rattle.cone.specs.declared.Cone.{Cone}
-use Rattle.cone.specs.Table.{table-length}
+use Rattle.theorems.specs.ConeValues.{linearTable-length}
 use Rattle.cone.specs.View.{coneOf, IsCone, entryAt, truthAt, view-coefs, coefs-fit}
 use borrow.Author.Needs.{needs}
 use Rattle.cone.proofs.table.truths_of.Statement.{statement}
@@ -25,7 +25,7 @@ module _ (k : Cone) (is : IsCone k) (long : length (k .coefs) ≡ 11) (vs d : Li
   values-are : take n vs ≡ rules.values (coneOf k)
   unfolding coneOf rules.values
   values-are =
-      rw f (take-over (rules.linearTable (take (k .n) (k .coefs))) d n (table-length (take (k .n) (k .coefs)) ∙ rw (view-coefs k is long) (sym e)))
+      rw f (take-over (rules.linearTable (take (k .n) (k .coefs))) d n (linearTable-length (take (k .n) (k .coefs)) ∙ rw (view-coefs k is long) (sym e)))
 
   narrow : span (take n vs) ≤ 32
   unfolding rules.coneSpan

@@ -7,7 +7,7 @@ use native.Mathlib.Omega.{arith}
 use borrow.Author.Needs.{needs}
 use lib.ListN.{length, getD, set, length-map}
 use Rattle.laws.specs.Front.{Filling, filling-start, filling-step, filling-all, front-get}
-use Rattle.theorems.specs.ZeroSources.{map-at}
+use Rattle.laws.specs.Lists.{map-at}
 use Rattle.cone.specs.Unary.{answered, through}
 use Rattle.cone.proofs.unary.apply_unary.Statement.{statement}
 use Rattle.cone.proofs.unary.apply_unary.Tie as tie

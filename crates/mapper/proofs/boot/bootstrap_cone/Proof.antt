@@ -14,7 +14,7 @@ use mathlib.Core.List.{List}
 use Rattle.cone.specs.View.{coneOf, view-sources}
 use Rattle.lut.specs.View.{storeOf}
 use Rattle.mapper.specs.View.{bootedOf}
-use Rattle.mapper.specs.Form.{table-short}
+use Rattle.theorems.specs.SettingLimits.{limits-m}
 use Rattle.mapper.proofs.boot.bootstrap_cone.Statement.{statement}
 use Rattle.mapper.proofs.boot.bootstrap_cone.Tie as tie
 
@@ -41,7 +41,7 @@ returns c =
     )
 
 realign-requires : tie.Need-realign-requires
-realign-requires c κs = let s = c .before .before .before in (table-short (s .args .s) (s .pre .0), (s .pre .1 .0, s .pre .1 .1 .1))
+realign-requires c κs = let s = c .before .before .before in (limits-m (s .args .s) (s .pre .0), (s .pre .1 .0, s .pre .1 .1 .1))
 
 returns-2 : tie.Need-returns-2
 returns-2 c =

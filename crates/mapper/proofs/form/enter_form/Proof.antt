@@ -14,7 +14,7 @@ use Rattle.rules.specs.Builder.{knownEntries}
 use Rattle.rules.specs.Cone.{linearTable}
 use Rattle.rules.specs.Span.{span}
 use Rattle.cone.specs.declared.Cone.{Cone}
-use Rattle.cone.specs.Table.{table-length}
+use Rattle.theorems.specs.ConeValues.{linearTable-length}
 use Rattle.cone.specs.View.{coneOf, IsCone, rows-fit, view-rows}
 use Rattle.mapper.proofs.form.enter_form.Statement.{statement}
 use Rattle.mapper.proofs.form.enter_form.Tie as tie
@@ -23,7 +23,7 @@ module _ (k : Cone) (is : IsCone k) (long : length (k .coefs) ≡ 11) (coefs : L
   values-are : (vs d : List ℤ) → vs ≡ over (linearTable (take (k .n) coefs)) d → take n vs ≡ linearTable (take (k .n) coefs)
   values-are vs d f =
       let m : length (take (k .n) coefs) ≡ k .n = length-take-le (k .n) coefs (omega (arith, is .few)) in
-      rw f (take-over (linearTable (take (k .n) coefs)) d n (table-length (take (k .n) coefs) ∙ ap (λ j. 2 ^ j) m ∙ sym e))
+      rw f (take-over (linearTable (take (k .n) coefs)) d n (linearTable-length (take (k .n) coefs) ∙ ap (λ j. 2 ^ j) m ∙ sym e))
 
   truths-are : (ts d : List ℕ) → ts ≡ over (coneOf k .truth) d → take n ts ≡ coneOf k .truth
   truths-are ts d f = rw f (take-over (coneOf k .truth) d n (view-rows k is long ∙ sym e))

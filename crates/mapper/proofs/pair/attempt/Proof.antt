@@ -4,7 +4,8 @@ use native.Mathlib.Omega.{arith}
 use Rattle.laws.specs.Test.{zero≢one}
 use Rattle.cone.specs.View.{coneOf}
 use Rattle.lut.specs.View.{storeOf}
-use Rattle.mapper.specs.Pair.{limits-t, compose-over, compose-within}
+use Rattle.mapper.specs.Pair.{compose-over, compose-within}
+use Rattle.theorems.specs.SettingLimits.{limits-t}
 use Rattle.mapper.specs.View.{triedOf}
 use Rattle.mapper.proofs.pair.attempt.Statement.{statement}
 use Rattle.mapper.proofs.pair.attempt.Tie as tie

@@ -16,14 +16,16 @@ use Rattle.rules.specs.NetworkText.{sources, allDifferent}
 use Rattle.rules.specs.Span.{least, span}
 use Rattle.rules.specs.Store.{isUsed}
 use Rattle.theorems.specs.KnownRows.{hits, isAt}
-use Rattle.theorems.specs.ZeroSources.{coefs, map-at, linearTable-length, any-selected}
+use Rattle.theorems.specs.ZeroSources.{coefs, any-selected}
+use Rattle.laws.specs.Lists.{map-at}
+use Rattle.theorems.specs.ConeValues.{linearTable-length}
 use Rattle.cone.specs.declared.Cone.{Cone}
 use Rattle.cone.specs.declared.simplify.Retained.{Retained}
 use Rattle.cone.specs.Rows.{rowOver, rowOver-lt}
-use Rattle.cone.specs.Span.{lower, total, least-table, span-table}
-use Rattle.cone.specs.Support.{termsOver}
+use Rattle.theorems.specs.LinearTables.{least-table, lower, span-table, total}
 use Rattle.cone.specs.View.{coneOf, IsCone, is-cone, truthAt, entryAt, narrow-total, view-sources, view-coefs, truth-entry, rows-are, truth-bit, unknown}
-use Rattle.cone.specs.Simplify.{IsRetained, truthOver, truthOver-length, truthOver-at, select-le, terms-length, sources-of, coefs-of, coefs-long, different-sources, near-sources, total-used, lower-used, used-value, simplified}
+use Rattle.cone.specs.Simplify.{IsRetained, truthOver, truthOver-length, truthOver-at, select-le, coefs-of, coefs-long, different-sources, near-sources, total-used, lower-used, used-value, simplified}
+use Rattle.theorems.specs.Terms.{sources-of, terms-length, termsOver}
 
 -- the terms that are used
 abbrev pub usedOf : rules.Cone → List Term
@@ -89,7 +91,7 @@ module _ (k : Cone) (is : IsCone k) (ls : length (k .support) ≡ 11) (lc : leng
     truth-of : getD (map (truthAt (coefs used) (k .known)) (linearTable (coefs used))) i 0 ≡ getD (truthOver (sources used) (coneOf k)) i 0
     unfolding truthAt entryAt row
     truth-of =
-        map-at (truthAt (coefs used) (k .known)) (linearTable (coefs used)) i 0 (pos 0) (rw (linearTable-length (coefs used), ← coefs-long used) h)
+        map-at (truthAt (coefs used) (k .known)) (linearTable (coefs used)) i (pos 0) 0 (rw (linearTable-length (coefs used), ← coefs-long used) h)
         ∙ ap₂ (λ v l. getD (k .known) (natAbs (v -ℤ l)) 0) (sym value-of) same-low
         ∙ sym (truth-entry k row row-in)
         ∙ sym (truthOver-at (sources used) (coneOf k) i h)

@@ -13,7 +13,8 @@ use Rattle.laws.specs.Over.{over, over-append, over-over, take-over}
 use Rattle.laws.specs.Tail.{tail-part, tail-put}
 use Rattle.rules.specs.Cone.{linearTable}
 use Rattle.scale.specs.Limits.{Within}
-use Rattle.cone.specs.Table.{shifted, table-length, table-within, shifted-length, table-cons}
+use Rattle.cone.specs.Table.{shifted, table-within, shifted-length, table-cons}
+use Rattle.theorems.specs.ConeValues.{linearTable-length}
 use borrow.Rule.Slice.PartMut.{putMid}
 
 -- T is the table so far, d the buffer as it was; t is the buffer, u the buffer after `repeat`
@@ -43,7 +44,7 @@ next cs (suc k) h g = rw (sub-one, drop-cons cs k (pos 0) g) (table-cons _ _)
 
 -- and it fits
 pub table-room : (cs : List ℤ) (k : ℕ) → length (linearTable (drop k cs)) ≤ 2 ^ length cs
-table-room cs k = rw (table-length, length-drop) (pow-le-pow-right (lit< tt) (omega arith))
+table-room cs k = rw (linearTable-length, length-drop) (pow-le-pow-right (lit< tt) (omega arith))
 
 pub doubled : (cs : List ℤ) (k : ℕ) → 0 < k → k ≤ length cs → length (linearTable (drop (k - 1) cs)) ≡ length (linearTable (drop k cs)) + length (linearTable (drop k cs))
 doubled cs k h g = rw (next cs k h g, length-append, shifted-length)
@@ -60,7 +61,7 @@ start-table cs (x ∷ d) h = rw drop-length
 
 pub end-table : (cs d : List ℤ) → over (linearTable (drop 0 cs)) (set d 0 (pos 0)) ≡ over (linearTable cs) d
 unfolding over
-end-table cs d = ap {B = List ℤ} (λ r. linearTable cs ++ r) (drop-set-lt (length (linearTable cs)) d 0 (pos 0) (rw table-length (one-le-pow (length cs) 2 (lit< tt))))
+end-table cs d = ap {B = List ℤ} (λ r. linearTable cs ++ r) (drop-set-lt (length (linearTable cs)) d 0 (pos 0) (rw linearTable-length (one-le-pow (length cs) 2 (lit< tt))))
 
 pub table-within-limit : (cs : List ℤ) (k : ℕ) → length cs ≤ 11 → Within 1984 cs → Within 21824 (linearTable (drop k cs))
 table-within-limit cs k h w i =
