@@ -171,12 +171,3 @@ pub settled-at : (wires : List ℕ) (l r x y id : ℕ) (first second : Side) (ow
     → Settled wires l r id first second own after → Settled wires x y id first second own after
 settled-at wires l r x y id first second own after e f s =
     subst (λ k. Settled wires x k id first second own after) f (subst (λ k. Settled wires k r id first second own after) e s)
-
--- a negated test
-pub not-true : (b : Bool) → not b ≡ true → b ≡ false
-not-true false e = refl
-not-true true e = sym e
-
-pub not-false : (b : Bool) → not b ≡ false → b ≡ true
-not-false false e = sym e
-not-false true e = refl

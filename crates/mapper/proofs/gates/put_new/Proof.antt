@@ -1,6 +1,7 @@
 use mathlib.Core.Path.{refl}
 use mathlib.Core.Logic.{inl, inr}
-use Rattle.mapper.specs.Wired.{put, same, not-true, not-false}
+use Rattle.mapper.specs.Wired.{put, same}
+use borrow.Author.Tests.{not-true, not-false}
 use borrow.Author.Needs.{needs}
 use Rattle.mapper.proofs.gates.put_new.Statement.{statement}
 use Rattle.mapper.proofs.gates.put_new.Tie as tie

@@ -1,4 +1,4 @@
-use Rattle.mapper.specs.Wired.{not-true, not-false}
+use borrow.Author.Tests.{not-true, not-false}
 use Rattle.mapper.specs.Gates.{used-other, used-equal, used-unequal}
 use borrow.Author.Needs.{needs}
 use Rattle.mapper.proofs.gates.used.Statement.{statement}
