@@ -11,3 +11,4 @@ pub mod PairSources
 pub mod PairTrial
 pub mod Wired
 pub mod Gates
+pub mod Outputs
