@@ -12,3 +12,4 @@ pub mod PairTrial
 pub mod Wired
 pub mod Gates
 pub mod Outputs
+pub mod OutputsWalk

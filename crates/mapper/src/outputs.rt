@@ -2,6 +2,7 @@
 use crate::boot::bootstrap_cone;
 use crate::gates::Work;
 use cone::Cone;
+use cone::unary::first_truth;
 use cone::wires::cone_at;
 use lut::Signal;
 use lut::Terms;
@@ -11,17 +12,16 @@ ghost use mathlib.Core.Bool.{true};
 ghost use mathlib.Core.List.{List, [], _∷_};
 ghost use Prim.Native.Nat.{ℕ, _+_, _*_, _≤_, _<_};
 ghost use lib.IntN.{pos, negsuc};
-ghost use lib.ListN.{length, getD};
 ghost use Rattle.rules.specs.CircuitText.{inLimits};
 ghost use Rattle.rules.specs.Mapper.{coneAt, wireOf, outputSignal, mapOutputs};
 ghost use Rattle.rules.specs.Network.{Linear};
 ghost use Rattle.rules.specs.Cone as rules;
-ghost use Rattle.cone.specs.View.{coneOf, IsCone};
+ghost use Rattle.cone.specs.View.{coneOf};
 ghost use Rattle.lut.specs.View.{term, storeOf, IsStore};
 ghost use Rattle.mapper.specs.View.{Stands, conesIn};
 ghost use Rattle.mapper.specs.Wired.{Wired};
 ghost use Rattle.circuit.specs.View.{portWire, outputsIn};
-ghost use Rattle.mapper.specs.Outputs.{signalOf, signalRead, Finishes, slotOf, PortIn, GoodPorts, outputsRead, started, Outs};
+ghost use Rattle.mapper.specs.Outputs.{Negated, signalOf, signalRead, Finishes, slotOf, PortIn, GoodPorts, outputsRead, started, Outs};
 
 // A wire as the ports have it, and how many nodes there are; or the refusal.
 pub struct Finished {
@@ -30,13 +30,20 @@ pub struct Finished {
     pub wire: usize,
 }
 
-// The truth where no source is 1.
-fn first_truth(c: Cone) -> u8
-    requires { ⌜ IsCone c ⌝ }
-    ensures { λ r. ⌜ (r ≡ getD (coneOf c .truth) 0 0) × (r ≤ 1) ⌝ }
+// The sum of one term that is 1 less the node.
+fn negated(node: usize) -> Terms
+    ensures { λ r. ⌜ Negated node r ⌝ }
 {
-    let known = c.known;
-    known[(0 - c.least()) as usize]
+    let mut coefs = [0i64; 11];
+    coefs[0] = -1;
+    let mut sources = [0usize; 11];
+    sources[0] = node;
+    Terms {
+        n: 1,
+        constant: 1,
+        coefs,
+        sources,
+    }
 }
 
 // 1 less the node.
@@ -45,17 +52,7 @@ fn negation(nodes: &mut [u8; 25536], count: usize, node: usize, many: bool) -> F
     ensures is { λ r. ⌜ signalRead (now (nodes .exit)) r ≡ rules.ok (signalOf (Linear (pos 1) (term (negsuc 0) node ∷ [])) (storeOf (now (nodes .entry)) count)) ⌝ }
     ensures finishes { λ r. ⌜ Finishes count 1 (now (nodes .exit)) r ⌝ }
 {
-    let mut coefs = [0i64; 11];
-    coefs[0] = -1;
-    let mut sources = [0usize; 11];
-    sources[0] = node;
-    let t = Terms {
-        n: 1,
-        constant: 1,
-        coefs,
-        sources,
-    };
-    let made = lut::linear(nodes, count, many, t);
+    let made = lut::linear(nodes, count, many, negated(node));
     let signal = made.signal;
     let Signal::Node(wire) = signal else {
         return Finished {

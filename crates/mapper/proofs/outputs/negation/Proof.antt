@@ -1,46 +1,30 @@
 use borrow.Author.Needs.{needs}
+use Rattle.rules.specs.Network.{Linear}
+use Rattle.lut.specs.Store.{Interns, interns-node}
+use Rattle.lut.specs.View.{term}
+use mathlib.Core.List.{[], _∷_}
+use lib.IntN.{pos, negsuc}
+use Rattle.mapper.specs.Boot.{not-refused}
+use Rattle.mapper.specs.Outputs.{negated-good, negated-is, node-signal, node-finishes}
 use Rattle.mapper.proofs.outputs.negation.Statement.{statement}
 use Rattle.mapper.proofs.outputs.negation.Tie as tie
-use Rattle.mapper.proofs.outputs.negation.Reads as reads
-use Rattle.mapper.proofs.outputs.negation.Lts as lts
-use Rattle.lut.proofs.linear.Reads as linear-reads
 
--- src/outputs.rt:49:5
-array-set-of-coefs : tie.Need-array-set-of-coefs
-array-set-of-coefs c = search needs
-
--- src/outputs.rt:51:5
-array-write-sources : tie.Need-array-write-sources
-array-write-sources c = search needs
-
--- src/outputs.rt:58:9
 linear-requires : tie.Need-linear-requires
-linear-requires c κs = ?
+linear-requires c κs = let s = c .before .before in (s .pre .0, s .pre .1 .0, negated-good _ _ _ (s .pre .1 .1) (c .negated .ensures))
 
--- src/outputs.rt:60:22
-enum-known-signal : tie.Need-enum-known-signal
-enum-known-signal c = search needs
+-- the sum stands in the store
+summed : (c : tie.After-linear) → let s = c .before .before .before in
+    Interns (Linear (pos 1) (term (negsuc 0) (s .args .node) ∷ [])) (s .args .nodes .now) (s .args .count) (c .linear .last .0) (c .linear .result)
+summed c = let s = c .before .before .before in interns-node _ _ _ _ _ _ (c .linear .ensures) (negated-is (s .args .many) (s .args .node) (c .before .negated .result) (c .before .negated .ensures))
 
--- src/outputs.rt:61:9
-enum-told : tie.Need-enum-told
-enum-told c = search needs
-
--- src/outputs.rt:61:9
 returns : tie.Need-returns
-returns c = ?
+returns c = absurd (not-refused _ _ _ _ _ (summed (c .before .before)) (c .enum-told .given .1))
 
--- src/outputs.rt:43:1
 returns-2 : tie.Need-returns-2
-returns-2 c = ?
+returns-2 c =
+    let l = c .before .before .before in
+    let told = c .before .signal .given .1 in
+    (node-signal _ _ _ _ _ (summed l) _ told, node-finishes _ _ _ _ _ (summed l) _ told)
 
 pub negation-spec : {M : Type 1} → statement M
-negation-spec =
-    tie.close
-    (tie.spec
-    array-set-of-coefs
-    array-write-sources
-    linear-requires
-    enum-known-signal
-    enum-told
-    returns
-    returns-2)
+negation-spec = tie.close (tie.spec linear-requires (λ c. search needs) (λ c. search needs) returns returns-2)

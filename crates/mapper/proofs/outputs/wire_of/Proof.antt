@@ -2,13 +2,14 @@ use mathlib.Core.Path.{_≡_}
 use mathlib.Core.Logic.{inl, inr}
 use lib.ListN.{length}
 use native.Mathlib.Omega.{arith}
+use Rattle.cone.specs.View.{truth-bit}
 use Rattle.mapper.specs.Outputs.{wire-constant, wire-node, wire-not, source-below, finishes-self}
 use borrow.Author.Needs.{needs}
 use Rattle.mapper.proofs.outputs.wire_of.Statement.{statement}
 use Rattle.mapper.proofs.outputs.wire_of.Tie as tie
 use Rattle.mapper.proofs.outputs.wire_of.Reads as reads
 use Rattle.mapper.proofs.outputs.wire_of.Lts as lts
-use Rattle.mapper.proofs.outputs.first_truth.Reads as first-truth-reads
+use Rattle.cone.proofs.unary.first_truth.Reads as first-truth-reads
 use Rattle.mapper.proofs.outputs.negation.Reads as negation-reads
 
 support-long : (c : tie.Start) → length (c .args .c .support) ≡ 11
@@ -31,7 +32,7 @@ returns : tie.Need-returns
 returns c =
     let s = c .before .before .before .before in
     let f = c .before .before .before .first-truth .ensures in
-    (wire-constant _ _ _ _ (c .if1 .taken) (f .0), finishes-self _ _ _ (s .pre .0) (inr (omega arith, omega (arith, f .1))))
+    (wire-constant _ _ _ _ (c .if1 .taken) f, finishes-self _ _ _ (s .pre .0) (inr (omega arith, omega (arith, f, truth-bit (s .args .c) (s .pre .1 .1 .0 .cone) 0))))
 
 -- src/outputs.rt:93:19
 array-read-t12 : tie.Need-array-read-t12
@@ -44,7 +45,7 @@ returns-2 c =
     let few = s .pre .1 .1 .1 in
     let some = c .before .if1 .left in
     let f = c .before .before .before .before .first-truth .ensures in
-    (wire-node _ few some (support-long s) _ _ _ (s .pre .1 .0) (s .pre .1 .1 .0) (f .0) (c .if2 .taken), finishes-self _ _ _ (s .pre .0) (inl (source-below _ few some (support-long s) _ (s .pre .1 .1 .0))))
+    (wire-node _ few some (support-long s) _ _ _ (s .pre .1 .0) (s .pre .1 .1 .0) f (c .if2 .taken), finishes-self _ _ _ (s .pre .0) (inl (source-below _ few some (support-long s) _ (s .pre .1 .1 .0))))
 
 -- src/outputs.rt:96:28
 array-read-negation : tie.Need-array-read-negation
@@ -65,7 +66,7 @@ returns-3 c =
     let few = s .pre .1 .1 .1 in
     let some = c .before .before .before .if1 .left in
     let f = c .before .before .before .before .before .before .first-truth .ensures in
-    (wire-not _ few some (support-long s) _ _ _ (f .0) (c .before .before .if2 .left) (c .negation .ensures .0), c .negation .ensures .1)
+    (wire-not _ few some (support-long s) _ _ _ f (c .before .before .if2 .left) (c .negation .ensures .0), c .negation .ensures .1)
 
 pub wire-of-spec : {M : Type 1} → statement M
 wire-of-spec =
