@@ -27,4 +27,4 @@ returns-2 c =
     (node-signal _ _ _ _ _ (summed l) _ told, node-finishes _ _ _ _ _ (summed l) _ told)
 
 pub negation-spec : {M : Type 1} → statement M
-negation-spec = tie.close (tie.spec linear-requires (λ c. search needs) (λ c. search needs) returns returns-2)
+negation-spec = tie.close (tie.spec (λ c κs. search needs) linear-requires (λ c. search needs) (λ c. search needs) returns returns-2)
