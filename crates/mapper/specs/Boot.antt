@@ -82,7 +82,7 @@ module _ (n : LutNode) (bytes : List ℕ) (count : ℕ) (after : List ℕ) (r : 
   number-inside : numberOf n (intern n (storeOf bytes count)) < r .count
   number-inside = rw count-is (interned n (storeOf bytes count) .inside)
 
-  number-told : (k : ℕ) → r .signal ≡ Signals.Node k → k ≡ numberOf n (intern n (storeOf bytes count))
+  pub number-told : (k : ℕ) → r .signal ≡ Signals.Node k → k ≡ numberOf n (intern n (storeOf bytes count))
   number-told k e = node-injective k _ (sym e ∙ i .signal)
 
   pub told-inside : (k : ℕ) → r .signal ≡ Signals.Node k → k < r .count

@@ -11,3 +11,5 @@ pub mod PairSources
 pub mod PairTrial
 pub mod Wired
 pub mod Gates
+pub mod Outputs
+pub mod OutputsWalk

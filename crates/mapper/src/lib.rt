@@ -3,5 +3,6 @@ pub mod boot;
 pub mod form;
 pub mod gate;
 pub mod gates;
+pub mod outputs;
 pub mod pair;
 pub mod sides;
