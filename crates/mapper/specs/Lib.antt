@@ -13,3 +13,5 @@ pub mod Wired
 pub mod Gates
 pub mod Outputs
 pub mod OutputsWalk
+pub mod Live
+pub mod Norm

@@ -15,7 +15,7 @@ use Rattle.laws.specs.Test.{if_then_else_, eq-or-ne}
 use Rattle.rules.specs.declared.Wire.the-variants.{Node}
 use Rattle.rules.specs.declared.Settings.{Settings}
 use Rattle.rules.specs.Cone as C
-use Rattle.rules.specs.Cone.{Result, ok, err, identity, bootstrapTable, _>>=_}
+use Rattle.rules.specs.Cone.{Result, ok, err, identity, bootstrapTable}
 use Rattle.rules.specs.Mapper.{Signal, Outputs, coneAt, wireOf, outputSignal}
 use Rattle.rules.specs.Network.{LutNode, Linear}
 use Rattle.rules.specs.Store.{Stored, isUsed, insert, sorted, linearTerms, intern, numberOf, realigned, bootstrapped, bootstrapCone}

@@ -5,12 +5,11 @@ use mathlib.Core.Logic.{⊎-elim, _⊎_, inl, inr, _≢_}
 use Prim.Native.Nat.{ℕ, _+_, _*_, _-_, _≤_, _<_}
 use native.Mathlib.Numerals.{add-one}
 use native.Mathlib.Omega.{arith}
-use lib.Dec.{eqb}
 use lib.ListN.{length, getD, set, take, drop, length-set, drop-of-length-le}
 use lib.Seq.{drop-cons, getD-set-same, getD-set-other}
 use borrow.Author.Tests.{eq-eqb, ne-eqb}
 use Rattle.laws.specs.Tabulate.{tabulate, tabulate-length, tabulate-at, tabulate-same, tabulate-snoc}
-use Rattle.laws.specs.Test.{if_then_else_, eq-or-ne}
+use Rattle.laws.specs.Test.{eq-or-ne}
 use Rattle.rules.specs.declared.Settings.{Settings}
 use Rattle.rules.specs.Circuit.{Name, Output}
 use Rattle.rules.specs.Cone as C
@@ -37,7 +36,7 @@ pub record Written (before : List ℕ) (k i : ℕ) (ports : List ℕ) : Type 0 w
 pub written-none : (ports : List ℕ) (k : ℕ) → length ports ≡ 160 → Written ports k 0 ports
 written-none ports k long = record { long = long; done = λ j l. absurd (omega arith); others = λ j never. refl }
 
-port-more : (k more wire : ℕ) → k ≤ more → PortIn k wire → PortIn more wire
+pub port-more : (k more wire : ℕ) → k ≤ more → PortIn k wire → PortIn more wire
 port-more k more wire h (inl l) = inl (omega arith)
 port-more k more wire h (inr l) = inr l
 

@@ -3,6 +3,8 @@ pub mod boot;
 pub mod form;
 pub mod gate;
 pub mod gates;
+pub mod live;
+pub mod norm;
 pub mod outputs;
 pub mod pair;
 pub mod sides;

@@ -7,11 +7,6 @@ use Rattle.mapper.specs.Wired.{SlotIn, slot-below}
 use Rattle.mapper.specs.Outputs.{port-low, port-slot, port-cone}
 use Rattle.mapper.proofs.outputs.map_output.Statement.{statement}
 use Rattle.mapper.proofs.outputs.map_output.Tie as tie
-use Rattle.mapper.proofs.outputs.map_output.Reads as reads
-use Rattle.mapper.proofs.outputs.map_output.Lts as lts
-use Rattle.cone.proofs.wires.cone_at.Reads as cone-at-reads
-use Rattle.mapper.proofs.outputs.output_signal.Reads as output-signal-reads
-use Rattle.mapper.proofs.outputs.slot_of.Reads as slot-of-reads
 
 -- src/outputs.rt:142:28
 slot-of-requires : tie.Need-slot-of-requires

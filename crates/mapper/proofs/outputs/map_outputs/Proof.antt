@@ -13,9 +13,6 @@ use Rattle.mapper.specs.Outputs.{started}
 use Rattle.mapper.specs.OutputsWalk.{outputsAt, Written, written-none, written-step, port-good, outputs-start, outputs-step, outputs-refused, outputs-done, outs-none, outs-done}
 use Rattle.mapper.proofs.outputs.map_outputs.Statement.{statement}
 use Rattle.mapper.proofs.outputs.map_outputs.Tie as tie
-use Rattle.mapper.proofs.outputs.map_outputs.Reads as reads
-use Rattle.mapper.proofs.outputs.map_outputs.Lts as lts
-use Rattle.mapper.proofs.outputs.map_output.Reads as map-output-reads
 
 below-limit : (i outs : ℕ) → i < outs → outs ≤ 32 → i < 32
 below-limit i outs h k = omega arith

@@ -4,10 +4,6 @@ use Rattle.mapper.specs.Outputs.{idle-signal, support-few, finishes-more
 use borrow.Author.Needs.{needs}
 use Rattle.mapper.proofs.outputs.output_signal.Statement.{statement}
 use Rattle.mapper.proofs.outputs.output_signal.Tie as tie
-use Rattle.mapper.proofs.outputs.output_signal.Reads as reads
-use Rattle.mapper.proofs.outputs.output_signal.Lts as lts
-use Rattle.mapper.proofs.boot.bootstrap_cone.Reads as bootstrap-cone-reads
-use Rattle.mapper.proofs.outputs.wire_of.Reads as wire-of-reads
 
 support-long : (c : tie.Start) → length (c .args .c .support) ≡ 11
 support-long c = search needs

@@ -3,8 +3,6 @@ use Rattle.mapper.specs.Outputs.{slotOf}
 use borrow.Author.Needs.{needs}
 use Rattle.mapper.proofs.outputs.slot_of.Statement.{statement}
 use Rattle.mapper.proofs.outputs.slot_of.Tie as tie
-use Rattle.mapper.proofs.outputs.slot_of.Reads as reads
-use Rattle.mapper.proofs.outputs.slot_of.Lts as lts
 
 -- src/outputs.rt:123:9
 returns : tie.Need-returns

@@ -7,10 +7,6 @@ use Rattle.mapper.specs.Outputs.{wire-constant, wire-node, wire-not, sou
 use borrow.Author.Needs.{needs}
 use Rattle.mapper.proofs.outputs.wire_of.Statement.{statement}
 use Rattle.mapper.proofs.outputs.wire_of.Tie as tie
-use Rattle.mapper.proofs.outputs.wire_of.Reads as reads
-use Rattle.mapper.proofs.outputs.wire_of.Lts as lts
-use Rattle.cone.proofs.unary.first_truth.Reads as first-truth-reads
-use Rattle.mapper.proofs.outputs.negation.Reads as negation-reads
 
 support-long : (c : tie.Start) → length (c .args .c .support) ≡ 11
 support-long c = search needs
