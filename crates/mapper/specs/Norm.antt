@@ -17,7 +17,6 @@ use Rattle.rules.specs.Network.{Term, LutNode, Input, Linear, Bootstrap, member
 use Rattle.rules.specs.Scale.{norm}
 use Rattle.rules.specs.Store.{needs, termsOf, renumbered, renumberedTerm, renumberedNode, keptFrom}
 use Rattle.lut.specs.Nodes.{kindOf}
-use Rattle.theorems.specs.Terms.{sources-length}
 use Rattle.lut.specs.Sums.{fine-at}
 use Rattle.lut.specs.View.{term, nodeOf, storeOf, Fine}
 use Rattle.scale.specs.Limits.{Within}
@@ -61,12 +60,6 @@ norm-sum (Bootstrap i table) h = absurd (omega arith)
 
 pub norm-done : (n : LutNode) (k sum : ℕ) → kindOf n ≡ 1 → k ≤ 0 → sum ≡ squaresFrom (termsOf n) k → sum ≡ nodeNorm n
 norm-done n k sum h z e = let q : k ≡ 0 = omega arith in e ∙ ap (squaresFrom (termsOf n)) q ∙ norm-sum n h
-
-pub sum-size : (n : LutNode) → kindOf n ≡ 1 → length (needs n) ≡ length (termsOf n)
-unfolding needs kindOf termsOf
-sum-size (Input name) h = absurd (omega arith)
-sum-size (Linear c ts) h = sources-length ts
-sum-size (Bootstrap i table) h = absurd (omega arith)
 
 pub term-near : (i : ℕ) (n : LutNode) (k : ℕ) → Fine i n → k < length (termsOf n) → natAbs (getD (termsOf n) k (term (pos 0) 0) .coef) ≤ 31
 unfolding Fine termsOf

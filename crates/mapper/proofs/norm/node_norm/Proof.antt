@@ -6,7 +6,8 @@ use borrow.Author.Needs.{needs}
 use Rattle.rules.specs.Store.{termsOf}
 use Rattle.lut.specs.Nodes.{few-terms}
 use Rattle.lut.specs.View.{nodeOf}
-use Rattle.mapper.specs.Norm.{squaresFrom, squares-none, squares-more, norm-other, norm-done, sum-size}
+use Rattle.lut.specs.Forms.{terms-all}
+use Rattle.mapper.specs.Norm.{squaresFrom, squares-none, squares-more, norm-other, norm-done}
 use Rattle.mapper.proofs.norm.node_norm.Statement.{statement}
 use Rattle.mapper.proofs.norm.node_norm.Tie as tie
 
@@ -34,7 +35,7 @@ size-of-requires c κs = search needs
 -- src/norm.rt:38:5
 loop-holds : tie.Need-loop-holds Inv-loop μ-loop
 loop-holds c =
-    let all = c .size-of .ensures ∙ sum-size _ (sym (c .before .before .kind-of .ensures) ∙ c .before .if1 .left) in
+    let all = c .size-of .ensures ∙ terms-all _ (sym (c .before .before .kind-of .ensures) ∙ c .before .if1 .left) in
     (omega (arith, all), (sym (squares-none _ _ (omega (arith, all))), omega arith))
 
 -- src/norm.rt:39:9
