@@ -32,10 +32,12 @@ use Rattle.cone.specs.View.{coneOf}
 use Rattle.cone.specs.Wires.{coneIn}
 use Rattle.cone.specs.Order.{sideOf}
 use Rattle.lut.specs.View.{storeOf, IsStore}
-use Rattle.mapper.specs.declared.boot.Booted.{Booted}
-use Rattle.mapper.specs.declared.gate.Mapped.{Mapped}
+use Rattle.bootstrap.specs.declared.boot.Booted.{Booted}
+use Rattle.gate.specs.declared.map.Mapped.{Mapped}
 use Rattle.mapper.specs.declared.gates.Work.{Work}
-use Rattle.mapper.specs.View.{Stands, bootedOf, mappedOf, Maps, Boots, conesIn}
+use Rattle.bootstrap.specs.View.{Stands, bootedOf, Boots}
+use Rattle.gate.specs.View.{mappedOf, Maps}
+use Rattle.mapper.specs.View.{conesIn}
 use Rattle.mapper.specs.Wired.{Wired, SlotIn, Settled, Renewed, stateOf, slot-cone, slot-constant, cones-length, cones-own, renewed-cones, renewed-wired, wired-more, wired-put, stands-more}
 use Rattle.circuit.specs.View.{wireIn, slotWire, wiresIn, answersIn, gateIn, gatesIn, outputIn, outputsIn}
 

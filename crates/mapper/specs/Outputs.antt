@@ -28,11 +28,12 @@ use Rattle.lut.specs.declared.Signal.the-variants as Signals
 use Rattle.lut.specs.declared.Terms.{Terms}
 use Rattle.lut.specs.Store.{Interns}
 use Rattle.lut.specs.View.{term, termsIn, FineTerms, GoodTerms, storeOf, IsStore}
-use Rattle.mapper.specs.declared.boot.Booted.{Booted}
+use Rattle.bootstrap.specs.declared.boot.Booted.{Booted}
 use Rattle.mapper.specs.declared.gates.Work.{Work}
 use Rattle.mapper.specs.declared.outputs.Finished.{Finished}
-use Rattle.mapper.specs.View.{Grown, Stands, Boots, bootedOf, conesIn}
-use Rattle.mapper.specs.Boot.{grown-by-one, number-told, told-inside}
+use Rattle.bootstrap.specs.View.{Grown, Stands, Boots, bootedOf}
+use Rattle.mapper.specs.View.{conesIn}
+use Rattle.bootstrap.specs.Boot.{grown-by-one, number-told, told-inside}
 use Rattle.mapper.specs.Wired.{Wired, SlotIn, slot-cone}
 use Rattle.circuit.specs.View.{wireIn, portWire, slotWire, outputsIn}
 

@@ -23,7 +23,8 @@ use Rattle.cone.specs.View.{coneOf, IsCone}
 use Rattle.cone.specs.Order.{sideOf}
 use Rattle.cone.specs.Wires.{coneIn, IsPut}
 use Rattle.lut.specs.View.{storeOf, IsStore}
-use Rattle.mapper.specs.View.{Below, Stands, wireCone, conesIn}
+use Rattle.bootstrap.specs.View.{Below, Stands}
+use Rattle.mapper.specs.View.{wireCone, conesIn}
 use Rattle.circuit.specs.View.{wireIn, slotWire}
 
 -- ---- What is held.

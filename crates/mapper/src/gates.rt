@@ -1,9 +1,9 @@
 // The gates in turn: each one's cone into its slot, and those of its wires that were bootstrapped.
-use crate::boot::Booted;
-use crate::boot::bootstrap_cone;
-use crate::gate::Mapped;
-use crate::gate::map_two;
-use crate::gate::map_unary;
+use bootstrap::boot::Booted;
+use bootstrap::boot::bootstrap_cone;
+use gate::map::Mapped;
+use gate::map::map_two;
+use gate::map::map_unary;
 use cone::Cone;
 use cone::order::Side;
 use cone::wires::cone_at;
@@ -20,7 +20,9 @@ ghost use Rattle.rules.specs.CircuitText.{inLimits};
 ghost use Rattle.rules.specs.Mapper.{isBasic, usedSettings, isForced, mapGate, coneAt, atLine, mapNext, mapGates};
 ghost use Rattle.cone.specs.View.{coneOf, IsCone};
 ghost use Rattle.lut.specs.View.{storeOf, IsStore};
-ghost use Rattle.mapper.specs.View.{Stands, Boots, bootedOf, Maps, mappedOf, conesIn};
+ghost use Rattle.bootstrap.specs.View.{Stands, Boots, bootedOf};
+ghost use Rattle.gate.specs.View.{Maps, mappedOf};
+ghost use Rattle.mapper.specs.View.{conesIn};
 ghost use Rattle.mapper.specs.Wired.{Wired, Renewed, Settled, stateOf};
 ghost use Rattle.circuit.specs.View.{wiresIn, answersIn, gateIn, gatesIn, outputsIn};
 ghost use Rattle.mapper.specs.Gates.{named, fourOf, forcedCone, GoodGate, GoodGates, stateRead, Works};

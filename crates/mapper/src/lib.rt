@@ -1,10 +1,5 @@
-// The mapper: each gate's cone, bootstraps where they are needed, and the network's text.
-pub mod boot;
-pub mod form;
-pub mod gate;
+// The mapper: the gates and the outputs in turn, what is kept of the nodes, and the network's text.
 pub mod gates;
 pub mod live;
 pub mod norm;
 pub mod outputs;
-pub mod pair;
-pub mod sides;

@@ -1,5 +1,5 @@
 // The outputs: each one's cone as a wire of the network, a node or a constant, in the place of the circuit's wire.
-use crate::boot::bootstrap_cone;
+use bootstrap::boot::bootstrap_cone;
 use crate::gates::Work;
 use cone::Cone;
 use cone::unary::first_truth;
@@ -18,7 +18,8 @@ ghost use Rattle.rules.specs.Network.{Linear};
 ghost use Rattle.rules.specs.Cone as rules;
 ghost use Rattle.cone.specs.View.{coneOf};
 ghost use Rattle.lut.specs.View.{term, storeOf, IsStore};
-ghost use Rattle.mapper.specs.View.{Stands, conesIn};
+ghost use Rattle.bootstrap.specs.View.{Stands};
+ghost use Rattle.mapper.specs.View.{conesIn};
 ghost use Rattle.mapper.specs.Wired.{Wired};
 ghost use Rattle.circuit.specs.View.{portWire, outputsIn};
 ghost use Rattle.mapper.specs.Outputs.{Negated, signalOf, signalRead, Finishes, slotOf, PortIn, GoodPorts, outputsRead, started, Outs};

@@ -5,9 +5,6 @@ use Rattle.laws.specs.Tail.{head-length}
 use borrow.Author.Needs.{needs}
 use Rattle.lut.proofs.bootstrap.Statement.{statement}
 use Rattle.lut.proofs.bootstrap.Tie as tie
-use Rattle.lut.proofs.bootstrap.Reads as reads
-use Rattle.lut.proofs.bootstrap.Lts as lts
-use Rattle.lut.proofs.complete_bootstrap.Reads as complete-bootstrap-reads
 
 -- src/lib.rt:90:56
 array-borrow-prefix-table : tie.Need-array-borrow-prefix-table

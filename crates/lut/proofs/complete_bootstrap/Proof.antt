@@ -4,10 +4,6 @@ use Rattle.lut.specs.Store.{no-table, table-is, made, fine-boot}
 use borrow.Author.Needs.{needs}
 use Rattle.lut.proofs.complete_bootstrap.Statement.{statement}
 use Rattle.lut.proofs.complete_bootstrap.Tie as tie
-use Rattle.lut.proofs.complete_bootstrap.Reads as reads
-use Rattle.lut.proofs.complete_bootstrap.Lts as lts
-use Rattle.lut.proofs.put_bootstrap.Reads as put-bootstrap-reads
-use Rattle.rotation.proofs.complete.Reads as complete-reads
 
 -- src/lib.rt:73:9
 complete-requires : tie.Need-complete-requires

@@ -4,10 +4,6 @@ use Rattle.lut.specs.View.{Fine}
 use Rattle.lut.specs.Store.{is-record, interns-node}
 use Rattle.lut.proofs.put_bootstrap.Statement.{statement}
 use Rattle.lut.proofs.put_bootstrap.Tie as tie
-use Rattle.lut.proofs.put_bootstrap.Reads as reads
-use Rattle.lut.proofs.put_bootstrap.Lts as lts
-use Rattle.lut.proofs.record.boot.Reads as boot-reads
-use Rattle.lut.proofs.store.intern.Reads as intern-reads
 
 -- src/lib.rt:56:17
 boot-requires : tie.Need-boot-requires

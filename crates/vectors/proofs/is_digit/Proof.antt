@@ -3,8 +3,6 @@ use Rattle.laws.specs.Tests.{tests}
 use Rattle.vectors.specs.Token.{isDigit}
 use Rattle.vectors.proofs.is_digit.Statement.{statement}
 use Rattle.vectors.proofs.is_digit.Tie as tie
-use Rattle.vectors.proofs.is_digit.Reads as reads
-use Rattle.vectors.proofs.is_digit.Lts as lts
 
 -- src/lib.rt:13:1
 returns : tie.Need-returns

@@ -2,10 +2,6 @@ use borrow.Author.Needs.{needs}
 use Rattle.vectors.specs.Token.{token-end, token-minus, token-plain}
 use Rattle.vectors.proofs.next_token.Statement.{statement}
 use Rattle.vectors.proofs.next_token.Tie as tie
-use Rattle.vectors.proofs.next_token.Reads as reads
-use Rattle.vectors.proofs.next_token.Lts as lts
-use Rattle.vectors.proofs.digits.Reads as digits-reads
-use Rattle.vectors.proofs.skip.Reads as skip-reads
 
 -- src/lib.rt:80:9
 skip-requires : tie.Need-skip-requires

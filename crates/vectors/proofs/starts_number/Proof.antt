@@ -2,9 +2,6 @@ use borrow.Author.Needs.{needs}
 use Rattle.vectors.specs.Token.{starts-digit, starts-other}
 use Rattle.vectors.proofs.starts_number.Statement.{statement}
 use Rattle.vectors.proofs.starts_number.Tie as tie
-use Rattle.vectors.proofs.starts_number.Reads as reads
-use Rattle.vectors.proofs.starts_number.Lts as lts
-use Rattle.vectors.proofs.is_digit.Reads as is-digit-reads
 
 -- src/lib.rt:23:5
 is-digit-requires : tie.Need-is-digit-requires

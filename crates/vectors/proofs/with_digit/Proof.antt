@@ -2,8 +2,6 @@ use borrow.Author.Needs.{needs}
 use Rattle.laws.specs.Tests.{tests}
 use Rattle.vectors.proofs.with_digit.Statement.{statement}
 use Rattle.vectors.proofs.with_digit.Tie as tie
-use Rattle.vectors.proofs.with_digit.Reads as reads
-use Rattle.vectors.proofs.with_digit.Lts as lts
 
 -- src/lib.rt:45:9
 mul-result : tie.Need-mul-result

@@ -3,8 +3,6 @@ use Rattle.laws.specs.Tests.{tests}
 use Rattle.vectors_builder.specs.Case.{byteOf}
 use Rattle.vectors_builder.proofs.byte.Statement.{statement}
 use Rattle.vectors_builder.proofs.byte.Tie as tie
-use Rattle.vectors_builder.proofs.byte.Reads as reads
-use Rattle.vectors_builder.proofs.byte.Lts as lts
 
 -- src/main.rt:33:24
 cast-result : tie.Need-cast-result

@@ -3,10 +3,6 @@ use Rattle.vectors_builder.specs.Case.{afterList}
 use borrow.Author.Needs.{needs}
 use Rattle.vectors_builder.proofs.fill_values.Statement.{statement}
 use Rattle.vectors_builder.proofs.fill_values.Tie as tie
-use Rattle.vectors_builder.proofs.fill_values.Reads as reads
-use Rattle.vectors_builder.proofs.fill_values.Lts as lts
-use Rattle.vectors_builder.proofs.take_values.Reads as take-values-reads
-use Rattle.vectors_builder.proofs.with_truths.Reads as with-truths-reads
 
 -- src/main.rt:193:9
 take-values-requires : tie.Need-take-values-requires

@@ -2,12 +2,6 @@ use Rattle.vectors_builder.specs.Case.{case-after}
 use borrow.Author.Needs.{needs}
 use Rattle.vectors_builder.proofs.replay.Statement.{statement}
 use Rattle.vectors_builder.proofs.replay.Tie as tie
-use Rattle.vectors_builder.proofs.replay.Reads as reads
-use Rattle.vectors_builder.proofs.replay.Lts as lts
-use Rattle.vectors.proofs.at_most.Reads as at-most-reads
-use Rattle.vectors.proofs.next_token.Reads as next-token-reads
-use Rattle.vectors.proofs.skip.Reads as skip-reads
-use Rattle.vectors_builder.proofs.with_values.Reads as with-values-reads
 
 -- src/main.rt:211:9
 next-token-requires : tie.Need-next-token-requires

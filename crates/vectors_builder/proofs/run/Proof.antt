@@ -5,14 +5,6 @@ use Rattle.vectors_builder.specs.Case.{shownByte}
 use borrow.Author.Needs.{needs}
 use Rattle.vectors_builder.proofs.run.Statement.{statement}
 use Rattle.vectors_builder.proofs.run.Tie as tie
-use Rattle.vectors_builder.proofs.run.Reads as reads
-use Rattle.vectors_builder.proofs.run.Lts as lts
-use Rattle.io.proofs.print_decimal.Reads as print-decimal-reads
-use Rattle.io.proofs.write_all.Reads as write-all-reads
-use Rattle.rotation.proofs.composed_bootstrap_table.Reads as composed-bootstrap-table-reads
-use Rattle.rotation.proofs.reply_count.Reads as reply-count-reads
-use Rattle.rotation.proofs.reply_number.Reads as reply-number-reads
-use Rattle.vectors_builder.proofs.show.Reads as show-reads
 
 -- src/main.rt:95:9
 composed-bootstrap-table-requires : tie.Need-composed-bootstrap-table-requires

@@ -3,8 +3,6 @@ use Rattle.laws.specs.Tests.{tests}
 use Rattle.vectors_builder.specs.Case.{shownByte}
 use Rattle.vectors_builder.proofs.shown.Statement.{statement}
 use Rattle.vectors_builder.proofs.shown.Tie as tie
-use Rattle.vectors_builder.proofs.shown.Reads as reads
-use Rattle.vectors_builder.proofs.shown.Lts as lts
 
 -- src/main.rt:69:16
 add-result : tie.Need-add-result

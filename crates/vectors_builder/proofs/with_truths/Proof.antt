@@ -4,11 +4,6 @@ use Rattle.vectors_builder.specs.Case.{list-after}
 use borrow.Author.Needs.{needs}
 use Rattle.vectors_builder.proofs.with_truths.Statement.{statement}
 use Rattle.vectors_builder.proofs.with_truths.Tie as tie
-use Rattle.vectors_builder.proofs.with_truths.Reads as reads
-use Rattle.vectors_builder.proofs.with_truths.Lts as lts
-use Rattle.vectors.proofs.at_most.Reads as at-most-reads
-use Rattle.vectors.proofs.next_token.Reads as next-token-reads
-use Rattle.vectors_builder.proofs.fill_truths.Reads as fill-truths-reads
 
 -- src/main.rt:175:9
 next-token-requires : tie.Need-next-token-requires

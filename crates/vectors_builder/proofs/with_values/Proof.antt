@@ -4,11 +4,6 @@ use Rattle.vectors_builder.specs.Case.{afterList, list-after}
 use borrow.Author.Needs.{needs}
 use Rattle.vectors_builder.proofs.with_values.Statement.{statement}
 use Rattle.vectors_builder.proofs.with_values.Tie as tie
-use Rattle.vectors_builder.proofs.with_values.Reads as reads
-use Rattle.vectors_builder.proofs.with_values.Lts as lts
-use Rattle.vectors.proofs.at_most.Reads as at-most-reads
-use Rattle.vectors.proofs.next_token.Reads as next-token-reads
-use Rattle.vectors_builder.proofs.fill_values.Reads as fill-values-reads
 
 -- src/main.rt:202:9
 next-token-requires : tie.Need-next-token-requires

@@ -3,10 +3,6 @@ use lib.ListN.{length}
 use mathlib.Core.Path.{_≡_}
 use Rattle.vectors_texts.proofs.main.Statement.{statement}
 use Rattle.vectors_texts.proofs.main.Tie as tie
-use Rattle.vectors_texts.proofs.main.Reads as reads
-use Rattle.vectors_texts.proofs.main.Lts as lts
-use Rattle.io.proofs.large_buffer.Reads as large-buffer-reads
-use Rattle.vectors_texts.proofs.one_case.Reads as one-case-reads
 
 abbrev Inv-loop : tie.InvT-loop
 Inv-loop room₀ turns₀ room turns = 65536 ≡ length room

@@ -5,9 +5,6 @@ use Prim.Native.Nat.{_-_, _≤_}
 use mathlib.Core.Path.{_≡_}
 use Rattle.vectors_texts.proofs.read_head.Statement.{statement}
 use Rattle.vectors_texts.proofs.read_head.Tie as tie
-use Rattle.vectors_texts.proofs.read_head.Reads as reads
-use Rattle.vectors_texts.proofs.read_head.Lts as lts
-use Rattle.io.proofs.read_full.Reads as read-full-reads
 
 abbrev Inv-loop : tie.InvT-loop
 Inv-loop head₀ one₀ n₀ head one n = (n ≤ 128) × (length head ≡ 128) × (1 ≡ length one)

@@ -6,11 +6,6 @@ use Rattle.writer.specs.Whole.{whole-text}
 use borrow.Author.Needs.{needs}
 use Rattle.writer.proofs.write.Statement.{statement}
 use Rattle.writer.proofs.write.Tie as tie
-use Rattle.writer.proofs.write.Reads as reads
-use Rattle.writer.proofs.write.Lts as lts
-use Rattle.writer.proofs.line.put_net.Reads as put-net-reads
-use Rattle.writer.proofs.nodes.put_nodes.Reads as put-nodes-reads
-use Rattle.writer.proofs.outputs.put_outs.Reads as put-outs-reads
 
 -- src/lib.rt:39:9
 put-net-requires : tie.Need-put-net-requires

@@ -11,11 +11,6 @@ use Rattle.lut.specs.View.{term, nodeOf}
 use Rattle.lut.specs.Forms.{Aligning, placeOf, place-most, aligned-not, aligning-start, aligning-fails, aligning-turn, aligning-done}
 use Rattle.lut.proofs.forms.align.Statement.{statement}
 use Rattle.lut.proofs.forms.align.Tie as tie
-use Rattle.lut.proofs.forms.align.Reads as reads
-use Rattle.lut.proofs.forms.align.Lts as lts
-use Rattle.lut.proofs.forms.term_count.Reads as term-count-reads
-use Rattle.lut.proofs.forms.term_place.Reads as term-place-reads
-use Rattle.lut.proofs.node.coef_of.Reads as coef-of-reads
 
 abbrev Inv-loop : tie.InvT-loop
 Inv-loop nodes i support coefs₀ n k₀ coefs k = (n ≡ length (termsOf (nodeOf nodes i))) × Aligning support (termsOf (nodeOf nodes i)) k coefs

@@ -8,11 +8,6 @@ use Rattle.lut.specs.Reuse.{boot-source}
 use Rattle.lut.specs.Forms.{AlignedTo, form-none, form-some}
 use Rattle.lut.proofs.forms.form_at.Statement.{statement}
 use Rattle.lut.proofs.forms.form_at.Tie as tie
-use Rattle.lut.proofs.forms.form_at.Reads as reads
-use Rattle.lut.proofs.forms.form_at.Lts as lts
-use Rattle.lut.proofs.forms.align.Reads as align-reads
-use Rattle.lut.proofs.node.kind_of.Reads as kind-of-reads
-use Rattle.lut.proofs.node.source_of.Reads as source-of-reads
 
 is-boot : (c : tie.Else1) → kindOf (nodeOf (c .before .before .before .args .nodes .now) (c .before .before .before .args .i)) ≡ 2
 is-boot c = omega (arith, c .before .kind-of .ensures)

@@ -6,10 +6,6 @@ use Rattle.lut.specs.Forms.{terms-none, terms-all}
 use borrow.Author.Needs.{needs}
 use Rattle.lut.proofs.forms.term_count.Statement.{statement}
 use Rattle.lut.proofs.forms.term_count.Tie as tie
-use Rattle.lut.proofs.forms.term_count.Reads as reads
-use Rattle.lut.proofs.forms.term_count.Lts as lts
-use Rattle.lut.proofs.node.kind_of.Reads as kind-of-reads
-use Rattle.lut.proofs.node.size_of.Reads as size-of-reads
 
 -- src/forms.rt:24:8
 kind-of-requires : tie.Need-kind-of-requires

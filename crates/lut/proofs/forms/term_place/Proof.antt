@@ -9,9 +9,6 @@ use Rattle.lut.specs.View.{nodeOf}
 use Rattle.lut.specs.Forms.{placeOf, terms-need, place-here, place-on, place-end}
 use Rattle.lut.proofs.forms.term_place.Statement.{statement}
 use Rattle.lut.proofs.forms.term_place.Tie as tie
-use Rattle.lut.proofs.forms.term_place.Reads as reads
-use Rattle.lut.proofs.forms.term_place.Lts as lts
-use Rattle.lut.proofs.node.source_of.Reads as source-of-reads
 
 abbrev Inv-loop : tie.InvT-loop
 Inv-loop nodes i n source k₀ k = (k ≤ n) × (k + placeOf (drop k (termsOf (nodeOf nodes i))) source ≡ placeOf (termsOf (nodeOf nodes i)) source)

@@ -8,9 +8,6 @@ use Rattle.lut.specs.Nodes.{few-terms, coefficient-at}
 use borrow.Author.Needs.{needs}
 use Rattle.lut.proofs.node.coef_of.Statement.{statement}
 use Rattle.lut.proofs.node.coef_of.Tie as tie
-use Rattle.lut.proofs.node.coef_of.Reads as reads
-use Rattle.lut.proofs.node.coef_of.Lts as lts
-use Rattle.lut.proofs.node.signed.Reads as signed-reads
 
 few : (c : tie.Start) → c .args .k < 11
 few c = omega (arith, few-terms (c .args .i) (nodeOf (c .args .nodes .now) (c .args .i)) (c .pre .0 .fine), c .pre .1)

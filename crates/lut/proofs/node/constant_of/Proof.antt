@@ -5,9 +5,6 @@ use Rattle.lut.specs.Nodes.{constant-at}
 use borrow.Author.Needs.{needs}
 use Rattle.lut.proofs.node.constant_of.Statement.{statement}
 use Rattle.lut.proofs.node.constant_of.Tie as tie
-use Rattle.lut.proofs.node.constant_of.Reads as reads
-use Rattle.lut.proofs.node.constant_of.Lts as lts
-use Rattle.lut.proofs.node.signed.Reads as signed-reads
 
 -- src/node.rt:51:18
 mul-signed : tie.Need-mul-signed

@@ -3,8 +3,6 @@ use Rattle.lut.specs.Nodes.{kind-at}
 use borrow.Author.Needs.{needs}
 use Rattle.lut.proofs.node.kind_of.Statement.{statement}
 use Rattle.lut.proofs.node.kind_of.Tie as tie
-use Rattle.lut.proofs.node.kind_of.Reads as reads
-use Rattle.lut.proofs.node.kind_of.Lts as lts
 
 -- src/node.rt:28:11
 mul-result : tie.Need-mul-result

@@ -11,9 +11,6 @@ use Rattle.lut.specs.View.{unbiased}
 use borrow.Author.Needs.{needs}
 use Rattle.lut.proofs.node.signed.Statement.{statement}
 use Rattle.lut.proofs.node.signed.Tie as tie
-use Rattle.lut.proofs.node.signed.Reads as reads
-use Rattle.lut.proofs.node.signed.Lts as lts
-use Rattle.lut.proofs.node.wide.Reads as wide-reads
 
 difference-fits : (b : ℕ) → b < 256 → SFits w64 (toZ w64 b -ℤ pos 32)
 difference-fits b h = rw (toZ-pos w64 {n = b} (omega arith)) (fits-abs (pos b -ℤ pos 32) (omega (arith, abs-add (pos b) (negℤ (pos 32)), abs-neg (pos 32))))

@@ -4,9 +4,6 @@ use Rattle.lut.specs.Nodes.{size-at}
 use borrow.Author.Needs.{needs}
 use Rattle.lut.proofs.node.size_of.Statement.{statement}
 use Rattle.lut.proofs.node.size_of.Tie as tie
-use Rattle.lut.proofs.node.size_of.Reads as reads
-use Rattle.lut.proofs.node.size_of.Lts as lts
-use Rattle.lut.proofs.node.wide.Reads as wide-reads
 
 -- src/node.rt:36:16
 mul-wide : tie.Need-mul-wide

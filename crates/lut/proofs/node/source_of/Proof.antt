@@ -7,9 +7,6 @@ use Rattle.lut.specs.Nodes.{few-sources, source-at}
 use borrow.Author.Needs.{needs}
 use Rattle.lut.proofs.node.source_of.Statement.{statement}
 use Rattle.lut.proofs.node.source_of.Tie as tie
-use Rattle.lut.proofs.node.source_of.Reads as reads
-use Rattle.lut.proofs.node.source_of.Lts as lts
-use Rattle.lut.proofs.node.wide.Reads as wide-reads
 
 few : (c : tie.Start) → c .args .k < 11
 few c = omega (arith, few-sources (c .args .i) (nodeOf (c .args .nodes .now) (c .args .i)) (c .pre .0 .fine), c .pre .1)

@@ -8,9 +8,6 @@ use Rattle.lut.specs.Nodes.{table-fits, table-at}
 use borrow.Author.Needs.{needs}
 use Rattle.lut.proofs.node.table_of.Statement.{statement}
 use Rattle.lut.proofs.node.table_of.Tie as tie
-use Rattle.lut.proofs.node.table_of.Reads as reads
-use Rattle.lut.proofs.node.table_of.Lts as lts
-use Rattle.lut.proofs.node.wide.Reads as wide-reads
 
 -- src/node.rt:69:13
 mul-a : tie.Need-mul-a

@@ -4,8 +4,6 @@ use borrow.Author.Tests.{eq-eqb, ne-eqb}
 use borrow.Author.Needs.{needs}
 use Rattle.lut.proofs.prune.counted.Statement.{statement}
 use Rattle.lut.proofs.prune.counted.Tie as tie
-use Rattle.lut.proofs.prune.counted.Reads as reads
-use Rattle.lut.proofs.prune.counted.Lts as lts
 
 -- src/prune.rt:62:34
 add-result : tie.Need-add-result

@@ -7,9 +7,6 @@ use Rattle.lut.specs.View.{nodeOf, storeOf, at-store, is-node}
 use Rattle.lut.specs.Prune.{Reaching, reaching-start, reaching-turn, reaching-done}
 use Rattle.lut.proofs.prune.mark_live.Statement.{statement}
 use Rattle.lut.proofs.prune.mark_live.Tie as tie
-use Rattle.lut.proofs.prune.mark_live.Reads as reads
-use Rattle.lut.proofs.prune.mark_live.Lts as lts
-use Rattle.lut.proofs.prune.mark_needed.Reads as mark-needed-reads
 
 abbrev Inv-loop : tie.InvT-loop
 Inv-loop nodes count live₀ i₀ live i = (i ≤ count) × Reaching (storeOf nodes count) count i live₀ live

@@ -4,9 +4,6 @@ use Rattle.lut.specs.Prune.{needed-not, needed-so}
 use borrow.Author.Needs.{needs}
 use Rattle.lut.proofs.prune.mark_needed.Statement.{statement}
 use Rattle.lut.proofs.prune.mark_needed.Tie as tie
-use Rattle.lut.proofs.prune.mark_needed.Reads as reads
-use Rattle.lut.proofs.prune.mark_needed.Lts as lts
-use Rattle.lut.proofs.prune.mark_sources.Reads as mark-sources-reads
 
 -- src/prune.rt:32:8
 mul-if1 : tie.Need-mul-if1

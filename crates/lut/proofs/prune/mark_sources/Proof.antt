@@ -10,10 +10,6 @@ use Rattle.lut.specs.Nodes.{source-before}
 use Rattle.lut.specs.Prune.{Marking, adding, adding-none, adding-one}
 use Rattle.lut.proofs.prune.mark_sources.Statement.{statement}
 use Rattle.lut.proofs.prune.mark_sources.Tie as tie
-use Rattle.lut.proofs.prune.mark_sources.Reads as reads
-use Rattle.lut.proofs.prune.mark_sources.Lts as lts
-use Rattle.lut.proofs.node.size_of.Reads as size-of-reads
-use Rattle.lut.proofs.node.source_of.Reads as source-of-reads
 
 abbrev Inv-loop : tie.InvT-loop
 Inv-loop nodes i live₀ k₀ live k = (k ≤ length (needs (nodeOf nodes i))) × Marking (adding (drop k (needs (nodeOf nodes i)))) live₀ live

@@ -4,8 +4,6 @@ use borrow.Author.Tests.{eq-eqb, ne-eqb}
 use borrow.Author.Needs.{needs}
 use Rattle.lut.proofs.prune.numbered.Statement.{statement}
 use Rattle.lut.proofs.prune.numbered.Tie as tie
-use Rattle.lut.proofs.prune.numbered.Reads as reads
-use Rattle.lut.proofs.prune.numbered.Lts as lts
 
 -- src/prune.rt:55:31
 add-result : tie.Need-add-result

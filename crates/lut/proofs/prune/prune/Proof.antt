@@ -3,10 +3,6 @@ use Rattle.lut.specs.Prune.{numbers-after}
 use borrow.Author.Needs.{needs}
 use Rattle.lut.proofs.prune.prune.Statement.{statement}
 use Rattle.lut.proofs.prune.prune.Tie as tie
-use Rattle.lut.proofs.prune.prune.Reads as reads
-use Rattle.lut.proofs.prune.prune.Lts as lts
-use Rattle.lut.proofs.prune.mark_live.Reads as mark-live-reads
-use Rattle.lut.proofs.prune.renumber.Reads as renumber-reads
 
 -- src/prune.rt:85:5
 mark-live-requires : tie.Need-mark-live-requires

@@ -10,10 +10,6 @@ use lib.ListN.{length, getD, length-set}
 use Rattle.lut.specs.Prune.{Marks, Numbering, numbering-start, numbering-turn, numbers-done, counted-one}
 use Rattle.lut.proofs.prune.renumber.Statement.{statement}
 use Rattle.lut.proofs.prune.renumber.Tie as tie
-use Rattle.lut.proofs.prune.renumber.Reads as reads
-use Rattle.lut.proofs.prune.renumber.Lts as lts
-use Rattle.lut.proofs.prune.counted.Reads as counted-reads
-use Rattle.lut.proofs.prune.numbered.Reads as numbered-reads
 
 abbrev Inv-loop : tie.InvT-loop
 Inv-loop live₀ count next₀ i₀ live next i = (i ≤ count) × (length live ≡ 672) × (next ≤ i) × ((kept : List ℕ) → Marks kept live₀ → Numbering kept live i next)

@@ -5,11 +5,6 @@ use Rattle.lut.specs.Records.{boot-long, boot-done}
 use borrow.Author.Needs.{needs}
 use Rattle.lut.proofs.record.boot.Statement.{statement}
 use Rattle.lut.proofs.record.boot.Tie as tie
-use Rattle.lut.proofs.record.boot.Reads as reads
-use Rattle.lut.proofs.record.boot.Lts as lts
-use Rattle.lut.proofs.record.head.Reads as head-reads
-use Rattle.lut.proofs.record.put_bytes.Reads as put-bytes-reads
-use Rattle.lut.proofs.record.put_source.Reads as put-source-reads
 
 -- src/record.rt:70:28
 cast-head : tie.Need-cast-head

@@ -5,8 +5,6 @@ use Rattle.lut.specs.View.{padded}
 use borrow.Author.Needs.{needs}
 use Rattle.lut.proofs.record.head.Statement.{statement}
 use Rattle.lut.proofs.record.head.Tie as tie
-use Rattle.lut.proofs.record.head.Reads as reads
-use Rattle.lut.proofs.record.head.Lts as lts
 
 -- src/record.rt:24:5
 array-write-r : tie.Need-array-write-r

@@ -3,10 +3,6 @@ use Rattle.lut.specs.Records.{input-done}
 use borrow.Author.Needs.{needs}
 use Rattle.lut.proofs.record.input.Statement.{statement}
 use Rattle.lut.proofs.record.input.Tie as tie
-use Rattle.lut.proofs.record.input.Reads as reads
-use Rattle.lut.proofs.record.input.Lts as lts
-use Rattle.lut.proofs.record.head.Reads as head-reads
-use Rattle.lut.proofs.record.put_bytes.Reads as put-bytes-reads
 
 -- src/record.rt:80:28
 cast-head : tie.Need-cast-head

@@ -8,8 +8,6 @@ use lib.Seq.{paste, paste-zero}
 use Rattle.lut.specs.Records.{paste-turn}
 use Rattle.lut.proofs.record.put_bytes.Statement.{statement}
 use Rattle.lut.proofs.record.put_bytes.Tie as tie
-use Rattle.lut.proofs.record.put_bytes.Reads as reads
-use Rattle.lut.proofs.record.put_bytes.Lts as lts
 
 abbrev Inv-loop : tie.InvT-loop
 Inv-loop r₀ bytes k₀ r k = (k ≤ length bytes) × (r ≡ paste r₀ 6 bytes k)

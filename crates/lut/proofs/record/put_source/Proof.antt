@@ -7,9 +7,6 @@ use mir.Facts.{toZ-ofZ}
 use Rattle.lut.specs.View.{biased}
 use Rattle.lut.proofs.record.put_source.Statement.{statement}
 use Rattle.lut.proofs.record.put_source.Tie as tie
-use Rattle.lut.proofs.record.put_source.Reads as reads
-use Rattle.lut.proofs.record.put_source.Lts as lts
-use Rattle.lut.proofs.record.biased_byte.Reads as biased-byte-reads
 
 -- src/record.rt:23:13
 biased-byte-requires : tie.Need-biased-byte-requires

@@ -11,11 +11,6 @@ use Rattle.lut.specs.Records.{written, written-length, sum-start, sum-tu
 use Rattle.lut.specs.Sums.{good-near, good-below, good-read}
 use Rattle.lut.proofs.record.sum.Statement.{statement}
 use Rattle.lut.proofs.record.sum.Tie as tie
-use Rattle.lut.proofs.record.sum.Reads as reads
-use Rattle.lut.proofs.record.sum.Lts as lts
-use Rattle.lut.proofs.record.biased_byte.Reads as biased-byte-reads
-use Rattle.lut.proofs.record.head.Reads as head-reads
-use Rattle.lut.proofs.record.put_source.Reads as put-source-reads
 
 abbrev Inv-loop : tie.InvT-loop
 Inv-loop t r₀ k₀ r k = (k ≤ t .n) × (length (t .coefs) ≡ 11) × (length (t .sources) ≡ 11) × (r ≡ written t k)

@@ -9,11 +9,6 @@ use Rattle.lut.specs.Store.{Summed, summed, is-record}
 use borrow.Author.Needs.{needs}
 use Rattle.lut.proofs.reuse.has_bootstrap.Statement.{statement}
 use Rattle.lut.proofs.reuse.has_bootstrap.Tie as tie
-use Rattle.lut.proofs.reuse.has_bootstrap.Reads as reads
-use Rattle.lut.proofs.reuse.has_bootstrap.Lts as lts
-use Rattle.lut.proofs.order.linear_terms.Reads as linear-terms-reads
-use Rattle.lut.proofs.record.sum.Reads as sum-reads
-use Rattle.lut.proofs.reuse.is_taken.Reads as is-taken-reads
 
 long : (c : tie.After-linear-terms) → (length (c .linear-terms .result .coefs) ≡ 11) × (length (c .linear-terms .result .sources) ≡ 11)
 long c = (search needs, search needs)

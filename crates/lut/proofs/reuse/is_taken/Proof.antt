@@ -9,9 +9,6 @@ use Rattle.lut.specs.View.{nodeIn, storeOf, store-length, is-node}
 use Rattle.lut.specs.Reuse.{takenFrom, takes-node, taken-start, taken-here, taken-on, taken-end}
 use Rattle.lut.proofs.reuse.is_taken.Statement.{statement}
 use Rattle.lut.proofs.reuse.is_taken.Tie as tie
-use Rattle.lut.proofs.reuse.is_taken.Reads as reads
-use Rattle.lut.proofs.reuse.is_taken.Lts as lts
-use Rattle.lut.proofs.reuse.takes.Reads as takes-reads
 
 abbrev Inv-loop : tie.InvT-loop
 Inv-loop nodes count bytes i₀ i = (i ≤ count) × (takenFrom (nodeIn bytes) (storeOf nodes count) i ≡ hasBootstrap (storeOf nodes count) (nodeIn bytes))

@@ -8,11 +8,6 @@ use Rattle.lut.specs.Reuse.{takes-not, takes-so, boot-source}
 use borrow.Author.Needs.{needs}
 use Rattle.lut.proofs.reuse.takes.Statement.{statement}
 use Rattle.lut.proofs.reuse.takes.Tie as tie
-use Rattle.lut.proofs.reuse.takes.Reads as reads
-use Rattle.lut.proofs.reuse.takes.Lts as lts
-use Rattle.lut.proofs.node.kind_of.Reads as kind-of-reads
-use Rattle.lut.proofs.node.source_of.Reads as source-of-reads
-use Rattle.lut.proofs.store.is_record.Reads as is-record-reads
 
 is-boot : (c : tie.Else1) → kindOf (nodeOf (c .before .before .args .nodes .now) (c .before .before .args .i)) ≡ 2
 is-boot c = omega (arith, c .before .kind-of .ensures)

@@ -9,9 +9,6 @@ use Rattle.lut.specs.Store.{find-here, find-on, find-end}
 use Rattle.lut.specs.View.{nodeIn, storeOf}
 use Rattle.lut.proofs.store.find.Statement.{statement}
 use Rattle.lut.proofs.store.find.Tie as tie
-use Rattle.lut.proofs.store.find.Reads as reads
-use Rattle.lut.proofs.store.find.Lts as lts
-use Rattle.lut.proofs.store.is_record.Reads as is-record-reads
 
 abbrev Inv-loop : tie.InvT-loop
 Inv-loop nodes count bytes i₀ i = (i ≤ count) × (i + numberOf (nodeIn bytes) (drop i (storeOf nodes count)) ≡ numberOf (nodeIn bytes) (storeOf nodes count))

@@ -3,10 +3,6 @@ use Rattle.lut.specs.Store.{interns-old, interns-new}
 use borrow.Author.Needs.{needs}
 use Rattle.lut.proofs.store.intern.Statement.{statement}
 use Rattle.lut.proofs.store.intern.Tie as tie
-use Rattle.lut.proofs.store.intern.Reads as reads
-use Rattle.lut.proofs.store.intern.Lts as lts
-use Rattle.lut.proofs.store.find.Reads as find-reads
-use Rattle.lut.proofs.store.put_record.Reads as put-record-reads
 
 -- src/store.rt:53:9
 find-requires : tie.Need-find-requires

@@ -11,9 +11,6 @@ use Rattle.lut.specs.View.{recordAt}
 use borrow.Author.Needs.{needs}
 use Rattle.lut.proofs.store.is_record.Statement.{statement}
 use Rattle.lut.proofs.store.is_record.Tie as tie
-use Rattle.lut.proofs.store.is_record.Reads as reads
-use Rattle.lut.proofs.store.is_record.Lts as lts
-use Rattle.text.proofs.is_same.Reads as is-same-reads
 
 -- src/store.rt:19:40
 mul-is-same : tie.Need-mul-is-same

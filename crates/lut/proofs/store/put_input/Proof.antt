@@ -6,10 +6,6 @@ use Rattle.lut.specs.View.{Fine}
 use borrow.Author.Needs.{needs}
 use Rattle.lut.proofs.store.put_input.Statement.{statement}
 use Rattle.lut.proofs.store.put_input.Tie as tie
-use Rattle.lut.proofs.store.put_input.Reads as reads
-use Rattle.lut.proofs.store.put_input.Lts as lts
-use Rattle.lut.proofs.record.input.Reads as input-reads
-use Rattle.lut.proofs.store.put_record.Reads as put-record-reads
 
 -- src/store.rt:73:17
 input-requires : tie.Need-input-requires

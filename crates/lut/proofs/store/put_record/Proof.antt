@@ -8,8 +8,6 @@ use Rattle.lut.specs.Records.{paste-turn}
 use Rattle.lut.specs.View.{putAt}
 use Rattle.lut.proofs.store.put_record.Statement.{statement}
 use Rattle.lut.proofs.store.put_record.Tie as tie
-use Rattle.lut.proofs.store.put_record.Reads as reads
-use Rattle.lut.proofs.store.put_record.Lts as lts
 
 abbrev Inv-loop : tie.InvT-loop
 Inv-loop nodes₀ i bytes k₀ nodes k = (k ≤ 38) × (nodes ≡ paste nodes₀ (38 * i) bytes k)

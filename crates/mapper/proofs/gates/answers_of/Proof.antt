@@ -2,8 +2,6 @@ use Rattle.mapper.specs.Gates.{fourOf}
 use borrow.Author.Needs.{needs}
 use Rattle.mapper.proofs.gates.answers_of.Statement.{statement}
 use Rattle.mapper.proofs.gates.answers_of.Tie as tie
-use Rattle.mapper.proofs.gates.answers_of.Reads as reads
-use Rattle.mapper.proofs.gates.answers_of.Lts as lts
 
 -- src/gates.rt:109:15
 mul-t3 : tie.Need-mul-t3

@@ -2,9 +2,6 @@ use Rattle.mapper.specs.Gates.{forced-yes, forced-no, boots-self}
 use borrow.Author.Needs.{needs}
 use Rattle.mapper.proofs.gates.forced.Statement.{statement}
 use Rattle.mapper.proofs.gates.forced.Tie as tie
-use Rattle.mapper.proofs.gates.forced.Reads as reads
-use Rattle.mapper.proofs.gates.forced.Lts as lts
-use Rattle.mapper.proofs.boot.bootstrap_cone.Reads as bootstrap-cone-reads
 
 -- src/gates.rt:148:9
 bootstrap-cone-requires : tie.Need-bootstrap-cone-requires

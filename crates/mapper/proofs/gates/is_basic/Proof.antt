@@ -2,8 +2,6 @@ use Rattle.rules.specs.Mapper.{isBasic}
 use borrow.Author.Needs.{needs}
 use Rattle.mapper.proofs.gates.is_basic.Statement.{statement}
 use Rattle.mapper.proofs.gates.is_basic.Tie as tie
-use Rattle.mapper.proofs.gates.is_basic.Reads as reads
-use Rattle.mapper.proofs.gates.is_basic.Lts as lts
 
 -- src/gates.rt:39:26
 enum-told : tie.Need-enum-told

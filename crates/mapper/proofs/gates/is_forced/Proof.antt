@@ -2,10 +2,6 @@ use Rattle.mapper.specs.Gates.{forced-basic, forced-many, forced-named}
 use borrow.Author.Needs.{needs}
 use Rattle.mapper.proofs.gates.is_forced.Statement.{statement}
 use Rattle.mapper.proofs.gates.is_forced.Tie as tie
-use Rattle.mapper.proofs.gates.is_forced.Reads as reads
-use Rattle.mapper.proofs.gates.is_forced.Lts as lts
-use Rattle.mapper.proofs.gates.is_basic.Reads as is-basic-reads
-use Rattle.mapper.proofs.gates.is_output.Reads as is-output-reads
 
 -- src/gates.rt:86:8
 is-basic-requires : tie.Need-is-basic-requires

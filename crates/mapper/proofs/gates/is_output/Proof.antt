@@ -7,8 +7,6 @@ use borrow.Author.Needs.{needs}
 use Rattle.mapper.specs.Gates.{named-here, named-nowhere, others-too}
 use Rattle.mapper.proofs.gates.is_output.Statement.{statement}
 use Rattle.mapper.proofs.gates.is_output.Tie as tie
-use Rattle.mapper.proofs.gates.is_output.Reads as reads
-use Rattle.mapper.proofs.gates.is_output.Lts as lts
 
 abbrev Inv-loop : tie.InvT-loop
 Inv-loop ports outs id i₀ i = (i ≤ outs) × ((j : ℕ) → j < i → getD ports (64 + 3 * j + 2) 0 ≡ id → ⊥)

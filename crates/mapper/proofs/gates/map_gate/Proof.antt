@@ -1,18 +1,11 @@
 use mathlib.Core.Path.{refl, sym, ap, subst, _∙_}
 use Rattle.cone.specs.Wires.{coneIn}
-use Rattle.mapper.specs.View.{Stands}
+use Rattle.bootstrap.specs.View.{Stands}
 use Rattle.mapper.specs.Wired.{SlotIn, slot-below}
 use Rattle.mapper.specs.Gates.{few-gate, other-slot, two-bits, not-255, unary-is, two-is, four-bits}
 use borrow.Author.Needs.{needs}
 use Rattle.mapper.proofs.gates.map_gate.Statement.{statement}
 use Rattle.mapper.proofs.gates.map_gate.Tie as tie
-use Rattle.mapper.proofs.gates.map_gate.Reads as reads
-use Rattle.mapper.proofs.gates.map_gate.Lts as lts
-use Rattle.cone.proofs.wires.cone_at.Reads as cone-at-reads
-use Rattle.mapper.proofs.gate.map_two.Reads as map-two-reads
-use Rattle.mapper.proofs.gate.map_unary.Reads as map-unary-reads
-use Rattle.mapper.proofs.gates.answers_of.Reads as answers-of-reads
-use Rattle.mapper.proofs.gates.slot_of.Reads as slot-of-reads
 
 -- src/gates.rt:130:28
 mul-slot-of : tie.Need-mul-slot-of

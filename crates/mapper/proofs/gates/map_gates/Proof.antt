@@ -10,10 +10,6 @@ use Rattle.circuit.specs.View.{gatesIn, outputsIn}
 use Rattle.mapper.specs.Gates.{gates-refused, gates-step, gates-done, works-none, works-done, walk-start, wired-at}
 use Rattle.mapper.proofs.gates.map_gates.Statement.{statement}
 use Rattle.mapper.proofs.gates.map_gates.Tie as tie
-use Rattle.mapper.proofs.gates.map_gates.Reads as reads
-use Rattle.mapper.proofs.gates.map_gates.Lts as lts
-use Rattle.mapper.proofs.gates.is_forced.Reads as is-forced-reads
-use Rattle.mapper.proofs.gates.map_one.Reads as map-one-reads
 
 abbrev Inv-loop : tie.InvT-loop
 Inv-loop s nodes₀ wires₀ gates ports inputs n outs k₀ i₀ nodes wires k i =

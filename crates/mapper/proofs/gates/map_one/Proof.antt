@@ -4,12 +4,6 @@ use Rattle.mapper.specs.Gates.{gate-refused, boot-refused, gate-done, ga
 use borrow.Author.Needs.{needs}
 use Rattle.mapper.proofs.gates.map_one.Statement.{statement}
 use Rattle.mapper.proofs.gates.map_one.Tie as tie
-use Rattle.mapper.proofs.gates.map_one.Reads as reads
-use Rattle.mapper.proofs.gates.map_one.Lts as lts
-use Rattle.mapper.proofs.gates.forced.Reads as forced-reads
-use Rattle.mapper.proofs.gates.map_gate.Reads as map-gate-reads
-use Rattle.mapper.proofs.gates.refused.Reads as refused-reads
-use Rattle.mapper.proofs.gates.settle_gate.Reads as settle-gate-reads
 
 -- src/gates.rt:239:9
 map-gate-requires : tie.Need-map-gate-requires

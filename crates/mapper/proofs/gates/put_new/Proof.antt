@@ -5,9 +5,6 @@ use borrow.Author.Tests.{not-true, not-false}
 use borrow.Author.Needs.{needs}
 use Rattle.mapper.proofs.gates.put_new.Statement.{statement}
 use Rattle.mapper.proofs.gates.put_new.Tie as tie
-use Rattle.mapper.proofs.gates.put_new.Reads as reads
-use Rattle.mapper.proofs.gates.put_new.Lts as lts
-use Rattle.cone.proofs.wires.put_cone.Reads as put-cone-reads
 
 -- src/gates.rt:163:9
 returns : tie.Need-returns

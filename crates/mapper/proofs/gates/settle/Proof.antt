@@ -4,10 +4,6 @@ use Rattle.mapper.specs.Wired.{renewed-long}
 use borrow.Author.Needs.{needs}
 use Rattle.mapper.proofs.gates.settle.Statement.{statement}
 use Rattle.mapper.proofs.gates.settle.Tie as tie
-use Rattle.mapper.proofs.gates.settle.Reads as reads
-use Rattle.mapper.proofs.gates.settle.Lts as lts
-use Rattle.cone.proofs.wires.put_cone.Reads as put-cone-reads
-use Rattle.mapper.proofs.gates.put_new.Reads as put-new-reads
 
 -- src/gates.rt:185:5
 put-new-requires : tie.Need-put-new-requires

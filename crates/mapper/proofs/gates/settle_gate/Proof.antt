@@ -2,10 +2,6 @@ use Rattle.mapper.specs.Wired.{settled-at}
 use borrow.Author.Needs.{needs}
 use Rattle.mapper.proofs.gates.settle_gate.Statement.{statement}
 use Rattle.mapper.proofs.gates.settle_gate.Tie as tie
-use Rattle.mapper.proofs.gates.settle_gate.Reads as reads
-use Rattle.mapper.proofs.gates.settle_gate.Lts as lts
-use Rattle.mapper.proofs.gates.settle.Reads as settle-reads
-use Rattle.mapper.proofs.gates.slot_of.Reads as slot-of-reads
 
 -- src/gates.rt:209:28
 mul-slot-of : tie.Need-mul-slot-of

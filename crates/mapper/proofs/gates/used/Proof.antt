@@ -3,9 +3,6 @@ use Rattle.mapper.specs.Gates.{used-other, used-equal, used-unequal}
 use borrow.Author.Needs.{needs}
 use Rattle.mapper.proofs.gates.used.Statement.{statement}
 use Rattle.mapper.proofs.gates.used.Tie as tie
-use Rattle.mapper.proofs.gates.used.Reads as reads
-use Rattle.mapper.proofs.gates.used.Lts as lts
-use Rattle.mapper.proofs.gates.is_basic.Reads as is-basic-reads
 
 -- src/gates.rt:50:9
 is-basic-requires : tie.Need-is-basic-requires

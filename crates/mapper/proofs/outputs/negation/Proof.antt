@@ -4,7 +4,7 @@ use Rattle.lut.specs.Store.{Interns, interns-node}
 use Rattle.lut.specs.View.{term}
 use mathlib.Core.List.{[], _∷_}
 use lib.IntN.{pos, negsuc}
-use Rattle.mapper.specs.Boot.{not-refused}
+use Rattle.bootstrap.specs.Boot.{not-refused}
 use Rattle.mapper.specs.Outputs.{negated-good, negated-is, node-signal, node-finishes}
 use Rattle.mapper.proofs.outputs.negation.Statement.{statement}
 use Rattle.mapper.proofs.outputs.negation.Tie as tie

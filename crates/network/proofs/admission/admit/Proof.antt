@@ -6,13 +6,6 @@ use Prim.Native.Nat.{_-_}
 use mathlib.Core.Path.{refl}
 use Rattle.network.proofs.admission.admit.Statement.{statement}
 use Rattle.network.proofs.admission.admit.Tie as tie
-use Rattle.network.proofs.admission.admit.Reads as reads
-use Rattle.network.proofs.admission.admit.Lts as lts
-use Rattle.network.proofs.admission.admit_line.Reads as admit-line-reads
-use Rattle.network.proofs.admission.stats_of.Reads as stats-of-reads
-use Rattle.network.proofs.seen.no_lines.Reads as no-lines-reads
-use Rattle.network.proofs.tally.no_nodes.Reads as no-nodes-reads
-use Rattle.text.proofs.line_end.Reads as line-end-reads
 
 abbrev Inv-loop : tie.InvT-loop
 Inv-loop text k₀ t₀ line₀ at₀ k t line at = Admitting text k t line at

@@ -4,12 +4,6 @@ use mathlib.Core.Path.{sym, _∙_}
 use borrow.Author.Needs.{needs}
 use Rattle.network.proofs.admission.admit_line.Statement.{statement}
 use Rattle.network.proofs.admission.admit_line.Tie as tie
-use Rattle.network.proofs.admission.admit_line.Reads as reads
-use Rattle.network.proofs.admission.admit_line.Lts as lts
-use Rattle.network.proofs.seen.line_number.Reads as line-number-reads
-use Rattle.network.proofs.seen.with_line.Reads as with-line-reads
-use Rattle.network.proofs.tally.count_line.Reads as count-line-reads
-use Rattle.network_text.proofs.read_line.Reads as read-line-reads
 
 -- src/admission.rt:24:9
 read-line-requires : tie.Need-read-line-requires

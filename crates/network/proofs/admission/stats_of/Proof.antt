@@ -2,8 +2,6 @@ use Rattle.network.specs.Step.{statsFrom}
 use mathlib.Core.Path.{refl}
 use Rattle.network.proofs.admission.stats_of.Statement.{statement}
 use Rattle.network.proofs.admission.stats_of.Tie as tie
-use Rattle.network.proofs.admission.stats_of.Reads as reads
-use Rattle.network.proofs.admission.stats_of.Lts as lts
 
 -- src/admission.rt:42:1
 returns : tie.Need-returns

@@ -2,8 +2,6 @@ use mir.Facts.{toZ-ofZ}
 use Rattle.network.specs.Bounds.{least-below, least-above, greatest-below, greatest-above}
 use Rattle.network.proofs.bounds.extreme_part.Statement.{statement}
 use Rattle.network.proofs.bounds.extreme_part.Tie as tie
-use Rattle.network.proofs.bounds.extreme_part.Reads as reads
-use Rattle.network.proofs.bounds.extreme_part.Lts as lts
 
 returns : tie.Need-returns
 returns c =

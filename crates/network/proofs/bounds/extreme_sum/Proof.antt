@@ -12,9 +12,6 @@ use Rattle.network_text.specs.Terms.{termsOf, termsAt}
 use Rattle.network.specs.Bounds.{extremeSum, extremePart, sum-next, sum-end, turn-size}
 use Rattle.network.proofs.bounds.extreme_sum.Statement.{statement}
 use Rattle.network.proofs.bounds.extreme_sum.Tie as tie
-use Rattle.network.proofs.bounds.extreme_sum.Reads as reads
-use Rattle.network.proofs.bounds.extreme_sum.Lts as lts
-use Rattle.network.proofs.bounds.extreme_part.Reads as extreme-part-reads
 
 abbrev Inv-loop : tie.InvT-loop
 Inv-loop low lin sum₀ i₀ sum i = (i ≤ lin .n) × (natAbs (toZ w64 sum) ≤ 31 + 31 * i) × (extremeSum low (lin .constant) (termsOf lin) ≡ extremeSum low (toZ w64 sum) (termsAt lin i))

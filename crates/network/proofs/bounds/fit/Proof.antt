@@ -7,8 +7,6 @@ use lib.IntN.{pos, _+ℤ_}
 use native.Mathlib.Omega.{arith}
 use Rattle.network.proofs.bounds.fit.Statement.{statement}
 use Rattle.network.proofs.bounds.fit.Tie as tie
-use Rattle.network.proofs.bounds.fit.Reads as reads
-use Rattle.network.proofs.bounds.fit.Lts as lts
 
 next-fits : (c : tie.Else2) → SFits w64 (c .before .before .args .high +ℤ pos 1)
 next-fits c = fits-abs _ (omega (arith, abs-add (c .before .before .args .high) (pos 1), c .before .before .pre))

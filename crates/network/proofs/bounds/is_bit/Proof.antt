@@ -3,9 +3,6 @@ use Rattle.laws.specs.Integer.{read-back}
 use borrow.Author.Needs.{needs}
 use Rattle.network.proofs.bounds.is_bit.Statement.{statement}
 use Rattle.network.proofs.bounds.is_bit.Tie as tie
-use Rattle.network.proofs.bounds.is_bit.Reads as reads
-use Rattle.network.proofs.bounds.is_bit.Lts as lts
-use Rattle.network.proofs.bounds.extreme_sum.Reads as extreme-sum-reads
 
 -- src/bounds.rt:82:8
 extreme-sum-requires : tie.Need-extreme-sum-requires

@@ -11,9 +11,6 @@ use Rattle.network_text.specs.Terms.{termsOf, termsAt, terms-start}
 use Rattle.network.specs.Bounds.{coefNorm, norm-next, norm-end}
 use Rattle.network.proofs.bounds.norm_of.Statement.{statement}
 use Rattle.network.proofs.bounds.norm_of.Tie as tie
-use Rattle.network.proofs.bounds.norm_of.Reads as reads
-use Rattle.network.proofs.bounds.norm_of.Lts as lts
-use Rattle.network.proofs.bounds.square.Reads as square-reads
 
 abbrev Inv-loop : tie.InvT-loop
 Inv-loop lin sum₀ i₀ sum i = (i ≤ lin .n) × (sum ≤ 961 * i) × (sum + coefNorm (termsAt lin i) ≡ coefNorm (termsOf lin))

@@ -3,10 +3,6 @@ use Rattle.laws.specs.Integer.{read-back}
 use borrow.Author.Needs.{needs}
 use Rattle.network.proofs.bounds.table_fit.Statement.{statement}
 use Rattle.network.proofs.bounds.table_fit.Tie as tie
-use Rattle.network.proofs.bounds.table_fit.Reads as reads
-use Rattle.network.proofs.bounds.table_fit.Lts as lts
-use Rattle.network.proofs.bounds.extreme_sum.Reads as extreme-sum-reads
-use Rattle.network.proofs.bounds.fit.Reads as fit-reads
 
 -- src/bounds.rt:74:9
 extreme-sum-requires : tie.Need-extreme-sum-requires

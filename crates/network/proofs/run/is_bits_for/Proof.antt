@@ -6,8 +6,6 @@ use Prim.Native.Nat.{_-_, _≤_}
 use mathlib.Core.Path.{_≡_, _∙_}
 use Rattle.network.proofs.run.is_bits_for.Statement.{statement}
 use Rattle.network.proofs.run.is_bits_for.Tie as tie
-use Rattle.network.proofs.run.is_bits_for.Reads as reads
-use Rattle.network.proofs.run.is_bits_for.Lts as lts
 
 abbrev Inv-loop : tie.InvT-loop
 Inv-loop n bits i₀ i = (i ≤ length bits) × (allBits bits ≡ allBits (drop i bits))

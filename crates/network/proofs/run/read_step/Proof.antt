@@ -4,12 +4,6 @@ use mathlib.Core.Path.{sym, _∙_}
 use borrow.Author.Needs.{needs}
 use Rattle.network.proofs.run.read_step.Statement.{statement}
 use Rattle.network.proofs.run.read_step.Tie as tie
-use Rattle.network.proofs.run.read_step.Reads as reads
-use Rattle.network.proofs.run.read_step.Lts as lts
-use Rattle.network.proofs.seen.line_number.Reads as line-number-reads
-use Rattle.network.proofs.seen.with_line.Reads as with-line-reads
-use Rattle.network.proofs.value.run_line.Reads as run-line-reads
-use Rattle.network_text.proofs.read_line.Reads as read-line-reads
 
 -- src/run.rt:24:9
 read-line-requires : tie.Need-read-line-requires

@@ -2,8 +2,6 @@ use Rattle.network.specs.Run.{readableRun}
 use mathlib.Core.Path.{refl}
 use Rattle.network.proofs.run.readable.Statement.{statement}
 use Rattle.network.proofs.run.readable.Tie as tie
-use Rattle.network.proofs.run.readable.Reads as reads
-use Rattle.network.proofs.run.readable.Lts as lts
 
 -- src/run.rt:65:1
 returns : tie.Need-returns

@@ -3,11 +3,6 @@ use borrow.Author.Tests.{not-true, not-false}
 use borrow.Author.Needs.{needs}
 use Rattle.network.proofs.run.run_network.Statement.{statement}
 use Rattle.network.proofs.run.run_network.Tie as tie
-use Rattle.network.proofs.run.run_network.Reads as reads
-use Rattle.network.proofs.run.run_network.Lts as lts
-use Rattle.network.proofs.run.is_bits_for.Reads as is-bits-for-reads
-use Rattle.network.proofs.run.run_text.Reads as run-text-reads
-use Rattle.network.proofs.run.write_values.Reads as write-values-reads
 
 -- src/run.rt:138:9
 run-text-requires : tie.Need-run-text-requires

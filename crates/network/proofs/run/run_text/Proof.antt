@@ -7,14 +7,6 @@ use Prim.Native.Nat.{_-_}
 use mathlib.Core.Path.{refl}
 use Rattle.network.proofs.run.run_text.Statement.{statement}
 use Rattle.network.proofs.run.run_text.Tie as tie
-use Rattle.network.proofs.run.run_text.Reads as reads
-use Rattle.network.proofs.run.run_text.Lts as lts
-use Rattle.network.proofs.run.read_step.Reads as read-step-reads
-use Rattle.network.proofs.run.readable.Reads as readable-reads
-use Rattle.network.proofs.run.unreadable.Reads as unreadable-reads
-use Rattle.network.proofs.seen.no_lines.Reads as no-lines-reads
-use Rattle.network.proofs.value.no_values.Reads as no-values-reads
-use Rattle.text.proofs.line_end.Reads as line-end-reads
 
 abbrev Inv-loop : tie.InvT-loop
 Inv-loop text bits k₀ w₀ line₀ at₀ k w line at = Running text bits k w line at

@@ -2,8 +2,6 @@ use Rattle.network.specs.Run.{unreadableRun}
 use mathlib.Core.Path.{refl}
 use Rattle.network.proofs.run.unreadable.Statement.{statement}
 use Rattle.network.proofs.run.unreadable.Tie as tie
-use Rattle.network.proofs.run.unreadable.Reads as reads
-use Rattle.network.proofs.run.unreadable.Lts as lts
 
 -- src/run.rt:52:1
 returns : tie.Need-returns

@@ -9,8 +9,6 @@ use Prim.Native.Nat.{_-_, _≤_}
 use mathlib.Core.Path.{_≡_, refl, sym}
 use Rattle.network.proofs.run.write_values.Statement.{statement}
 use Rattle.network.proofs.run.write_values.Tie as tie
-use Rattle.network.proofs.run.write_values.Reads as reads
-use Rattle.network.proofs.run.write_values.Lts as lts
 
 abbrev Inv-loop : tie.InvT-loop
 Inv-loop outs n values₀ i₀ values i = (i ≤ n) × (length values ≡ length values₀) × (values ≡ front (take n outs) values₀ i)

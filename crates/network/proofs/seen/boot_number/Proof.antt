@@ -2,10 +2,6 @@ use Rattle.network.specs.Seen.{boot-met, boot-unknown, boot-read, boot-m
 use borrow.Author.Needs.{needs}
 use Rattle.network.proofs.seen.boot_number.Statement.{statement}
 use Rattle.network.proofs.seen.boot_number.Tie as tie
-use Rattle.network.proofs.seen.boot_number.Reads as reads
-use Rattle.network.proofs.seen.boot_number.Lts as lts
-use Rattle.network.proofs.seen.node_number.Reads as node-number-reads
-use Rattle.network.proofs.table.is_rotatable.Reads as is-rotatable-reads
 
 -- src/seen.rt:159:9
 node-number-requires : tie.Need-node-number-requires

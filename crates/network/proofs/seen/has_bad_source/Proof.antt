@@ -6,8 +6,6 @@ use Rattle.network_text.specs.Terms.{termsOf, termsAt}
 use Rattle.network.specs.Seen.{badSource, source-start, source-end, source-unknown, source-linear, source-next}
 use Rattle.network.proofs.seen.has_bad_source.Statement.{statement}
 use Rattle.network.proofs.seen.has_bad_source.Tie as tie
-use Rattle.network.proofs.seen.has_bad_source.Reads as reads
-use Rattle.network.proofs.seen.has_bad_source.Lts as lts
 
 abbrev Inv-loop : tie.InvT-loop
 Inv-loop linear count lin i₀ i = (i ≤ lin .n) × (badSource linear count (termsOf lin) ≡ badSource linear count (termsAt lin i))

@@ -3,8 +3,6 @@ use Rattle.text.specs.Judged.{lowest}
 use Rattle.network.specs.Seen.{inConditions}
 use Rattle.network.proofs.seen.in_number.Statement.{statement}
 use Rattle.network.proofs.seen.in_number.Tie as tie
-use Rattle.network.proofs.seen.in_number.Reads as reads
-use Rattle.network.proofs.seen.in_number.Lts as lts
 
 -- src/seen.rt:62:9
 returns : tie.Need-returns

@@ -2,9 +2,6 @@ use Rattle.network.specs.Seen.{repeated, namesOf}
 use borrow.Author.Needs.{needs}
 use Rattle.network.proofs.seen.is_known_name.Statement.{statement}
 use Rattle.network.proofs.seen.is_known_name.Tie as tie
-use Rattle.network.proofs.seen.is_known_name.Reads as reads
-use Rattle.network.proofs.seen.is_known_name.Lts as lts
-use Rattle.text.proofs.is_listed.Reads as is-listed-reads
 
 -- src/seen.rt:81:5
 is-listed-requires : tie.Need-is-listed-requires

@@ -2,8 +2,6 @@ use Rattle.network.specs.Seen.{over-none, over-most}
 use borrow.Author.Needs.{needs}
 use Rattle.network.proofs.seen.is_over.Statement.{statement}
 use Rattle.network.proofs.seen.is_over.Tie as tie
-use Rattle.network.proofs.seen.is_over.Reads as reads
-use Rattle.network.proofs.seen.is_over.Lts as lts
 
 -- src/seen.rt:129:29
 enum-told : tie.Need-enum-told

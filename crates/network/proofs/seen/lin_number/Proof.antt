@@ -2,12 +2,6 @@ use Rattle.network.specs.Seen.{lin-met, lin-source, lin-read, lin-over, 
 use borrow.Author.Needs.{needs}
 use Rattle.network.proofs.seen.lin_number.Statement.{statement}
 use Rattle.network.proofs.seen.lin_number.Tie as tie
-use Rattle.network.proofs.seen.lin_number.Reads as reads
-use Rattle.network.proofs.seen.lin_number.Lts as lts
-use Rattle.network.proofs.bounds.norm_of.Reads as norm-of-reads
-use Rattle.network.proofs.seen.has_bad_source.Reads as has-bad-source-reads
-use Rattle.network.proofs.seen.is_over.Reads as is-over-reads
-use Rattle.network.proofs.seen.node_number.Reads as node-number-reads
 
 -- src/seen.rt:139:9
 node-number-requires : tie.Need-node-number-requires

@@ -2,12 +2,6 @@ use Rattle.network.specs.Seen.{named-within, table-within, line-bad, lin
 use borrow.Author.Needs.{needs}
 use Rattle.network.proofs.seen.line_number.Statement.{statement}
 use Rattle.network.proofs.seen.line_number.Tie as tie
-use Rattle.network.proofs.seen.line_number.Reads as reads
-use Rattle.network.proofs.seen.line_number.Lts as lts
-use Rattle.network.proofs.seen.boot_number.Reads as boot-number-reads
-use Rattle.network.proofs.seen.lin_number.Reads as lin-number-reads
-use Rattle.network.proofs.seen.name_number.Reads as name-number-reads
-use Rattle.network.proofs.seen.out_number.Reads as out-number-reads
 
 -- src/seen.rt:218:22
 enum-told : tie.Need-enum-told

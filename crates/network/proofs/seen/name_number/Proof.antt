@@ -2,11 +2,6 @@ use Rattle.network.specs.Seen.{in-name}
 use borrow.Author.Needs.{needs}
 use Rattle.network.proofs.seen.name_number.Statement.{statement}
 use Rattle.network.proofs.seen.name_number.Tie as tie
-use Rattle.network.proofs.seen.name_number.Reads as reads
-use Rattle.network.proofs.seen.name_number.Lts as lts
-use Rattle.network.proofs.seen.in_number.Reads as in-number-reads
-use Rattle.network.proofs.seen.is_known_name.Reads as is-known-name-reads
-use Rattle.text.proofs.name_of.Reads as name-of-reads
 
 -- src/seen.rt:89:73
 name-of-requires : tie.Need-name-of-requires

@@ -2,8 +2,6 @@ use mathlib.Core.Path.{refl}
 use Rattle.network.specs.Seen.{noLines}
 use Rattle.network.proofs.seen.no_lines.Statement.{statement}
 use Rattle.network.proofs.seen.no_lines.Tie as tie
-use Rattle.network.proofs.seen.no_lines.Reads as reads
-use Rattle.network.proofs.seen.no_lines.Lts as lts
 
 -- src/seen.rt:35:1
 returns : tie.Need-returns

@@ -3,8 +3,6 @@ use Rattle.text.specs.Judged.{lowest}
 use Rattle.network.specs.Seen.{nodeConditions}
 use Rattle.network.proofs.seen.node_number.Statement.{statement}
 use Rattle.network.proofs.seen.node_number.Tie as tie
-use Rattle.network.proofs.seen.node_number.Reads as reads
-use Rattle.network.proofs.seen.node_number.Lts as lts
 
 -- src/seen.rt:97:9
 returns : tie.Need-returns

@@ -2,9 +2,6 @@ use Rattle.network.specs.Seen.{out-unstarted, out-full, out-wire}
 use borrow.Author.Needs.{needs}
 use Rattle.network.proofs.seen.out_number.Statement.{statement}
 use Rattle.network.proofs.seen.out_number.Tie as tie
-use Rattle.network.proofs.seen.out_number.Reads as reads
-use Rattle.network.proofs.seen.out_number.Lts as lts
-use Rattle.network.proofs.seen.wire_number.Reads as wire-number-reads
 
 -- src/seen.rt:199:9
 returns : tie.Need-returns

@@ -2,8 +2,6 @@ use Rattle.network.specs.Seen.{wire-constant, wire-unknown, wire-read, w
 use borrow.Author.Needs.{needs}
 use Rattle.network.proofs.seen.wire_number.Statement.{statement}
 use Rattle.network.proofs.seen.wire_number.Tie as tie
-use Rattle.network.proofs.seen.wire_number.Reads as reads
-use Rattle.network.proofs.seen.wire_number.Lts as lts
 
 -- src/seen.rt:182:20
 enum-known-w : tie.Need-enum-known-w

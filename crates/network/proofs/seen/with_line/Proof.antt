@@ -2,15 +2,6 @@ use Rattle.network.specs.Seen.{named-within, in-room, lin-room, boot-roo
 use borrow.Author.Needs.{needs}
 use Rattle.network.proofs.seen.with_line.Statement.{statement}
 use Rattle.network.proofs.seen.with_line.Tie as tie
-use Rattle.network.proofs.seen.with_line.Reads as reads
-use Rattle.network.proofs.seen.with_line.Lts as lts
-use Rattle.network.proofs.bounds.is_bit.Reads as is-bit-reads
-use Rattle.network.proofs.bounds.table_fit.Reads as table-fit-reads
-use Rattle.network.proofs.seen.with_name.Reads as with-name-reads
-use Rattle.network.proofs.seen.with_net.Reads as with-net-reads
-use Rattle.network.proofs.seen.with_node.Reads as with-node-reads
-use Rattle.network.proofs.seen.with_output.Reads as with-output-reads
-use Rattle.text.proofs.name_of.Reads as name-of-reads
 
 -- src/seen.rt:294:22
 enum-told : tie.Need-enum-told

@@ -3,8 +3,6 @@ use Rattle.network.specs.Seen.{withName}
 use borrow.Author.Needs.{needs}
 use Rattle.network.proofs.seen.with_name.Statement.{statement}
 use Rattle.network.proofs.seen.with_name.Tie as tie
-use Rattle.network.proofs.seen.with_name.Reads as reads
-use Rattle.network.proofs.seen.with_name.Lts as lts
 
 -- src/seen.rt:270:5
 mul-name : tie.Need-mul-name

@@ -2,8 +2,6 @@ use mathlib.Core.Path.{refl}
 use Rattle.network.specs.Seen.{withNet}
 use Rattle.network.proofs.seen.with_net.Statement.{statement}
 use Rattle.network.proofs.seen.with_net.Tie as tie
-use Rattle.network.proofs.seen.with_net.Reads as reads
-use Rattle.network.proofs.seen.with_net.Lts as lts
 
 -- src/seen.rt:227:1
 returns : tie.Need-returns

@@ -3,8 +3,6 @@ use Rattle.network.specs.Seen.{withNode}
 use borrow.Author.Needs.{needs}
 use Rattle.network.proofs.seen.with_node.Statement.{statement}
 use Rattle.network.proofs.seen.with_node.Tie as tie
-use Rattle.network.proofs.seen.with_node.Reads as reads
-use Rattle.network.proofs.seen.with_node.Lts as lts
 
 -- src/seen.rt:256:5
 element-write-r : tie.Need-element-write-r

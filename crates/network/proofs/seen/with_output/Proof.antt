@@ -3,8 +3,6 @@ use Rattle.network.specs.Seen.{withOutput}
 use borrow.Author.Needs.{needs}
 use Rattle.network.proofs.seen.with_output.Statement.{statement}
 use Rattle.network.proofs.seen.with_output.Tie as tie
-use Rattle.network.proofs.seen.with_output.Reads as reads
-use Rattle.network.proofs.seen.with_output.Lts as lts
 
 -- src/seen.rt:280:17
 add-r : tie.Need-add-r

@@ -3,8 +3,6 @@ use Rattle.laws.specs.Tests.{tests}
 use Rattle.network.specs.Table.{bitOf}
 use Rattle.network.proofs.table.bit_of.Statement.{statement}
 use Rattle.network.proofs.table.bit_of.Tie as tie
-use Rattle.network.proofs.table.bit_of.Reads as reads
-use Rattle.network.proofs.table.bit_of.Lts as lts
 
 -- src/table.rt:10:1
 returns : tie.Need-returns

@@ -5,10 +5,6 @@ use Rattle.network.specs.Table.{lent}
 use borrow.Author.Needs.{needs}
 use Rattle.network.proofs.table.boot_at.Statement.{statement}
 use Rattle.network.proofs.table.boot_at.Tie as tie
-use Rattle.network.proofs.table.boot_at.Reads as reads
-use Rattle.network.proofs.table.boot_at.Lts as lts
-use Rattle.network.proofs.table.boot_value.Reads as boot-value-reads
-use Rattle.network.proofs.table.table_of.Reads as table-of-reads
 
 -- src/table.rt:120:17
 table-of-requires : tie.Need-table-of-requires

@@ -6,10 +6,6 @@ use mir.Facts.{toZ-ofZ}
 use borrow.Author.Needs.{needs}
 use Rattle.network.proofs.table.boot_value.Statement.{statement}
 use Rattle.network.proofs.table.boot_value.Tie as tie
-use Rattle.network.proofs.table.boot_value.Reads as reads
-use Rattle.network.proofs.table.boot_value.Lts as lts
-use Rattle.network.proofs.table.rotate.Reads as rotate-reads
-use Rattle.rotation.proofs.is_fbs_table_valid.Reads as is-fbs-table-valid-reads
 
 -- src/table.rt:103:9
 returns : tie.Need-returns

@@ -9,9 +9,6 @@ use native.Mathlib.Omega.{arith}
 use borrow.Author.Needs.{needs}
 use Rattle.network.proofs.table.centre_of.Statement.{statement}
 use Rattle.network.proofs.table.centre_of.Tie as tie
-use Rattle.network.proofs.table.centre_of.Reads as reads
-use Rattle.network.proofs.table.centre_of.Lts as lts
-use Rattle.network.proofs.table.wide.Reads as wide-reads
 
 size : (c : tie.After-wide2) → natAbs (c .before .before .wide .result +ℤ c .wide2 .result) ≤ 510
 size c = add-size (c .before .before .wide .result) (c .wide2 .result) (c .before .before .wide .ensures .1) (c .wide2 .ensures .1)

@@ -10,9 +10,6 @@ use native.Mathlib.Omega.{arith}
 use borrow.Author.Needs.{needs}
 use Rattle.network.proofs.table.coefficient.Statement.{statement}
 use Rattle.network.proofs.table.coefficient.Tie as tie
-use Rattle.network.proofs.table.coefficient.Reads as reads
-use Rattle.network.proofs.table.coefficient.Lts as lts
-use Rattle.network.proofs.table.wide.Reads as wide-reads
 
 -- src/table.rt:69:9
 wide-requires : tie.Need-wide-requires

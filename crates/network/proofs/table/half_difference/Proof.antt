@@ -9,8 +9,6 @@ use borrow.Author.Needs.{needs}
 use native.Mathlib.Omega.{arith}
 use Rattle.network.proofs.table.half_difference.Statement.{statement}
 use Rattle.network.proofs.table.half_difference.Tie as tie
-use Rattle.network.proofs.table.half_difference.Reads as reads
-use Rattle.network.proofs.table.half_difference.Lts as lts
 
 fits : (c : tie.Start) → SFits w64 (c .args .c -ℤ c .args .s)
 fits c = fits-abs _ (omega (arith, sub-size (c .args .c) (c .args .s) (c .pre .0) (c .pre .1)))

@@ -9,8 +9,6 @@ use borrow.Author.Needs.{needs}
 use native.Mathlib.Omega.{arith}
 use Rattle.network.proofs.table.half_sum.Statement.{statement}
 use Rattle.network.proofs.table.half_sum.Tie as tie
-use Rattle.network.proofs.table.half_sum.Reads as reads
-use Rattle.network.proofs.table.half_sum.Lts as lts
 
 fits : (c : tie.Start) → SFits w64 (c .args .c +ℤ c .args .s)
 fits c = fits-abs _ (omega (arith, add-size (c .args .c) (c .args .s) (c .pre .0) (c .pre .1)))

@@ -4,10 +4,6 @@ use mathlib.Core.Path.{ap, _∙_}
 use borrow.Author.Needs.{needs}
 use Rattle.network.proofs.table.is_rotatable.Statement.{statement}
 use Rattle.network.proofs.table.is_rotatable.Tie as tie
-use Rattle.network.proofs.table.is_rotatable.Reads as reads
-use Rattle.network.proofs.table.is_rotatable.Lts as lts
-use Rattle.network.proofs.table.table_of.Reads as table-of-reads
-use Rattle.rotation.proofs.is_fbs_table_valid.Reads as is-fbs-table-valid-reads
 
 -- src/table.rt:35:17
 table-of-requires : tie.Need-table-of-requires

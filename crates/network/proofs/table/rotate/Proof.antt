@@ -3,12 +3,6 @@ use Rattle.network.specs.Table.{rotated-low, rotated-high}
 use borrow.Author.Needs.{needs}
 use Rattle.network.proofs.table.rotate.Statement.{statement}
 use Rattle.network.proofs.table.rotate.Tie as tie
-use Rattle.network.proofs.table.rotate.Reads as reads
-use Rattle.network.proofs.table.rotate.Lts as lts
-use Rattle.network.proofs.table.centre_of.Reads as centre-of-reads
-use Rattle.network.proofs.table.coefficient.Reads as coefficient-reads
-use Rattle.network.proofs.table.half_difference.Reads as half-difference-reads
-use Rattle.network.proofs.table.half_sum.Reads as half-sum-reads
 
 -- src/table.rt:91:9
 centre-of-requires : tie.Need-centre-of-requires

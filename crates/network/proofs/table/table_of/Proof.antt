@@ -8,9 +8,6 @@ use Prim.Native.Nat.{_-_, _≤_}
 use mathlib.Core.Path.{_≡_, refl, sym, _∙_}
 use Rattle.network.proofs.table.table_of.Statement.{statement}
 use Rattle.network.proofs.table.table_of.Tie as tie
-use Rattle.network.proofs.table.table_of.Reads as reads
-use Rattle.network.proofs.table.table_of.Lts as lts
-use Rattle.network.proofs.table.bit_of.Reads as bit-of-reads
 
 abbrev Inv-loop : tie.InvT-loop
 Inv-loop l a e t₀ i₀ t i = (i ≤ e - a) × (length t ≡ 32) × (t ≡ front (bitsOf l a e) t₀ i)

@@ -2,8 +2,6 @@ use Rattle.network.specs.Table.{wide-is}
 use borrow.Author.Needs.{needs}
 use Rattle.network.proofs.table.wide.Statement.{statement}
 use Rattle.network.proofs.table.wide.Tie as tie
-use Rattle.network.proofs.table.wide.Reads as reads
-use Rattle.network.proofs.table.wide.Lts as lts
 
 -- src/table.rt:51:5
 cast-result : tie.Need-cast-result

@@ -2,10 +2,6 @@ use Rattle.network.specs.Tally.{boot-is}
 use borrow.Author.Needs.{needs}
 use Rattle.network.proofs.tally.count_boot.Statement.{statement}
 use Rattle.network.proofs.tally.count_boot.Tie as tie
-use Rattle.network.proofs.tally.count_boot.Reads as reads
-use Rattle.network.proofs.tally.count_boot.Lts as lts
-use Rattle.network.proofs.tally.larger.Reads as larger-reads
-use Rattle.network.proofs.tally.sources_with.Reads as sources-with-reads
 
 -- src/tally.rt:74:15
 add-r : tie.Need-add-r

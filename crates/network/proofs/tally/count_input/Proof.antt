@@ -2,9 +2,6 @@ use Rattle.network.specs.Tally.{input-is}
 use borrow.Author.Needs.{needs}
 use Rattle.network.proofs.tally.count_input.Statement.{statement}
 use Rattle.network.proofs.tally.count_input.Tie as tie
-use Rattle.network.proofs.tally.count_input.Reads as reads
-use Rattle.network.proofs.tally.count_input.Lts as lts
-use Rattle.network.proofs.tally.larger.Reads as larger-reads
 
 -- src/tally.rt:45:5
 larger-requires : tie.Need-larger-requires

@@ -3,11 +3,6 @@ use Rattle.network.specs.Tally.{tally-bad, tally-net, tally-in, tally-li
 use borrow.Author.Needs.{needs}
 use Rattle.network.proofs.tally.count_line.Statement.{statement}
 use Rattle.network.proofs.tally.count_line.Tie as tie
-use Rattle.network.proofs.tally.count_line.Reads as reads
-use Rattle.network.proofs.tally.count_line.Lts as lts
-use Rattle.network.proofs.tally.count_boot.Reads as count-boot-reads
-use Rattle.network.proofs.tally.count_input.Reads as count-input-reads
-use Rattle.network.proofs.tally.count_sum.Reads as count-sum-reads
 
 -- src/tally.rt:92:22
 enum-told : tie.Need-enum-told

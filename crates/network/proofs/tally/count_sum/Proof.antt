@@ -2,10 +2,6 @@ use Rattle.network.specs.Tally.{sum-is}
 use borrow.Author.Needs.{needs}
 use Rattle.network.proofs.tally.count_sum.Statement.{statement}
 use Rattle.network.proofs.tally.count_sum.Tie as tie
-use Rattle.network.proofs.tally.count_sum.Reads as reads
-use Rattle.network.proofs.tally.count_sum.Lts as lts
-use Rattle.network.proofs.bounds.norm_of.Reads as norm-of-reads
-use Rattle.network.proofs.tally.larger.Reads as larger-reads
 
 -- src/tally.rt:55:14
 add-r : tie.Need-add-r

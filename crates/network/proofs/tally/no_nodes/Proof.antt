@@ -2,8 +2,6 @@ use mathlib.Core.Path.{refl}
 use Rattle.network.specs.Tally.{noNodes}
 use Rattle.network.proofs.tally.no_nodes.Statement.{statement}
 use Rattle.network.proofs.tally.no_nodes.Tie as tie
-use Rattle.network.proofs.tally.no_nodes.Reads as reads
-use Rattle.network.proofs.tally.no_nodes.Lts as lts
 
 -- src/tally.rt:22:1
 returns : tie.Need-returns

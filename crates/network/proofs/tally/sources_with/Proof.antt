@@ -1,8 +1,6 @@
 use borrow.Author.Needs.{needs}
 use Rattle.network.proofs.tally.sources_with.Statement.{statement}
 use Rattle.network.proofs.tally.sources_with.Tie as tie
-use Rattle.network.proofs.tally.sources_with.Reads as reads
-use Rattle.network.proofs.tally.sources_with.Lts as lts
 
 -- src/tally.rt:65:33
 add-result : tie.Need-add-result

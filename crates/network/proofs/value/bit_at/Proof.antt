@@ -2,9 +2,6 @@ use Rattle.network.specs.Work.{no-bit}
 use borrow.Author.Needs.{needs}
 use Rattle.network.proofs.value.bit_at.Statement.{statement}
 use Rattle.network.proofs.value.bit_at.Tie as tie
-use Rattle.network.proofs.value.bit_at.Reads as reads
-use Rattle.network.proofs.value.bit_at.Lts as lts
-use Rattle.network.proofs.table.wide.Reads as wide-reads
 
 -- src/value.rt:40:30
 shared-slice-read-wide : tie.Need-shared-slice-read-wide

@@ -3,8 +3,6 @@ use Rattle.network.specs.Work.{byte-below, byte-above, byte-is}
 use mir.Facts.{toZ-ofZ}
 use Rattle.network.proofs.value.byte_of.Statement.{statement}
 use Rattle.network.proofs.value.byte_of.Tie as tie
-use Rattle.network.proofs.value.byte_of.Reads as reads
-use Rattle.network.proofs.value.byte_of.Lts as lts
 
 -- src/value.rt:48:9
 returns : tie.Need-returns

@@ -2,8 +2,6 @@ use Rattle.network.specs.Work.{noValues}
 use mathlib.Core.Path.{refl}
 use Rattle.network.proofs.value.no_values.Statement.{statement}
 use Rattle.network.proofs.value.no_values.Tie as tie
-use Rattle.network.proofs.value.no_values.Reads as reads
-use Rattle.network.proofs.value.no_values.Lts as lts
 
 -- src/value.rt:26:1
 returns : tie.Need-returns

@@ -7,10 +7,6 @@ use mathlib.Core.Path.{ap}
 use borrow.Author.Needs.{needs}
 use Rattle.network.proofs.value.run_boot.Statement.{statement}
 use Rattle.network.proofs.value.run_boot.Tie as tie
-use Rattle.network.proofs.value.run_boot.Reads as reads
-use Rattle.network.proofs.value.run_boot.Lts as lts
-use Rattle.network.proofs.value.no_values.Reads as no-values-reads
-use Rattle.network.proofs.value.with_value.Reads as with-value-reads
 
 -- src/value.rt:112:19
 enum-known-value : tie.Need-enum-known-value

@@ -7,15 +7,6 @@ use native.Mathlib.Omega.{arith}
 use borrow.Author.Needs.{needs}
 use Rattle.network.proofs.value.run_good.Statement.{statement}
 use Rattle.network.proofs.value.run_good.Tie as tie
-use Rattle.network.proofs.value.run_good.Reads as reads
-use Rattle.network.proofs.value.run_good.Lts as lts
-use Rattle.network.proofs.table.boot_at.Reads as boot-at-reads
-use Rattle.network.proofs.value.bit_at.Reads as bit-at-reads
-use Rattle.network.proofs.value.run_boot.Reads as run-boot-reads
-use Rattle.network.proofs.value.sum_of.Reads as sum-of-reads
-use Rattle.network.proofs.value.wire_value.Reads as wire-value-reads
-use Rattle.network.proofs.value.with_out.Reads as with-out-reads
-use Rattle.network.proofs.value.with_value.Reads as with-value-reads
 
 -- src/value.rt:129:22
 enum-told : tie.Need-enum-told

@@ -1,9 +1,6 @@
 use borrow.Author.Needs.{needs}
 use Rattle.network.proofs.value.run_line.Statement.{statement}
 use Rattle.network.proofs.value.run_line.Tie as tie
-use Rattle.network.proofs.value.run_line.Reads as reads
-use Rattle.network.proofs.value.run_line.Lts as lts
-use Rattle.network.proofs.value.run_good.Reads as run-good-reads
 
 -- src/value.rt:146:9
 returns : tie.Need-returns

@@ -12,9 +12,6 @@ use Prim.Native.Nat.{_+_, _*_, _-_, _≤_}
 use mathlib.Core.Path.{_≡_, sym, _∙_}
 use Rattle.network.proofs.value.sum_of.Statement.{statement}
 use Rattle.network.proofs.value.sum_of.Tie as tie
-use Rattle.network.proofs.value.sum_of.Reads as reads
-use Rattle.network.proofs.value.sum_of.Lts as lts
-use Rattle.network.proofs.value.term_value.Reads as term-value-reads
 
 abbrev Inv-loop : tie.InvT-loop
 Inv-loop values lin sum₀ i₀ sum i = (i ≤ lin .n) × (natAbs (toZ w64 sum) ≤ 31 + 7905 * i) × (sumBytes values (lin .constant) (termsOf lin) ≡ sumBytes values (toZ w64 sum) (termsAt lin i))

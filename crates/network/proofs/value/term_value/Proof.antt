@@ -9,9 +9,6 @@ use mathlib.Core.Path.{ap}
 use borrow.Author.Needs.{needs}
 use Rattle.network.proofs.value.term_value.Statement.{statement}
 use Rattle.network.proofs.value.term_value.Tie as tie
-use Rattle.network.proofs.value.term_value.Reads as reads
-use Rattle.network.proofs.value.term_value.Lts as lts
-use Rattle.network.proofs.value.byte_of.Reads as byte-of-reads
 
 -- src/value.rt:61:12
 byte-of-requires : tie.Need-byte-of-requires

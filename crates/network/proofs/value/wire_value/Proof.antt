@@ -6,9 +6,6 @@ use native.Mathlib.Omega.{arith}
 use borrow.Author.Needs.{needs}
 use Rattle.network.proofs.value.wire_value.Statement.{statement}
 use Rattle.network.proofs.value.wire_value.Tie as tie
-use Rattle.network.proofs.value.wire_value.Reads as reads
-use Rattle.network.proofs.value.wire_value.Lts as lts
-use Rattle.network.proofs.table.wide.Reads as wide-reads
 
 -- src/value.rt:85:21
 enum-known-w : tie.Need-enum-known-w

@@ -3,8 +3,6 @@ use mir.Facts.{toZ-ofZ}
 use borrow.Author.Needs.{needs}
 use Rattle.network.proofs.value.with_out.Statement.{statement}
 use Rattle.network.proofs.value.with_out.Tie as tie
-use Rattle.network.proofs.value.with_out.Reads as reads
-use Rattle.network.proofs.value.with_out.Lts as lts
 
 -- src/value.rt:104:5
 mul-v : tie.Need-mul-v

@@ -3,8 +3,6 @@ use mir.Facts.{toZ-ofZ}
 use borrow.Author.Needs.{needs}
 use Rattle.network.proofs.value.with_value.Statement.{statement}
 use Rattle.network.proofs.value.with_value.Tie as tie
-use Rattle.network.proofs.value.with_value.Reads as reads
-use Rattle.network.proofs.value.with_value.Lts as lts
 
 -- src/value.rt:95:5
 mul-v : tie.Need-mul-v

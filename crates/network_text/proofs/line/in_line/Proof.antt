@@ -2,9 +2,6 @@ use Rattle.network_text.specs.LineIs.{in-open, in-is}
 use borrow.Author.Needs.{needs}
 use Rattle.network_text.proofs.line.in_line.Statement.{statement}
 use Rattle.network_text.proofs.line.in_line.Tie as tie
-use Rattle.network_text.proofs.line.in_line.Reads as reads
-use Rattle.network_text.proofs.line.in_line.Lts as lts
-use Rattle.network_text.proofs.line.plain.Reads as plain-reads
 
 -- src/line.rt:138:9
 plain-requires : tie.Need-plain-requires

@@ -3,10 +3,6 @@ use Rattle.network_text.specs.LineIs.{lin-bad, lin-is}
 use borrow.Author.Needs.{needs}
 use Rattle.network_text.proofs.line.lin_line.Statement.{statement}
 use Rattle.network_text.proofs.line.lin_line.Tie as tie
-use Rattle.network_text.proofs.line.lin_line.Reads as reads
-use Rattle.network_text.proofs.line.lin_line.Lts as lts
-use Rattle.network_text.proofs.line.plain.Reads as plain-reads
-use Rattle.network_text.proofs.sum.read_sum.Reads as read-sum-reads
 
 -- src/line.rt:147:9
 read-sum-requires : tie.Need-read-sum-requires

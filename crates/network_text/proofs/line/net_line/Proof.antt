@@ -3,9 +3,6 @@ use Rattle.network_text.specs.LineIs.{net-open, net-outside, net-is}
 use borrow.Author.Needs.{needs}
 use Rattle.network_text.proofs.line.net_line.Statement.{statement}
 use Rattle.network_text.proofs.line.net_line.Tie as tie
-use Rattle.network_text.proofs.line.net_line.Reads as reads
-use Rattle.network_text.proofs.line.net_line.Lts as lts
-use Rattle.network_text.proofs.line.plain.Reads as plain-reads
 
 -- src/line.rt:125:9
 plain-requires : tie.Need-plain-requires

@@ -3,9 +3,6 @@ use mathlib.Core.Path.{ap}
 use borrow.Author.Needs.{needs}
 use Rattle.network_text.proofs.line.plain.Statement.{statement}
 use Rattle.network_text.proofs.line.plain.Tie as tie
-use Rattle.network_text.proofs.line.plain.Reads as reads
-use Rattle.network_text.proofs.line.plain.Lts as lts
-use Rattle.network_text.proofs.sum.no_terms.Reads as no-terms-reads
 
 -- src/line.rt:115:14
 no-terms-requires : tie.Need-no-terms-requires

@@ -7,19 +7,6 @@ use Rattle.network_text.specs.LineRead.{ReadsNet, capNet, netTaken, netE
 use borrow.Author.Needs.{needs}
 use Rattle.network_text.proofs.line.read_line.Statement.{statement}
 use Rattle.network_text.proofs.line.read_line.Tie as tie
-use Rattle.network_text.proofs.line.read_line.Reads as reads
-use Rattle.network_text.proofs.line.read_line.Lts as lts
-use Rattle.network_text.proofs.line.boot_line.Reads as boot-line-reads
-use Rattle.network_text.proofs.line.in_line.Reads as in-line-reads
-use Rattle.network_text.proofs.line.lin_line.Reads as lin-line-reads
-use Rattle.network_text.proofs.line.net_line.Reads as net-line-reads
-use Rattle.network_text.proofs.line.out_line.Reads as out-line-reads
-use Rattle.network_text.proofs.line.plain.Reads as plain-reads
-use Rattle.network_text.proofs.line.read_boot.Reads as read-boot-reads
-use Rattle.network_text.proofs.line.read_net.Reads as read-net-reads
-use Rattle.text.proofs.read_in.Reads as read-in-reads
-use Rattle.text.proofs.read_out.Reads as read-out-reads
-use Rattle.text.proofs.read_word.Reads as read-word-reads
 
 -- src/line.rt:185:43
 read-net-requires : tie.Need-read-net-requires

@@ -4,9 +4,6 @@ use Rattle.network_text.specs.Sum.{badSum}
 use borrow.Author.Needs.{needs}
 use Rattle.network_text.proofs.sum.bad_sum.Statement.{statement}
 use Rattle.network_text.proofs.sum.bad_sum.Tie as tie
-use Rattle.network_text.proofs.sum.bad_sum.Reads as reads
-use Rattle.network_text.proofs.sum.bad_sum.Lts as lts
-use Rattle.network_text.proofs.sum.no_terms.Reads as no-terms-reads
 
 -- src/sum.rt:222:14
 no-terms-requires : tie.Need-no-terms-requires

@@ -6,9 +6,6 @@ use Rattle.network_text.specs.Sum.{closed, closed-end}
 use borrow.Author.Needs.{needs}
 use Rattle.network_text.proofs.sum.is_closed.Statement.{statement}
 use Rattle.network_text.proofs.sum.is_closed.Tie as tie
-use Rattle.network_text.proofs.sum.is_closed.Reads as reads
-use Rattle.network_text.proofs.sum.is_closed.Lts as lts
-use Rattle.text.proofs.read_word.Reads as read-word-reads
 
 -- src/sum.rt:205:47
 slice-aggregate-read-word : tie.Need-slice-aggregate-read-word

@@ -4,9 +4,6 @@ use mir.Facts.{toZ-ofZ}
 use borrow.Author.Needs.{needs}
 use Rattle.network_text.proofs.sum.is_good_coef.Statement.{statement}
 use Rattle.network_text.proofs.sum.is_good_coef.Tie as tie
-use Rattle.network_text.proofs.sum.is_good_coef.Reads as reads
-use Rattle.network_text.proofs.sum.is_good_coef.Lts as lts
-use Rattle.network_text.proofs.sum.is_small.Reads as is-small-reads
 
 -- src/sum.rt:71:9
 returns : tie.Need-returns

@@ -4,10 +4,6 @@ use mir.Facts.{toZ-ofZ}
 use borrow.Author.Needs.{needs}
 use Rattle.network_text.proofs.sum.is_good_term.Statement.{statement}
 use Rattle.network_text.proofs.sum.is_good_term.Tie as tie
-use Rattle.network_text.proofs.sum.is_good_term.Reads as reads
-use Rattle.network_text.proofs.sum.is_good_term.Lts as lts
-use Rattle.network_text.proofs.sum.is_good_coef.Reads as is-good-coef-reads
-use Rattle.network_text.proofs.sum.is_new.Reads as is-new-reads
 
 -- src/sum.rt:152:9
 returns : tie.Need-returns

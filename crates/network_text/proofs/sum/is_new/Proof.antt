@@ -6,9 +6,6 @@ use mathlib.Core.Bool.{true}
 use mathlib.Core.Path.{_≡_, sym}
 use Rattle.network_text.proofs.sum.is_new.Statement.{statement}
 use Rattle.network_text.proofs.sum.is_new.Tie as tie
-use Rattle.network_text.proofs.sum.is_new.Reads as reads
-use Rattle.network_text.proofs.sum.is_new.Lts as lts
-use Rattle.text.proofs.is_same.Reads as is-same-reads
 
 abbrev Inv-loop : tie.InvT-loop
 Inv-loop l starts ends n a e i₀ i = (i ≤ n) × (allb i (apart l starts ends a e) ≡ true)

@@ -2,8 +2,6 @@ use Rattle.network_text.specs.Places.{small-below, small-above}
 use mir.Facts.{toZ-ofZ}
 use Rattle.network_text.proofs.sum.is_small.Statement.{statement}
 use Rattle.network_text.proofs.sum.is_small.Tie as tie
-use Rattle.network_text.proofs.sum.is_small.Reads as reads
-use Rattle.network_text.proofs.sum.is_small.Lts as lts
 
 -- src/sum.rt:61:9
 returns : tie.Need-returns

@@ -2,8 +2,6 @@ use Rattle.network_text.specs.Terms.{noTerms}
 use mir.Facts.{toZ-ofZ}
 use Rattle.network_text.proofs.sum.no_terms.Statement.{statement}
 use Rattle.network_text.proofs.sum.no_terms.Tie as tie
-use Rattle.network_text.proofs.sum.no_terms.Reads as reads
-use Rattle.network_text.proofs.sum.no_terms.Lts as lts
 
 -- src/sum.rt:83:1
 returns : tie.Need-returns

@@ -3,13 +3,6 @@ use borrow.Author.Tests.{not-true, not-false}
 use borrow.Author.Needs.{needs}
 use Rattle.network_text.proofs.sum.read_sum.Statement.{statement}
 use Rattle.network_text.proofs.sum.read_sum.Tie as tie
-use Rattle.network_text.proofs.sum.read_sum.Reads as reads
-use Rattle.network_text.proofs.sum.read_sum.Lts as lts
-use Rattle.network_text.proofs.sum.bad_sum.Reads as bad-sum-reads
-use Rattle.network_text.proofs.sum.is_closed.Reads as is-closed-reads
-use Rattle.network_text.proofs.sum.is_small.Reads as is-small-reads
-use Rattle.network_text.proofs.sum.read_terms.Reads as read-terms-reads
-use Rattle.text.proofs.read_signed.Reads as read-signed-reads
 
 -- src/sum.rt:231:35
 read-signed-requires : tie.Need-read-signed-requires

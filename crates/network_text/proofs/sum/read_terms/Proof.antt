@@ -14,12 +14,6 @@ use mathlib.Core.List.{List}
 use Prim.Native.Nat.{_-_}
 use Rattle.network_text.proofs.sum.read_terms.Statement.{statement}
 use Rattle.network_text.proofs.sum.read_terms.Tie as tie
-use Rattle.network_text.proofs.sum.read_terms.Reads as reads
-use Rattle.network_text.proofs.sum.read_terms.Lts as lts
-use Rattle.network_text.proofs.sum.is_good_term.Reads as is-good-term-reads
-use Rattle.network_text.proofs.sum.no_places.Reads as no-places-reads
-use Rattle.network_text.proofs.sum.read_term.Reads as read-term-reads
-use Rattle.network_text.proofs.sum.with_place.Reads as with-place-reads
 
 abbrev Inv-loop : tie.InvT-loop
 Inv-loop l at constant t₀ i₀ t i = (ts : List Term) × Kept l at (toZ w64 constant) t i ts

@@ -3,9 +3,6 @@ use mir.Facts.{toZ-ofZ}
 use borrow.Author.Needs.{needs}
 use Rattle.network_text.proofs.sum.with_place.Statement.{statement}
 use Rattle.network_text.proofs.sum.with_place.Tie as tie
-use Rattle.network_text.proofs.sum.with_place.Reads as reads
-use Rattle.network_text.proofs.sum.with_place.Lts as lts
-use Rattle.network_text.proofs.sum.with_term.Reads as with-term-reads
 
 -- src/sum.rt:124:5
 mul-r : tie.Need-mul-r

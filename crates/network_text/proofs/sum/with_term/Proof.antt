@@ -3,8 +3,6 @@ use mir.Facts.{toZ-ofZ}
 use borrow.Author.Needs.{needs}
 use Rattle.network_text.proofs.sum.with_term.Statement.{statement}
 use Rattle.network_text.proofs.sum.with_term.Tie as tie
-use Rattle.network_text.proofs.sum.with_term.Reads as reads
-use Rattle.network_text.proofs.sum.with_term.Lts as lts
 
 -- src/sum.rt:111:5
 mul-coef : tie.Need-mul-coef

@@ -3,10 +3,6 @@ use lib.ListN.{length}
 use Prim.Native.Nat.{_-_, _≤_}
 use Rattle.vectors_texts.proofs.cases.number_at.Statement.{statement}
 use Rattle.vectors_texts.proofs.cases.number_at.Tie as tie
-use Rattle.vectors_texts.proofs.cases.number_at.Reads as reads
-use Rattle.vectors_texts.proofs.cases.number_at.Lts as lts
-use Rattle.vectors_texts.proofs.cases.is_digit.Reads as is-digit-reads
-use Rattle.vectors_texts.proofs.cases.with_digit.Reads as with-digit-reads
 
 abbrev Inv-loop : tie.InvT-loop
 Inv-loop s at value₀ i₀ value i = i ≤ length s

@@ -4,11 +4,6 @@ use Prim.Native.Nat.{_-_, _≤_}
 use mathlib.Core.Path.{_≡_}
 use Rattle.vectors_texts.proofs.cases.put_bits.Statement.{statement}
 use Rattle.vectors_texts.proofs.cases.put_bits.Tie as tie
-use Rattle.vectors_texts.proofs.cases.put_bits.Reads as reads
-use Rattle.vectors_texts.proofs.cases.put_bits.Lts as lts
-use Rattle.vectors_texts.proofs.cases.wide.Reads as wide-reads
-use Rattle.vectors_texts.proofs.print.put_all.Reads as put-all-reads
-use Rattle.vectors_texts.proofs.print.put_next.Reads as put-next-reads
 
 abbrev Inv-loop : tie.InvT-loop
 Inv-loop out₀ at values to₀ i₀ out to i = (i ≤ length values) × (length out ≡ length out₀)

@@ -4,10 +4,6 @@ use Prim.Native.Nat.{_-_, _≤_}
 use mathlib.Core.Path.{_≡_}
 use Rattle.vectors_texts.proofs.cases.put_values.Statement.{statement}
 use Rattle.vectors_texts.proofs.cases.put_values.Tie as tie
-use Rattle.vectors_texts.proofs.cases.put_values.Reads as reads
-use Rattle.vectors_texts.proofs.cases.put_values.Lts as lts
-use Rattle.vectors_texts.proofs.print.put_all.Reads as put-all-reads
-use Rattle.vectors_texts.proofs.print.put_value.Reads as put-value-reads
 
 abbrev Inv-loop : tie.InvT-loop
 Inv-loop out₀ at values to₀ i₀ out to i = (i ≤ length values) × (length out ≡ length out₀)

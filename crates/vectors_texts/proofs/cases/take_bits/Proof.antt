@@ -4,9 +4,6 @@ use Prim.Native.Nat.{_+_, _-_, _≤_}
 use mathlib.Core.Path.{_≡_}
 use Rattle.vectors_texts.proofs.cases.take_bits.Statement.{statement}
 use Rattle.vectors_texts.proofs.cases.take_bits.Tie as tie
-use Rattle.vectors_texts.proofs.cases.take_bits.Reads as reads
-use Rattle.vectors_texts.proofs.cases.take_bits.Lts as lts
-use Rattle.vectors_texts.proofs.cases.is_digit.Reads as is-digit-reads
 
 abbrev Inv-loop : tie.InvT-loop
 Inv-loop s at bits₀ n₀ i₀ bits n i = (i ≤ length s) × (n ≤ 64) × (i ≡ at + n) × (length bits ≡ 64)

@@ -12,8 +12,6 @@ use native.Mathlib.Omega.{arith}
 use borrow.Author.Needs.{needs}
 use Rattle.vectors_texts.proofs.print.magnitude.Statement.{statement}
 use Rattle.vectors_texts.proofs.print.magnitude.Tie as tie
-use Rattle.vectors_texts.proofs.print.magnitude.Reads as reads
-use Rattle.vectors_texts.proofs.print.magnitude.Lts as lts
 
 -- below 0: one more, and its opposite
 module _ (z : ℤ) (h : ltZ z (pos 0) ≡ true) (f : SFits w64 z) where

@@ -5,9 +5,6 @@ use lib.ListN.{length}
 use Prim.Native.Nat.{_-_, _≤_}
 use Rattle.vectors_texts.proofs.print.put_all.Statement.{statement}
 use Rattle.vectors_texts.proofs.print.put_all.Tie as tie
-use Rattle.vectors_texts.proofs.print.put_all.Reads as reads
-use Rattle.vectors_texts.proofs.print.put_all.Lts as lts
-use Rattle.vectors_texts.proofs.print.put.Reads as put-reads
 
 abbrev Inv-loop : tie.InvT-loop
 Inv-loop out₀ at w to₀ i₀ out to i = (i ≤ length w) × (length out ≡ length out₀)

@@ -5,12 +5,6 @@ use Rattle.rules.specs.Writing.{digits, bitsText, nodeText}
 use borrow.Author.Needs.{needs}
 use Rattle.writer.proofs.line.put_boot.Statement.{statement}
 use Rattle.writer.proofs.line.put_boot.Tie as tie
-use Rattle.writer.proofs.line.put_boot.Reads as reads
-use Rattle.writer.proofs.line.put_boot.Lts as lts
-use Rattle.writer.proofs.put.put.Reads as put-reads
-use Rattle.writer.proofs.put.put_all.Reads as put-all-reads
-use Rattle.writer.proofs.put.put_bits.Reads as put-bits-reads
-use Rattle.writer.proofs.put.put_number.Reads as put-number-reads
 
 -- src/line.rt:72:30
 slice-aggregate-put-all : tie.Need-slice-aggregate-put-all

@@ -5,9 +5,6 @@ use Rattle.rules.specs.Writing.{nodeText}
 use borrow.Author.Needs.{needs}
 use Rattle.writer.proofs.line.put_in.Statement.{statement}
 use Rattle.writer.proofs.line.put_in.Tie as tie
-use Rattle.writer.proofs.line.put_in.Reads as reads
-use Rattle.writer.proofs.line.put_in.Lts as lts
-use Rattle.writer.proofs.put.put_all.Reads as put-all-reads
 
 -- src/line.rt:48:30
 slice-aggregate-put-all : tie.Need-slice-aggregate-put-all

@@ -6,12 +6,6 @@ use Rattle.writer.specs.Lines.{netText}
 use borrow.Author.Needs.{needs}
 use Rattle.writer.proofs.line.put_net.Statement.{statement}
 use Rattle.writer.proofs.line.put_net.Tie as tie
-use Rattle.writer.proofs.line.put_net.Reads as reads
-use Rattle.writer.proofs.line.put_net.Lts as lts
-use Rattle.writer.proofs.line.put_norm.Reads as put-norm-reads
-use Rattle.writer.proofs.put.put.Reads as put-reads
-use Rattle.writer.proofs.put.put_all.Reads as put-all-reads
-use Rattle.writer.proofs.put.put_number.Reads as put-number-reads
 
 -- src/line.rt:34:30
 slice-aggregate-put-all : tie.Need-slice-aggregate-put-all

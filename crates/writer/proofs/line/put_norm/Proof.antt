@@ -4,10 +4,6 @@ use Rattle.writer.specs.Put.{put-text, room-text}
 use borrow.Author.Needs.{needs}
 use Rattle.writer.proofs.line.put_norm.Statement.{statement}
 use Rattle.writer.proofs.line.put_norm.Tie as tie
-use Rattle.writer.proofs.line.put_norm.Reads as reads
-use Rattle.writer.proofs.line.put_norm.Lts as lts
-use Rattle.writer.proofs.put.put_all.Reads as put-all-reads
-use Rattle.writer.proofs.put.put_number.Reads as put-number-reads
 
 -- src/line.rt:24:37
 enum-told : tie.Need-enum-told

@@ -4,11 +4,6 @@ use Rattle.rules.specs.Writing.{digits}
 use borrow.Author.Needs.{needs}
 use Rattle.writer.proofs.line.put_numbered.Statement.{statement}
 use Rattle.writer.proofs.line.put_numbered.Tie as tie
-use Rattle.writer.proofs.line.put_numbered.Reads as reads
-use Rattle.writer.proofs.line.put_numbered.Lts as lts
-use Rattle.writer.proofs.put.put.Reads as put-reads
-use Rattle.writer.proofs.put.put_all.Reads as put-all-reads
-use Rattle.writer.proofs.put.put_number.Reads as put-number-reads
 
 -- src/line.rt:84:9
 put-all-requires : tie.Need-put-all-requires

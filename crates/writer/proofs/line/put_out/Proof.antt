@@ -6,11 +6,6 @@ use Rattle.writer.specs.Lines.{outText}
 use borrow.Author.Needs.{needs}
 use Rattle.writer.proofs.line.put_out.Statement.{statement}
 use Rattle.writer.proofs.line.put_out.Tie as tie
-use Rattle.writer.proofs.line.put_out.Reads as reads
-use Rattle.writer.proofs.line.put_out.Lts as lts
-use Rattle.writer.proofs.line.put_wire.Reads as put-wire-reads
-use Rattle.writer.proofs.put.put.Reads as put-reads
-use Rattle.writer.proofs.put.put_all.Reads as put-all-reads
 
 -- src/line.rt:105:30
 slice-aggregate-put-all : tie.Need-slice-aggregate-put-all

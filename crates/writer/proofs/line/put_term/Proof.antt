@@ -7,12 +7,6 @@ use Rattle.writer.specs.Lines.{termText}
 use borrow.Author.Needs.{needs}
 use Rattle.writer.proofs.line.put_term.Statement.{statement}
 use Rattle.writer.proofs.line.put_term.Tie as tie
-use Rattle.writer.proofs.line.put_term.Reads as reads
-use Rattle.writer.proofs.line.put_term.Lts as lts
-use Rattle.writer.proofs.put.put.Reads as put-reads
-use Rattle.writer.proofs.put.put_all.Reads as put-all-reads
-use Rattle.writer.proofs.put.put_number.Reads as put-number-reads
-use Rattle.writer.proofs.put.put_signed.Reads as put-signed-reads
 
 -- src/line.rt:59:30
 slice-aggregate-put-all : tie.Need-slice-aggregate-put-all

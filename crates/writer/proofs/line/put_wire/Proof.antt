@@ -4,9 +4,6 @@ use Rattle.writer.specs.Put.{put-text, room-text}
 use borrow.Author.Needs.{needs}
 use Rattle.writer.proofs.line.put_wire.Statement.{statement}
 use Rattle.writer.proofs.line.put_wire.Tie as tie
-use Rattle.writer.proofs.line.put_wire.Reads as reads
-use Rattle.writer.proofs.line.put_wire.Lts as lts
-use Rattle.writer.proofs.line.put_numbered.Reads as put-numbered-reads
 
 -- src/line.rt:95:21
 enum-known-wire : tie.Need-enum-known-wire

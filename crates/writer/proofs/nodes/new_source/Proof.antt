@@ -3,10 +3,6 @@ use Rattle.writer.specs.Live.{newNumber, asked-number}
 use borrow.Author.Needs.{needs}
 use Rattle.writer.proofs.nodes.new_source.Statement.{statement}
 use Rattle.writer.proofs.nodes.new_source.Tie as tie
-use Rattle.writer.proofs.nodes.new_source.Reads as reads
-use Rattle.writer.proofs.nodes.new_source.Lts as lts
-use Rattle.lut.proofs.node.source_of.Reads as source-of-reads
-use Rattle.writer.proofs.nodes.number_of.Reads as number-of-reads
 
 -- src/nodes.rt:31:21
 source-of-requires : tie.Need-source-of-requires

@@ -4,9 +4,6 @@ use Rattle.writer.specs.Live.{newNumber}
 use borrow.Author.Needs.{needs}
 use Rattle.writer.proofs.nodes.number_of.Statement.{statement}
 use Rattle.writer.proofs.nodes.number_of.Tie as tie
-use Rattle.writer.proofs.nodes.number_of.Reads as reads
-use Rattle.writer.proofs.nodes.number_of.Lts as lts
-use Rattle.writer.proofs.nodes.wide.Reads as wide-reads
 
 -- src/nodes.rt:29:10
 mul-wide : tie.Need-mul-wide

@@ -9,12 +9,6 @@ use Rattle.writer.specs.Live.{termsLeft, sumText, constant-small}
 use borrow.Author.Needs.{needs}
 use Rattle.writer.proofs.nodes.put_lin.Statement.{statement}
 use Rattle.writer.proofs.nodes.put_lin.Tie as tie
-use Rattle.writer.proofs.nodes.put_lin.Reads as reads
-use Rattle.writer.proofs.nodes.put_lin.Lts as lts
-use Rattle.lut.proofs.node.constant_of.Reads as constant-of-reads
-use Rattle.writer.proofs.nodes.put_terms.Reads as put-terms-reads
-use Rattle.writer.proofs.put.put_all.Reads as put-all-reads
-use Rattle.writer.proofs.put.put_signed.Reads as put-signed-reads
 
 -- src/nodes.rt:79:30
 slice-aggregate-put-all : tie.Need-slice-aggregate-put-all

@@ -3,9 +3,6 @@ use Rattle.writer.specs.Live.{no-line, its-line, put-none, ready-at}
 use borrow.Author.Needs.{needs}
 use Rattle.writer.proofs.nodes.put_live.Statement.{statement}
 use Rattle.writer.proofs.nodes.put_live.Tie as tie
-use Rattle.writer.proofs.nodes.put_live.Reads as reads
-use Rattle.writer.proofs.nodes.put_live.Lts as lts
-use Rattle.writer.proofs.nodes.put_node.Reads as put-node-reads
 
 -- src/nodes.rt:115:8
 mul-if1 : tie.Need-mul-if1

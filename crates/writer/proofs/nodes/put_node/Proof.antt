@@ -4,14 +4,6 @@ use Rattle.writer.specs.Live.{input-kind, sum-kind, boot-kind, input-tex
 use borrow.Author.Needs.{needs}
 use Rattle.writer.proofs.nodes.put_node.Statement.{statement}
 use Rattle.writer.proofs.nodes.put_node.Tie as tie
-use Rattle.writer.proofs.nodes.put_node.Reads as reads
-use Rattle.writer.proofs.nodes.put_node.Lts as lts
-use Rattle.lut.proofs.node.kind_of.Reads as kind-of-reads
-use Rattle.lut.proofs.node.table_of.Reads as table-of-reads
-use Rattle.writer.proofs.line.put_boot.Reads as put-boot-reads
-use Rattle.writer.proofs.line.put_in.Reads as put-in-reads
-use Rattle.writer.proofs.nodes.new_source.Reads as new-source-reads
-use Rattle.writer.proofs.nodes.put_lin.Reads as put-lin-reads
 
 -- src/nodes.rt:91:9
 kind-of-requires : tie.Need-kind-of-requires

@@ -8,9 +8,6 @@ use Rattle.writer.specs.Put.{Left, left-all, put-length}
 use Rattle.writer.specs.Live.{liveNodes, linesLeft, line-room, line-turn, lines-done}
 use Rattle.writer.proofs.nodes.put_nodes.Statement.{statement}
 use Rattle.writer.proofs.nodes.put_nodes.Tie as tie
-use Rattle.writer.proofs.nodes.put_nodes.Reads as reads
-use Rattle.writer.proofs.nodes.put_nodes.Lts as lts
-use Rattle.writer.proofs.nodes.put_live.Reads as put-live-reads
 
 abbrev Inv-loop : tie.InvT-loop
 Inv-loop out₀ at nodes live count to₀ i₀ out to i =

@@ -5,11 +5,6 @@ use Rattle.writer.specs.Live.{among-needs, coefficient-small, term-asked
 use borrow.Author.Needs.{needs}
 use Rattle.writer.proofs.nodes.put_summand.Statement.{statement}
 use Rattle.writer.proofs.nodes.put_summand.Tie as tie
-use Rattle.writer.proofs.nodes.put_summand.Reads as reads
-use Rattle.writer.proofs.nodes.put_summand.Lts as lts
-use Rattle.lut.proofs.node.coef_of.Reads as coef-of-reads
-use Rattle.writer.proofs.line.put_term.Reads as put-term-reads
-use Rattle.writer.proofs.nodes.new_source.Reads as new-source-reads
 
 -- src/nodes.rt:47:9
 new-source-requires : tie.Need-new-source-requires

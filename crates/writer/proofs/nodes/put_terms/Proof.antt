@@ -8,10 +8,6 @@ use Rattle.writer.specs.Put.{Left, left-all, put-length}
 use Rattle.writer.specs.Live.{termsLeft, among-terms, past-terms, term-room, term-turn, terms-done}
 use Rattle.writer.proofs.nodes.put_terms.Statement.{statement}
 use Rattle.writer.proofs.nodes.put_terms.Tie as tie
-use Rattle.writer.proofs.nodes.put_terms.Reads as reads
-use Rattle.writer.proofs.nodes.put_terms.Lts as lts
-use Rattle.lut.proofs.node.size_of.Reads as size-of-reads
-use Rattle.writer.proofs.nodes.put_summand.Reads as put-summand-reads
 
 abbrev Inv-loop : tie.InvT-loop
 Inv-loop out₀ at nodes live i n to₀ k₀ out to k =

@@ -3,9 +3,6 @@ use Rattle.writer.specs.Outputs.{node-wire, constant-wire}
 use borrow.Author.Needs.{needs}
 use Rattle.writer.proofs.outputs.new_wire.Statement.{statement}
 use Rattle.writer.proofs.outputs.new_wire.Tie as tie
-use Rattle.writer.proofs.outputs.new_wire.Reads as reads
-use Rattle.writer.proofs.outputs.new_wire.Lts as lts
-use Rattle.writer.proofs.nodes.number_of.Reads as number-of-reads
 
 -- src/outputs.rt:17:27
 number-of-requires : tie.Need-number-of-requires

@@ -3,10 +3,6 @@ use Rattle.writer.specs.Outputs.{output-text}
 use borrow.Author.Needs.{needs}
 use Rattle.writer.proofs.outputs.put_output.Statement.{statement}
 use Rattle.writer.proofs.outputs.put_output.Tie as tie
-use Rattle.writer.proofs.outputs.put_output.Reads as reads
-use Rattle.writer.proofs.outputs.put_output.Lts as lts
-use Rattle.writer.proofs.line.put_out.Reads as put-out-reads
-use Rattle.writer.proofs.outputs.new_wire.Reads as new-wire-reads
 
 -- src/outputs.rt:36:9
 new-wire-requires : tie.Need-new-wire-requires

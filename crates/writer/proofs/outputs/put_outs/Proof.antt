@@ -8,9 +8,6 @@ use Rattle.writer.specs.Put.{Left, left-all, put-length}
 use Rattle.writer.specs.Outputs.{liveOutputs, outputsLeft, output-room, output-turn, outputs-done}
 use Rattle.writer.proofs.outputs.put_outs.Statement.{statement}
 use Rattle.writer.proofs.outputs.put_outs.Tie as tie
-use Rattle.writer.proofs.outputs.put_outs.Reads as reads
-use Rattle.writer.proofs.outputs.put_outs.Lts as lts
-use Rattle.writer.proofs.outputs.put_port.Reads as put-port-reads
 
 abbrev Inv-loop : tie.InvT-loop
 Inv-loop out₀ at s ports live n to₀ i₀ out to i =

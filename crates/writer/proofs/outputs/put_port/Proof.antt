@@ -4,9 +4,6 @@ use Rattle.writer.specs.Outputs.{port-text}
 use borrow.Author.Needs.{needs}
 use Rattle.writer.proofs.outputs.put_port.Statement.{statement}
 use Rattle.writer.proofs.outputs.put_port.Tie as tie
-use Rattle.writer.proofs.outputs.put_port.Reads as reads
-use Rattle.writer.proofs.outputs.put_port.Lts as lts
-use Rattle.writer.proofs.outputs.put_output.Reads as put-output-reads
 
 -- src/outputs.rt:55:24
 mul-a : tie.Need-mul-a

@@ -3,8 +3,6 @@ use Rattle.writer.specs.Put.{put-stored, put-lost}
 use borrow.Author.Needs.{needs}
 use Rattle.writer.proofs.put.put.Statement.{statement}
 use Rattle.writer.proofs.put.put.Tie as tie
-use Rattle.writer.proofs.put.put.Reads as reads
-use Rattle.writer.proofs.put.put.Lts as lts
 
 -- src/put.rt:18:9
 slice-write-out : tie.Need-slice-write-out

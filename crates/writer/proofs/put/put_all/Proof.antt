@@ -6,9 +6,6 @@ use lib.ListN.{length, drop}
 use Rattle.writer.specs.Put.{Left, left-all, byte-step, bytes-done, put-length, byte-room}
 use Rattle.writer.proofs.put.put_all.Statement.{statement}
 use Rattle.writer.proofs.put.put_all.Tie as tie
-use Rattle.writer.proofs.put.put_all.Reads as reads
-use Rattle.writer.proofs.put.put_all.Lts as lts
-use Rattle.writer.proofs.put.put.Reads as put-reads
 
 abbrev Inv-loop : tie.InvT-loop
 Inv-loop out₀ at bytes to₀ i₀ out to i = (i ≤ length bytes) × Left at bytes out₀ to (drop i bytes) out × (length out ≡ length out₀)

@@ -7,9 +7,6 @@ use Rattle.writer.specs.Put.{Left, left-all, bit-step, bits-done, put-le
 use Rattle.rules.specs.Writing.{bitsText}
 use Rattle.writer.proofs.put.put_bits.Statement.{statement}
 use Rattle.writer.proofs.put.put_bits.Tie as tie
-use Rattle.writer.proofs.put.put_bits.Reads as reads
-use Rattle.writer.proofs.put.put_bits.Lts as lts
-use Rattle.writer.proofs.put.put.Reads as put-reads
 
 abbrev Inv-loop : tie.InvT-loop
 Inv-loop out₀ at table to₀ i₀ out to i = (i ≤ length table) × Left at (bitsText table) out₀ to (bitsText (drop i table)) out × (length out ≡ length out₀)

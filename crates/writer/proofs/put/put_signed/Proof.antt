@@ -8,11 +8,6 @@ use Rattle.writer.specs.Put.{put-below, minus-room, room-below, put-else
 use borrow.Author.Needs.{needs}
 use Rattle.writer.proofs.put.put_signed.Statement.{statement}
 use Rattle.writer.proofs.put.put_signed.Tie as tie
-use Rattle.writer.proofs.put.put_signed.Reads as reads
-use Rattle.writer.proofs.put.put_signed.Lts as lts
-use Rattle.scale.proofs.magnitude.Reads as magnitude-reads
-use Rattle.writer.proofs.put.put.Reads as put-reads
-use Rattle.writer.proofs.put.put_number.Reads as put-number-reads
 
 -- src/put.rt:78:13
 put-requires : tie.Need-put-requires

@@ -1,0 +1,39 @@
+-- Cones beside the store, and what a bootstrap leaves.
+use mathlib.Core.Path.{_≡_}
+use mathlib.Core.List.{List}
+use Prim.Native.Nat.{ℕ, _+_, _≤_, _<_}
+use lib.Dec.{eqb}
+use lib.ListN.{length, getD}
+use Rattle.laws.specs.Test.{if_then_else_}
+use Rattle.rules.specs.Cone as C
+use Rattle.rules.specs.Cone.{Result, ok, err}
+use Rattle.rules.specs.Store.{Stored}
+use Rattle.cone.specs.declared.Cone.{Cone}
+use Rattle.cone.specs.View.{coneOf, IsCone}
+use Rattle.lut.specs.View.{storeOf, IsStore}
+use Rattle.bootstrap.specs.declared.boot.Booted.{Booted}
+
+-- ---- Cones beside the store.
+
+-- Every source is one of the first `count` nodes.
+pub record Below (count : ℕ) (c : C.Cone) : Type 0 where
+  pub at : (i : ℕ) → i < length (c .support) → getD (c .support) i 0 < count
+
+pub record Stands (count : ℕ) (c : Cone) : Type 0 where
+  pub cone : IsCone c
+  pub below : Below count (coneOf c)
+
+-- The store has grown from `before` nodes by at most `more`.
+pub record Grown (before more : ℕ) (bytes : List ℕ) (count : ℕ) : Type 0 where
+  pub store : IsStore bytes count
+  pub least : before ≤ count
+  pub most : count ≤ before + more
+
+-- ---- bootstrap_cone
+
+unfoldable pub bootedOf : List ℕ → Booted → Result Stored
+bootedOf bytes b = if eqb (b .number) 0 then ok (record { nodes = storeOf bytes (b .count); cone = coneOf (b .cone) }) else err (b .number)
+
+pub record Boots (before : ℕ) (bytes : List ℕ) (b : Booted) : Type 0 where
+  pub grown : b .number ≡ 0 → Grown before 2 bytes (b .count)
+  pub stands : b .number ≡ 0 → Stands (b .count) (b .cone)

@@ -1,0 +1,3 @@
+// A bootstrap: a cone realigned to a form that a sum of the store has, and its table as a node.
+pub mod boot;
+pub mod form;

@@ -1,0 +1,83 @@
+-- `gate::map::map_unary` meets its contract.
+use mathlib.Core.Path.{sym, ap, _∙_}
+use native.Mathlib.Omega.{arith}
+use Rattle.rules.specs.Mapper as M
+use Rattle.rules.specs.Cone as C
+use Rattle.cone.specs.Valid.{validityOf}
+use Rattle.cone.specs.View.{coneOf, truth-bit}
+use Rattle.gate.specs.GateSteps.{unary-equal, unary-judged, through-stands, constant-stands}
+use borrow.Author.Needs.{needs}
+use Rattle.gate.proofs.map.map_unary.Statement.{statement}
+use Rattle.gate.proofs.map.map_unary.Tie as tie
+
+apply-unary-requires : tie.Need-apply-unary-requires
+apply-unary-requires c κs = search needs
+
+all-equal-requires : tie.Need-all-equal-requires
+all-equal-requires c κs = search needs
+
+first-truth-requires : tie.Need-first-truth-requires
+first-truth-requires c κs = search needs
+
+constant-requires : tie.Need-constant-requires
+constant-requires c κs = let d = c .before .before .before .apply-unary in omega (arith, c .first-truth .ensures, truth-bit (d .result) (d .ensures .0) 0)
+
+unchanged-requires : tie.Need-unchanged-requires
+unchanged-requires c κs = search needs
+
+returns : tie.Need-returns
+returns c = let s = c .before .before .before .before .before .before in let d = c .before .before .before .before .before .apply-unary in let k = c .before .constant in (λ bytes. c .unchanged .ensures .0 bytes ∙ ap (M.unchanged _) (k .ensures .1 ∙ ap C.constant (c .before .before .first-truth .ensures)) ∙ unary-equal (s .args .s) _ (coneOf (s .args .c)) (coneOf (d .result)) _ (d .ensures .1) (sym (c .before .before .before .before .all-equal .ensures) ∙ c .before .before .before .if1 .taken), λ bytes st. c .unchanged .ensures .1 bytes st (constant-stands _ _ _ (k .ensures .0) (k .ensures .1)))
+
+validate-cone-requires : tie.Need-validate-cone-requires
+validate-cone-requires c κs = search needs
+
+enum-told : tie.Need-enum-told
+enum-told c = search needs
+
+unchanged-requires-2 : tie.Need-unchanged-requires-2
+unchanged-requires-2 c κs = search needs
+
+enum-told-2 : tie.Need-enum-told-2
+enum-told-2 c = search needs
+
+refused-requires : tie.Need-refused-requires
+refused-requires c κs = search needs
+
+enum-told-3 : tie.Need-enum-told-3
+enum-told-3 c = search needs
+
+refused-requires-2 : tie.Need-refused-requires-2
+refused-requires-2 c κs = search needs
+
+returns-2 : tie.Need-returns-2
+unfolding validityOf
+returns-2 c = let s = c .before .before .before .before .before .before .before in let d = c .before .before .before .before .before .before .apply-unary in let v = c .before .before .before .validate-cone in (λ bytes. c .unchanged2 .ensures .0 bytes ∙ unary-judged (s .args .s) _ (coneOf (s .args .c)) (coneOf (d .result)) _ (d .ensures .1) (C.ok (coneOf (d .result))) (sym (c .before .before .before .before .before .all-equal .ensures) ∙ c .before .before .before .before .if1 .left) (ap (validityOf (coneOf (d .result))) (sym (c .before .enum-told .given .1)) ∙ v .ensures), λ bytes st. c .unchanged2 .ensures .1 bytes st (through-stands _ _ _ _ (d .ensures .0) (d .ensures .1) (s .pre .1 .0)))
+
+returns-3 : tie.Need-returns-3
+unfolding validityOf
+returns-3 c = let s = c .before .before .before .before .before .before .before in let d = c .before .before .before .before .before .before .apply-unary in let v = c .before .before .before .validate-cone in (λ bytes. c .refused .ensures .0 bytes ∙ unary-judged (s .args .s) _ (coneOf (s .args .c)) (coneOf (d .result)) _ (d .ensures .1) (C.err 8) (sym (c .before .before .before .before .before .all-equal .ensures) ∙ c .before .before .before .before .if1 .left) (ap (validityOf (coneOf (d .result))) (sym (c .before .enum-told2 .given .1)) ∙ v .ensures), λ bytes st. c .refused .ensures .1 _ _ bytes)
+
+returns-4 : tie.Need-returns-4
+unfolding validityOf
+returns-4 c = let s = c .before .before .before .before .before .before .before in let d = c .before .before .before .before .before .before .apply-unary in let v = c .before .before .before .validate-cone in (λ bytes. c .refused2 .ensures .0 bytes ∙ unary-judged (s .args .s) _ (coneOf (s .args .c)) (coneOf (d .result)) _ (d .ensures .1) (C.err 10) (sym (c .before .before .before .before .before .all-equal .ensures) ∙ c .before .before .before .before .if1 .left) (ap (validityOf (coneOf (d .result))) (sym (c .before .enum-told3 .given .1)) ∙ v .ensures), λ bytes st. c .refused2 .ensures .1 _ _ bytes)
+
+pub map-unary-spec : {M : Type 1} → statement M
+map-unary-spec =
+    tie.close
+    (tie.spec
+    apply-unary-requires
+    all-equal-requires
+    first-truth-requires
+    constant-requires
+    unchanged-requires
+    returns
+    validate-cone-requires
+    enum-told
+    unchanged-requires-2
+    enum-told-2
+    refused-requires
+    enum-told-3
+    refused-requires-2
+    returns-2
+    returns-3
+    returns-4)

@@ -1,0 +1,308 @@
+-- A binary gate's definition, by the cases of each step.
+use mathlib.Core.Path.{_≡_, refl, sym, ap, subst, _∙_}
+use mathlib.Core.Bool.{Bool, true, false}
+use mathlib.Core.List.{List, [], _∷_}
+use Prim.Native.Nat.{ℕ, zero, suc, _+_, _*_, _≤_, _<_}
+use native.Mathlib.Nat.{not-suc-le-zero}
+use native.Mathlib.Numerals.{add-one}
+use native.Mathlib.Omega.{arith}
+use borrow.Author.Tests.{eq-eqb, ne-eqb}
+use lib.ListN.{length, getD, take, drop}
+use Rattle.laws.specs.Test.{if_then_else_, zero≢one, T-is, is-T}
+use Rattle.rules.specs.Cone as C
+use Rattle.rules.specs.Composition.{allEqual}
+use Rattle.rules.specs.Cone.{Result, ok, err, _>>=_}
+use Rattle.rules.specs.Mapper as M
+use Rattle.rules.specs.Network.{LutNode}
+use Rattle.rules.specs.declared.Settings.{Settings}
+use Rattle.rules.specs.Runs.{allBits}
+use Rattle.theorems.specs.Bits.{bit-at, all-bits-of}
+use Rattle.theorems.specs.Truths.{throughGate}
+use Rattle.cone.specs.declared.Cone.{Cone}
+use Rattle.cone.specs.declared.order.Sides.{Sides}
+use Rattle.cone.specs.Order.{sideOf, sidesOf}
+use Rattle.cone.specs.declared.Constant.the-variants.{Bit, No}
+use Rattle.cone.specs.View.{coneOf, IsCone, constantOf}
+use Rattle.lut.specs.View.{storeOf, IsStore}
+use Rattle.gate.specs.declared.map.Limited.{Limited}
+use Rattle.gate.specs.declared.map.Mapped.{Mapped}
+use Rattle.gate.specs.declared.pair.Tried.{Tried}
+use Rattle.bootstrap.specs.View.{Below, Stands, Grown}
+use Rattle.gate.specs.View.{StandsBoth, Maps, limitedOf, triedOf, mappedOf}
+use Rattle.gate.specs.Gate.{room, roomOf, roomOf-most, Ready, Steps, Same}
+
+-- ---- the inputs limit
+
+module _ (s : Settings) (w : M.Sides) where
+  pub second-not : M.overLimit s w ≡ false → ok w ≡ M.limitSecond s w
+  unfolding M.limitSecond
+  second-not e = rw e
+
+  pub second-over : M.overLimit s w ≡ true → M.bootstrapLeft s w ≡ M.limitSecond s w
+  unfolding M.limitSecond
+  second-over e = rw e
+
+  pub sources-not : M.overLimit s w ≡ false → ok w ≡ M.limitSources s w
+  unfolding M.limitSources
+  sources-not e = rw e
+
+  sources-over : M.overLimit s w ≡ true → (M.bootstrapLeft s w >>= (λ v. M.limitSecond s (M.switchInputs v))) ≡ M.limitSources s w
+  unfolding M.limitSources
+  sources-over e = rw e
+
+  pub sources-refused : (bytes : List ℕ) (l : Limited) → M.overLimit s w ≡ true → (l .number ≡ 0 → ⊥) → limitedOf bytes l ≡ M.bootstrapLeft s w → limitedOf bytes l ≡ M.limitSources s w
+  unfolding limitedOf
+  sources-refused bytes l o n e =
+      let t = ne-eqb (l .number) 0 n in
+      let f : err (l .number) ≡ M.bootstrapLeft s w = rw t at e in
+      rw t (ap (λ r. r >>= (λ v. M.limitSecond s (M.switchInputs v))) f ∙ sources-over o)
+
+  pub sources-on : (bytes : List ℕ) (l : Limited) → M.overLimit s w ≡ true → l .number ≡ 0 → limitedOf bytes l ≡ M.bootstrapLeft s w
+      → M.limitSecond s (M.switchInputs (sidesOf (storeOf bytes (l .count)) (l .sides))) ≡ M.limitSources s w
+  unfolding limitedOf
+  sources-on bytes l o z e =
+      let f : ok (sidesOf (storeOf bytes (l .count)) (l .sides)) ≡ M.bootstrapLeft s w = rw (eq-eqb (l .number) 0 z) at e in
+      ap (λ r. r >>= (λ v. M.limitSecond s (M.switchInputs v))) f ∙ sources-over o
+
+-- ---- an attempt, and what comes next
+
+unfoldable pub attempts : Settings → (M.Sides → Result M.Mapped) → Result M.Sides → Result M.Mapped
+attempts s next q = q >>= (λ v. M.orElse v (M.attempt s v) (next v))
+
+unfoldable pub nine : M.Sides → Result M.Mapped
+nine v = err 9
+
+pub third-is : (s : Settings) (w : M.Sides) → attempts s nine (M.bootstrapRight s w) ≡ M.thirdAttempt s w
+unfolding attempts nine M.thirdAttempt
+third-is s w = refl
+
+pub second-is : (s : Settings) (w : M.Sides) → attempts s (M.thirdAttempt s) (M.bootstrapLeft s w) ≡ M.secondAttempt s w
+unfolding attempts M.secondAttempt
+second-is s w = refl
+
+pub binary-is : (s : Settings) (nodes : List LutNode) (w : M.Sides) (left right : _) (gate : List ℕ) → w ≡ M.largerFirst (M.sides nodes left right gate)
+    → attempts s (M.secondAttempt s) (M.limitSources s w) ≡ M.mapBinaryGate s nodes left right gate
+unfolding attempts M.mapBinaryGate
+binary-is s nodes w left right gate e = ap (λ v. attempts s (M.secondAttempt s) (M.limitSources s v)) e
+
+none-tried : (v : M.Sides) (t : Tried) → t .state ≡ 0 → (r : Result M.Mapped) → r ≡ M.orElse v (triedOf t) r
+unfolding triedOf M.orElse
+none-tried v t n r = rw (eq-eqb (t .state) 0 n)
+
+module _ (s : Settings) (next : M.Sides → Result M.Mapped) (q : Result M.Sides) (bytes : List ℕ) (b : Limited) (e : limitedOf bytes b ≡ q) where
+  pub step-refused : (b .number ≡ 0 → ⊥) → err (b .number) ≡ attempts s next q
+  unfolding attempts limitedOf
+  step-refused n =
+      let f : err (b .number) ≡ q = rw (ne-eqb (b .number) 0 n) at e in
+      ap (attempts s next) f
+
+  pub step-goes : (t : Tried) → b .number ≡ 0 → triedOf t ≡ M.attempt s (sidesOf (storeOf bytes (b .count)) (b .sides))
+      → M.orElse (sidesOf (storeOf bytes (b .count)) (b .sides)) (triedOf t) (next (sidesOf (storeOf bytes (b .count)) (b .sides))) ≡ attempts s next q
+  unfolding attempts limitedOf
+  step-goes t z a =
+      let v = sidesOf (storeOf bytes (b .count)) (b .sides) in
+      let f : ok v ≡ q = rw (eq-eqb (b .number) 0 z) at e in
+      ap (λ x. M.orElse v x (next v)) a ∙ ap (attempts s next) f
+
+  pub step-none : (t : Tried) → b .number ≡ 0 → triedOf t ≡ M.attempt s (sidesOf (storeOf bytes (b .count)) (b .sides)) → t .state ≡ 0
+      → next (sidesOf (storeOf bytes (b .count)) (b .sides)) ≡ attempts s next q
+  step-none t z a n = none-tried (sidesOf (storeOf bytes (b .count)) (b .sides)) t n (next (sidesOf (storeOf bytes (b .count)) (b .sides))) ∙ step-goes t z a
+
+-- ---- the store grows by no more than the sides ask for
+
+pub grows : {count : ℕ} {w : Sides} {bytes : List ℕ} {l : Limited} → Steps count w bytes l → l .number ≡ 0 → Grown count (roomOf w) bytes (l .count)
+grows {count} {w} {bytes} {l} st z =
+    let m = st .most z in
+    record { store = st .ready z .store; least = st .least z; most = omega arith }
+
+pub maps-wider : {before more count less : ℕ} {bytes : List ℕ} {m : Mapped} → before ≤ count → count + less ≤ before + more → Maps count less bytes m → Maps before more bytes m
+maps-wider h k p =
+    record {
+      grown = λ z. let l = p .grown z .least in let u = p .grown z .most in record { store = p .grown z .store; least = omega arith; most = omega arith };
+      stands = p .stands;
+      first = p .first;
+      second = p .second;
+    }
+
+pub grown-wider : {before more less : ℕ} {bytes : List ℕ} {count : ℕ} → less ≤ more → Grown before less bytes count → Grown before more bytes count
+grown-wider h p = let u = p .most in record { store = p .store; least = p .least; most = omega arith }
+
+-- ---- steps of both sides
+
+pub steps-none : {bytes : List ℕ} {count : ℕ} {w : Sides} → Ready bytes count w → Steps count w bytes (record { number = 0; count = count; sides = w })
+steps-none r = record { ready = λ z. r; least = λ z. omega arith; most = λ z. omega arith }
+
+switched-bits : (gate : List ℕ) → allBits gate ≡ true → allBits (getD gate 0 0 ∷ getD gate 2 0 ∷ getD gate 1 0 ∷ getD gate 3 0 ∷ []) ≡ true
+switched-bits gate e = T-is _ (all-bits-of (getD gate 0 0 ∷ getD gate 2 0 ∷ getD gate 1 0 ∷ getD gate 3 0 ∷ []) at)
+  where
+    at : (i : ℕ) → i < 4 → getD (getD gate 0 0 ∷ getD gate 2 0 ∷ getD gate 1 0 ∷ getD gate 3 0 ∷ []) i 0 ≤ 1
+    at zero h = bit-at gate 0 (is-T _ e)
+    at (suc zero) h = bit-at gate 2 (is-T _ e)
+    at (suc (suc zero)) h = bit-at gate 1 (is-T _ e)
+    at (suc (suc (suc zero))) h = bit-at gate 3 (is-T _ e)
+    at (suc (suc (suc (suc i)))) h = absurd (omega arith)
+
+-- the sides switched
+module _ (w v : Sides) (is : (nodes : List LutNode) → sidesOf nodes v ≡ M.switchInputs (sidesOf nodes w)) (places : (v .left ≡ w .right) × (v .right ≡ w .left)) where
+  pub switched-gate : allBits (w .gate) ≡ true → allBits (v .gate) ≡ true
+  unfolding sidesOf M.switchInputs
+  switched-gate b = ap (λ x. allBits (x .gate)) (is []) ∙ switched-bits (w .gate) b
+
+  pub switched-both : (count : ℕ) → StandsBoth count w → StandsBoth count v
+  switched-both count b = record { left = rw (places .0) (b .right); right = rw (places .1) (b .left) }
+
+  switched-room : roomOf v ≡ roomOf w
+  unfolding roomOf
+  switched-room =
+      let l = ap (λ x. room (coneOf (x .cone))) (places .0) in
+      let r = ap (λ x. room (coneOf (x .cone))) (places .1) in
+      omega arith
+
+  pub switched-ready : (bytes : List ℕ) (count : ℕ) → Ready bytes count w → Ready bytes count v
+  switched-ready bytes count r =
+      record { store = r .store; both = switched-both count (r .both); bits = switched-gate (r .bits); fits = rw switched-room (r .fits) }
+
+  -- a step behind another one
+  pub steps-on : (count more : ℕ) (first : Sides) (bytes : List ℕ) (l : Limited) → count ≤ more → more + roomOf w ≤ count + roomOf first → Steps more v bytes l → Steps count first bytes l
+  steps-on count more first bytes l h k st =
+      record {
+        ready = st .ready;
+        least = λ z. let a = st .least z in omega arith;
+        most = λ z. let a = st .most z in let e = switched-room in omega arith;
+      }
+
+-- ---- both sides of a gate at first
+
+module _ (left right : Cone) (gate : List ℕ) where
+  abbrev pub unswitched : Sides
+  unswitched = record { left = record { cone = left; new = false }; right = record { cone = right; new = false }; gate = gate; switched = false }
+
+  pub sides-switched : (v : Sides) → C.less (C.coneOrderKey (coneOf left)) (C.coneOrderKey (coneOf right)) ≡ true
+      → ((nodes : List LutNode) → sidesOf nodes v ≡ M.switchInputs (sidesOf nodes unswitched))
+      → (nodes : List LutNode) → sidesOf nodes v ≡ M.largerFirst (M.sides nodes (coneOf left) (coneOf right) gate)
+  unfolding M.largerFirst M.sides sidesOf sideOf
+  sides-switched v t e nodes = rw t (e nodes)
+
+  pub sides-kept : C.less (C.coneOrderKey (coneOf left)) (C.coneOrderKey (coneOf right)) ≡ false
+      → (nodes : List LutNode) → sidesOf nodes unswitched ≡ M.largerFirst (M.sides nodes (coneOf left) (coneOf right) gate)
+  unfolding M.largerFirst M.sides sidesOf sideOf
+  sides-kept t nodes = rw t
+
+  pub same-switched : (v : Sides) → ((nodes : List LutNode) → sidesOf nodes v ≡ M.switchInputs (sidesOf nodes unswitched)) → (v .left ≡ unswitched .right) × (v .right ≡ unswitched .left)
+      → Same left right gate v
+  same-switched v e p =
+      record { stands = λ count l r. switched-both unswitched v e p count (record { left = l; right = r }); bits = λ b. switched-gate unswitched v e p b }
+
+  pub same-kept : Same left right gate unswitched
+  same-kept = record { stands = λ count l r. record { left = l; right = r }; bits = λ b. b }
+
+-- ---- what a gate gives
+
+pub refused-is : (m : Mapped) → 0 < m .number → (bytes : List ℕ) → mappedOf bytes m ≡ err (m .number)
+unfolding mappedOf
+refused-is m h bytes = rw (ne-eqb (m .number) 0 (λ e. omega arith))
+
+pub refused-maps : (m : Mapped) → 0 < m .number → (before more : ℕ) (bytes : List ℕ) → Maps before more bytes m
+refused-maps m h before more bytes =
+    record { grown = λ z. absurd (omega arith); stands = λ z. absurd (omega arith); first = λ z. absurd (omega arith); second = λ z. absurd (omega arith) }
+
+pub kept-maps : (before more : ℕ) (bytes : List ℕ) (m : Mapped) → Grown before more bytes (m .count) → Stands (m .count) (m .cone) → Stands (m .count) (m .first .cone)
+    → Stands (m .count) (m .second .cone) → Maps before more bytes m
+kept-maps before more bytes m g c f s = record { grown = λ z. g; stands = λ z. c; first = λ z. f; second = λ z. s }
+
+pub grown-none : (bytes : List ℕ) (count : ℕ) → IsStore bytes count → Grown count 4 bytes count
+grown-none bytes count st = record { store = st; least = omega arith; most = omega arith }
+
+-- an attempt's answer
+module _ (t : Tried) (v : M.Sides) (next : Result M.Mapped) where
+  pub answer-refused : 0 < t .state → (t .state ≡ 1 → ⊥) → err (t .state) ≡ M.orElse v (triedOf t) next
+  unfolding triedOf M.orElse
+  answer-refused h n = rw (ne-eqb (t .state) 0 (λ e. omega arith), ne-eqb (t .state) 1 n)
+
+  pub answer-cone : t .state ≡ 1 → M.mapped v (coneOf (t .cone)) ≡ M.orElse v (triedOf t) next
+  unfolding triedOf M.orElse
+  answer-cone e = rw (ne-eqb (t .state) 0 (λ z. omega arith), eq-eqb (t .state) 1 e)
+
+module _ (bytes : List ℕ) (count : ℕ) (w : Sides) (c : Cone) where
+  pub mapped-switched : w .switched ≡ true
+      → mappedOf bytes (record { number = 0; count = count; cone = c; first = w .right; second = w .left }) ≡ M.mapped (sidesOf (storeOf bytes count) w) (coneOf c)
+  unfolding mappedOf M.mapped sidesOf
+  mapped-switched e = rw e
+
+  pub mapped-kept : w .switched ≡ false
+      → mappedOf bytes (record { number = 0; count = count; cone = c; first = w .left; second = w .right }) ≡ M.mapped (sidesOf (storeOf bytes count) w) (coneOf c)
+  unfolding mappedOf M.mapped sidesOf
+  mapped-kept e = rw e
+
+-- ---- unary gates
+
+module _ (s : Settings) (nodes : List LutNode) (c d : C.Cone) (gate : List ℕ) (is : d ≡ throughGate c gate) where
+  pub unary-equal : allEqual (d .truth) ≡ true → M.unchanged nodes (C.constant (getD (d .truth) 0 0)) ≡ M.mapUnaryGate s nodes c gate
+  unfolding M.mapUnaryGate throughGate
+  unary-equal e = ap (λ x. M.unchanged nodes (C.constant (getD (x .truth) 0 0))) is ∙ rw (t e)
+    where
+      t : allEqual (d .truth) ≡ true → allEqual (throughGate c gate .truth) ≡ true
+      t e = ap (λ x. allEqual (x .truth)) (sym is) ∙ e
+
+  pub unary-judged : (r : Result C.Cone) → allEqual (d .truth) ≡ false → r ≡ C.validateCone s d → (r >>= M.unchanged nodes) ≡ M.mapUnaryGate s nodes c gate
+  unfolding M.mapUnaryGate throughGate
+  unary-judged r e q = ap (λ x. x >>= M.unchanged nodes) (q ∙ ap (C.validateCone s) is) ∙ rw (t e)
+    where
+      t : allEqual (d .truth) ≡ false → allEqual (throughGate c gate .truth) ≡ false
+      t e = ap (λ x. allEqual (x .truth)) (sym is) ∙ e
+
+pub through-stands : (count : ℕ) (c d : Cone) (gate : List ℕ) → IsCone d → coneOf d ≡ throughGate (coneOf c) gate → Stands count c → Stands count d
+unfolding throughGate
+through-stands count c d gate is e st =
+    record { cone = is; below = subst (λ x. Below count x) (sym e) (record { at = st .below .at }) }
+
+pub constant-stands : (count : ℕ) (d : Cone) (bit : ℕ) → IsCone d → coneOf d ≡ C.constant bit → Stands count d
+unfolding C.constant
+constant-stands count d bit is e = record { cone = is; below = subst (λ x. Below count x) (sym e) (record { at = λ i h. absurd (not-suc-le-zero h) }) }
+
+pub first-ready : (bytes : List ℕ) (count : ℕ) (left right : Cone) (gate : List ℕ) (w : Sides) → Same left right gate w → IsStore bytes count → count + 4 ≤ 672 → Stands count left
+    → Stands count right → allBits gate ≡ true → Ready bytes count w
+first-ready bytes count left right gate w same store h l r b =
+    record { store = store; both = same .stands count l r; bits = same .bits b; fits = omega (arith, roomOf-most w) }
+
+-- ---- a constant side
+
+pub bit-of : (c : C.Cone) (v : ℕ) → Bit v ≡ constantOf c → (M.isConstant c ≡ true) × (v ≡ M.constantValue c)
+unfolding constantOf
+bit-of c v e = by (M.isConstant c) refl e
+  where
+    by : (t : Bool) → M.isConstant c ≡ t → Bit v ≡ (if t then Bit (M.constantValue c) else No) → (M.isConstant c ≡ true) × (v ≡ M.constantValue c)
+    by true f g = (f, cc)
+    by false f g = absurd (zero≢one (cc))
+
+pub no-of : (c : C.Cone) → No ≡ constantOf c → M.isConstant c ≡ false
+unfolding constantOf
+no-of c e = by (M.isConstant c) refl e
+  where
+    by : (t : Bool) → M.isConstant c ≡ t → No ≡ (if t then Bit (M.constantValue c) else No) → M.isConstant c ≡ false
+    by true f g = absurd (zero≢one (cc))
+    by false f g = f
+
+two-of : (l : List ℕ) (n : ℕ) → n + 2 ≤ length l → getD l n 0 ∷ getD l (suc n) 0 ∷ [] ≡ take 2 (drop n l)
+two-of (a ∷ b ∷ l) zero h = refl
+two-of (a ∷ []) zero h = absurd (omega arith)
+two-of [] n h = absurd (omega arith)
+two-of (a ∷ l) (suc n) h = two-of l n (omega arith)
+
+module _ (s : Settings) (nodes : List LutNode) (left right : C.Cone) (gate : List ℕ) where
+  pub two-left : (v : ℕ) → M.isConstant left ≡ true → v ≡ M.constantValue left → v ≤ 1 → length gate ≡ 4
+      → M.mapUnaryGate s nodes right (getD gate (2 * v) 0 ∷ getD gate (2 * v + 1) 0 ∷ []) ≡ M.mapGate s nodes (left ∷ right ∷ []) gate
+  unfolding M.mapGate
+  two-left v c e h l =
+      rw c
+      (ap (M.mapUnaryGate s nodes right)
+      (ap (λ n. getD gate (2 * v) 0 ∷ getD gate n 0 ∷ []) (add-one (2 * v)) ∙ two-of gate (2 * v) (omega arith) ∙ ap (λ n. take 2 (drop (2 * n) gate)) e))
+
+  pub two-right : (v : ℕ) → M.isConstant left ≡ false → M.isConstant right ≡ true → v ≡ M.constantValue right
+      → M.mapUnaryGate s nodes left (getD gate v 0 ∷ getD gate (2 + v) 0 ∷ []) ≡ M.mapGate s nodes (left ∷ right ∷ []) gate
+  unfolding M.mapGate
+  two-right v n c e = rw (n, c) (ap (λ k. M.mapUnaryGate s nodes left (getD gate k 0 ∷ getD gate (2 + k) 0 ∷ [])) e)
+
+  pub two-binary : M.isConstant left ≡ false → M.isConstant right ≡ false → M.mapBinaryGate s nodes left right gate ≡ M.mapGate s nodes (left ∷ right ∷ []) gate
+  unfolding M.mapGate
+  two-binary n m = rw (n, m)

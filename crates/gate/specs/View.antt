@@ -1,0 +1,57 @@
+-- What the structs of a gate stand for, and what holds of them on the way.
+use mathlib.Core.Path.{_≡_}
+use mathlib.Core.List.{List}
+use mathlib.Core.Option.{Option, none, some}
+use Prim.Native.Nat.{ℕ}
+use lib.Dec.{eqb}
+use Rattle.laws.specs.Test.{if_then_else_}
+use Rattle.rules.specs.Cone as C
+use Rattle.rules.specs.Cone.{Result, ok, err}
+use Rattle.rules.specs.Mapper as M
+use Rattle.cone.specs.declared.order.Side.{Side}
+use Rattle.cone.specs.declared.order.Sides.{Sides}
+use Rattle.cone.specs.View.{coneOf}
+use Rattle.cone.specs.Order.{sideOf, sidesOf}
+use Rattle.lut.specs.View.{storeOf}
+use Rattle.bootstrap.specs.View.{Stands, Grown}
+use Rattle.gate.specs.declared.pair.Tried.{Tried}
+use Rattle.gate.specs.declared.map.Limited.{Limited}
+use Rattle.gate.specs.declared.map.Mapped.{Mapped}
+
+pub record StandsBoth (count : ℕ) (s : Sides) : Type 0 where
+  pub left : Stands count (s .left .cone)
+  pub right : Stands count (s .right .cone)
+
+-- ---- One attempt: 0 no composition, 1 a cone, else the number of the refusal.
+
+unfoldable pub triedOf : Tried → Option (Result C.Cone)
+triedOf t = if eqb (t .state) 0 then none else if eqb (t .state) 1 then some (ok (coneOf (t .cone))) else some (err (t .state))
+
+-- ---- The two sides of a gate on the way.
+
+unfoldable pub limitedOf : List ℕ → Limited → Result M.Sides
+limitedOf bytes l = if eqb (l .number) 0 then ok (sidesOf (storeOf bytes (l .count)) (l .sides)) else err (l .number)
+
+pub record Limits (before more : ℕ) (bytes : List ℕ) (l : Limited) : Type 0 where
+  pub grown : l .number ≡ 0 → Grown before more bytes (l .count)
+  pub stands : l .number ≡ 0 → StandsBoth (l .count) (l .sides)
+
+-- ---- A gate.
+
+unfoldable pub mappedOf : List ℕ → Mapped → Result M.Mapped
+mappedOf bytes m =
+    if eqb (m .number) 0
+    then ok
+    (record {
+      nodes = storeOf bytes (m .count);
+      cone = coneOf (m .cone);
+      first = M.update (sideOf (m .first));
+      second = M.update (sideOf (m .second));
+    })
+    else err (m .number)
+
+pub record Maps (before more : ℕ) (bytes : List ℕ) (m : Mapped) : Type 0 where
+  pub grown : m .number ≡ 0 → Grown before more bytes (m .count)
+  pub stands : m .number ≡ 0 → Stands (m .count) (m .cone)
+  pub first : m .number ≡ 0 → Stands (m .count) (m .first .cone)
+  pub second : m .number ≡ 0 → Stands (m .count) (m .second .cone)

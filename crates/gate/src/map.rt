@@ -1,0 +1,239 @@
+// One gate: unary, with a constant side, or binary.
+use crate::pair::Tried;
+use crate::pair::attempt;
+use crate::sides::bootstrap_left;
+use crate::sides::bootstrap_right;
+use crate::sides::limit_sources;
+use crate::sides::sides_of;
+use cone::Cone;
+use cone::Constant;
+use cone::order::Side;
+use cone::order::Sides;
+use cone::unary::all_equal;
+use cone::unary::apply_unary;
+use cone::unary::first_truth;
+use cone::valid::Validity;
+use cone::valid::validate_cone;
+use rules::Settings;
+ghost use mathlib.Core.Path.{_≡_};
+ghost use mathlib.Core.Bool.{true};
+ghost use mathlib.Core.List.{List, [], _∷_};
+ghost use Prim.Native.Nat.{ℕ, _+_, _≤_, _<_};
+ghost use Rattle.rules.specs.CircuitText.{inLimits};
+ghost use Rattle.rules.specs.Cone.{Result, err};
+ghost use Rattle.rules.specs.Runs.{allBits};
+ghost use Rattle.rules.specs.Mapper.{unchanged, mapUnaryGate, attempt as attempted, orElse, secondAttempt, thirdAttempt, mapBinaryGate, mapGate};
+ghost use Rattle.rules.specs.Mapper.{Mapped as Gives};
+ghost use Rattle.cone.specs.View.{coneOf};
+ghost use Rattle.cone.specs.Order.{sidesOf};
+ghost use Rattle.lut.specs.View.{storeOf, IsStore};
+ghost use Rattle.bootstrap.specs.View.{Stands, Grown};
+ghost use Rattle.gate.specs.View.{StandsBoth, Maps, mappedOf, triedOf};
+ghost use Rattle.gate.specs.Gate.{roomOf, Ready};
+
+// The gate's cone, and both sides, the first input left, with those that were bootstrapped.
+pub struct Mapped {
+    pub number: usize,
+    pub count: usize,
+    pub cone: Cone,
+    pub first: Side,
+    pub second: Side,
+}
+
+// Both sides after bootstraps, or the number of the refusal.
+pub struct Limited {
+    pub number: usize,
+    pub count: usize,
+    pub sides: Sides,
+}
+
+// The cone, and no side bootstrapped.
+fn unchanged(count: usize, c: Cone) -> Mapped
+    ensures is { λ r. ⌜ ((bytes : List ℕ) → mappedOf bytes r ≡ unchanged (storeOf bytes count) (coneOf c)) ⌝ }
+    ensures stands { λ r. ⌜ ((bytes : List ℕ) → IsStore bytes count → Stands count c → Maps count 4 bytes r) ⌝ }
+{
+    let side = Side {
+        cone: c,
+        new: false,
+    };
+    Mapped {
+        number: 0,
+        count,
+        cone: c,
+        first: side,
+        second: side,
+    }
+}
+
+// The refusal; the cone is there for the struct alone.
+fn refused(number: usize, c: Cone) -> Mapped
+    requires { ⌜ 0 < number ⌝ }
+    ensures is { λ r. ⌜ ((bytes : List ℕ) → mappedOf bytes r ≡ err number) ⌝ }
+    ensures stands { λ r. ⌜ ((before more : ℕ) (bytes : List ℕ) → Maps before more bytes r) ⌝ }
+{
+    let side = Side {
+        cone: c,
+        new: false,
+    };
+    Mapped {
+        number,
+        count: 0,
+        cone: c,
+        first: side,
+        second: side,
+    }
+}
+
+// map_unary_gate
+pub fn map_unary(s: Settings, count: usize, c: Cone, zero: u8, one: u8) -> Mapped
+    requires { ⌜ (inLimits s ≡ true) × (Stands count c × ((zero ≤ 1) × (one ≤ 1))) ⌝ }
+    ensures is { λ r. ⌜ ((bytes : List ℕ) → mappedOf bytes r ≡ mapUnaryGate s (storeOf bytes count) (coneOf c) (zero ∷ one ∷ [])) ⌝ }
+    ensures stands { λ r. ⌜ ((bytes : List ℕ) → IsStore bytes count → Maps count 4 bytes r) ⌝ }
+{
+    let d = apply_unary(c, zero, one);
+    if all_equal(d) {
+        return unchanged(count, Cone::constant(first_truth(d)));
+    }
+    let v = validate_cone(s, d);
+    match v {
+        Validity::Valid => unchanged(count, d),
+        Validity::OverNorm => refused(8, d),
+        Validity::Invalid => refused(10, d),
+    }
+}
+
+// The attempt's cone or its refusal; the first input's side is first again.
+fn concluded(count: usize, w: Sides, t: Tried) -> Mapped
+    requires { ⌜ 0 < t .state ⌝ }
+    ensures is { λ r. ⌜ ((bytes : List ℕ) (next : Result Gives) → mappedOf bytes r ≡ orElse (sidesOf (storeOf bytes count) w) (triedOf t) next) ⌝ }
+    ensures stands { λ r. ⌜ ((before more : ℕ) (bytes : List ℕ) → Grown before more bytes count → StandsBoth count w → (t .state ≡ 1 → Stands count (t .cone)) → Maps before more bytes r) ⌝ }
+{
+    let left = w.left;
+    let right = w.right;
+    let c = t.cone;
+    if t.state != 1 {
+        return refused(t.state, c);
+    }
+    if w.switched {
+        return Mapped {
+            number: 0,
+            count,
+            cone: c,
+            first: right,
+            second: left,
+        };
+    }
+    Mapped {
+        number: 0,
+        count,
+        cone: c,
+        first: left,
+        second: right,
+    }
+}
+
+// One of map_binary_gate's three attempts.
+fn attempt_sides(s: Settings, nodes: &[u8; 25536], count: usize, w: Sides) -> Tried
+    requires { ⌜ (inLimits s ≡ true) × Ready (now nodes) count w ⌝ }
+    ensures is { λ r. ⌜ triedOf r ≡ attempted s (sidesOf (storeOf (now (nodes .entry)) count) w) ⌝ }
+    ensures stands { λ r. ⌜ (r .state ≡ 1 → Stands count (r .cone)) ⌝ }
+{
+    let left = w.left;
+    let right = w.right;
+    let l = left.cone;
+    let r = right.cone;
+    let gate = w.gate;
+    attempt(s, nodes, count, l, r, gate)
+}
+
+// The third attempt, after the right side is bootstrapped too.
+fn third_attempt(s: Settings, nodes: &mut [u8; 25536], count: usize, w: Sides) -> Mapped
+    requires { ⌜ (inLimits s ≡ true) × Ready (now nodes) count w ⌝ }
+    ensures is { λ r. ⌜ mappedOf (now (nodes .exit)) r ≡ thirdAttempt s (sidesOf (storeOf (now (nodes .entry)) count) w) ⌝ }
+    ensures stands { λ r. ⌜ Maps count (roomOf w) (now (nodes .exit)) r ⌝ }
+{
+    let b = bootstrap_right(s, nodes, count, w);
+    let v = b.sides;
+    let left = v.left;
+    let l = left.cone;
+    if b.number != 0 {
+        return refused(b.number, l);
+    }
+    let t = attempt_sides(s, nodes, b.count, v);
+    if t.state == 0 {
+        return refused(9, l);
+    }
+    concluded(b.count, v, t)
+}
+
+// The second attempt, after the left side is bootstrapped.
+fn second_attempt(s: Settings, nodes: &mut [u8; 25536], count: usize, w: Sides) -> Mapped
+    requires { ⌜ (inLimits s ≡ true) × Ready (now nodes) count w ⌝ }
+    ensures is { λ r. ⌜ mappedOf (now (nodes .exit)) r ≡ secondAttempt s (sidesOf (storeOf (now (nodes .entry)) count) w) ⌝ }
+    ensures stands { λ r. ⌜ Maps count (roomOf w) (now (nodes .exit)) r ⌝ }
+{
+    let b = bootstrap_left(s, nodes, count, w);
+    let v = b.sides;
+    let left = v.left;
+    let l = left.cone;
+    if b.number != 0 {
+        return refused(b.number, l);
+    }
+    let t = attempt_sides(s, nodes, b.count, v);
+    if t.state == 0 {
+        return third_attempt(s, nodes, b.count, v);
+    }
+    concluded(b.count, v, t)
+}
+
+// map_binary_gate
+pub fn map_binary(
+    s: Settings,
+    nodes: &mut [u8; 25536],
+    count: usize,
+    left: Cone,
+    right: Cone,
+    gate: [u8; 4],
+) -> Mapped
+    requires { ⌜ (inLimits s ≡ true) × (IsStore (now nodes) count × ((count + 4 ≤ 672) × (Stands count left × (Stands count right × (allBits gate ≡ true))))) ⌝ }
+    ensures is { λ r. ⌜ mappedOf (now (nodes .exit)) r ≡ mapBinaryGate s (storeOf (now (nodes .entry)) count) (coneOf left) (coneOf right) gate ⌝ }
+    ensures stands { λ r. ⌜ Maps count 4 (now (nodes .exit)) r ⌝ }
+{
+    let w = sides_of(left, right, gate);
+    let b = limit_sources(s, nodes, count, w);
+    if b.number != 0 {
+        return refused(b.number, left);
+    }
+    let v = b.sides;
+    let t = attempt_sides(s, nodes, b.count, v);
+    if t.state == 0 {
+        return second_attempt(s, nodes, b.count, v);
+    }
+    concluded(b.count, v, t)
+}
+
+// map_gate of two wires: a constant side makes it unary.
+pub fn map_two(
+    s: Settings,
+    nodes: &mut [u8; 25536],
+    count: usize,
+    left: Cone,
+    right: Cone,
+    gate: [u8; 4],
+) -> Mapped
+    requires { ⌜ (inLimits s ≡ true) × (IsStore (now nodes) count × ((count + 4 ≤ 672) × (Stands count left × (Stands count right × (allBits gate ≡ true))))) ⌝ }
+    ensures is { λ r. ⌜ mappedOf (now (nodes .exit)) r ≡ mapGate s (storeOf (now (nodes .entry)) count) (coneOf left ∷ coneOf right ∷ []) gate ⌝ }
+    ensures stands { λ r. ⌜ Maps count 4 (now (nodes .exit)) r ⌝ }
+{
+    let l = left.constant_value();
+    if let Constant::Bit(v) = l {
+        let at = 2 * (v as usize);
+        return map_unary(s, count, right, gate[at], gate[at + 1]);
+    }
+    let r = right.constant_value();
+    if let Constant::Bit(v) = r {
+        let at = v as usize;
+        return map_unary(s, count, left, gate[at], gate[2 + at]);
+    }
+    map_binary(s, nodes, count, left, right, gate)
+}

@@ -1,0 +1,220 @@
+// Merging two cones under a gate: one attempt, without a bootstrap.
+use cone::Cone;
+use cone::compose::Basis;
+use cone::compose::basis_of;
+use cone::compose::cone_composition_tables;
+use cone::simplify::simplify_cone;
+use cone::support::union_support_size;
+use cone::table::linear_least;
+use cone::table::linear_span;
+use cone::table::rows_of;
+use cone::valid::Validity;
+use cone::valid::validate_cone;
+use rules::Settings;
+use search::energy::energy_moments;
+use search::find_candidate;
+use search::pair::prepare_coefficients;
+use search::rows::Frame;
+use search::rows::compact_rows;
+use search::score::Score;
+ghost use mathlib.Core.Path.{_≡_};
+ghost use mathlib.Core.Bool.{true};
+ghost use mathlib.Core.Option.{some};
+ghost use Prim.Native.Nat.{_≤_};
+ghost use lib.ListN.{length, take};
+ghost use Rattle.rules.specs.CircuitText.{inLimits};
+ghost use Rattle.rules.specs.Cone.{linearTable, validateCone};
+ghost use Rattle.rules.specs.Composition.{allEqual, compose, simplifyCone, unionSupport};
+ghost use Rattle.rules.specs.Runs.{allBits};
+ghost use Rattle.scale.specs.Limits.{Within};
+ghost use Rattle.cone.specs.View.{coneOf, IsCone};
+ghost use Rattle.lut.specs.View.{storeOf, IsStore};
+ghost use Rattle.search.specs.Policies.{Finds};
+ghost use Rattle.gate.specs.Merged.{mergedOf, Mergeable, judgedBy, Judges};
+ghost use Rattle.gate.specs.Pair.{FrameOf, Tabled, Trial, gated};
+ghost use Rattle.bootstrap.specs.View.{Stands};
+ghost use Rattle.gate.specs.View.{triedOf};
+
+// state: 0 no composition, 1 a cone, else the refusal's number.
+pub struct Tried {
+    pub state: usize,
+    pub cone: Cone,
+}
+
+// How many sources two cones have together.
+fn union_size(left: Cone, right: Cone) -> usize
+    requires { ⌜ IsCone left × IsCone right ⌝ }
+    ensures { λ r. ⌜ r ≡ length (unionSupport (coneOf left .support) (coneOf right .support)) ⌝ }
+{
+    let ls = left.support;
+    let rs = right.support;
+    let n = left.n;
+    let m = right.n;
+    union_support_size(&ls[..n], &rs[..m])
+}
+
+// The grid that begins at the least values over both sources.
+fn frame_of(basis: Basis) -> Frame
+    requires { ⌜ (basis .n ≤ 11) × (Within 1984 (take (basis .n) (basis .left)) × Within 1984 (take (basis .n) (basis .right))) ⌝ }
+    ensures { λ r. ⌜ FrameOf (linearTable (take (basis .n) (basis .left))) (linearTable (take (basis .n) (basis .right))) r ⌝ }
+{
+    let n = basis.n;
+    let left = basis.left;
+    let right = basis.right;
+    Frame {
+        x_low: linear_least(&left[..n]),
+        y_low: linear_least(&right[..n]),
+        y_span: linear_span(&right[..n]),
+    }
+}
+
+// all_equal
+fn all_equal(truth: &[u8]) -> bool
+    ensures { λ r. ⌜ r ≡ allEqual (now (truth .entry)) ⌝ }
+{
+    let mut i = 1;
+    while i < truth.len() {
+        if truth[i] != truth[0] {
+            return false;
+        }
+        i += 1;
+    }
+    true
+}
+
+// The best scale pair for the rows of both cones and the gate.
+fn best_pair(
+    s: Settings,
+    left: Cone,
+    right: Cone,
+    basis: Basis,
+    nodes: &[u8; 25536],
+    count: usize,
+    rows: usize,
+    mut xs: [i32; 2048],
+    mut ys: [i32; 2048],
+    mut truth: [u8; 2048],
+) -> Score
+    requires { ⌜ Trial s (now nodes) count left right basis × Tabled basis rows xs ys truth ⌝ }
+    ensures { λ r. ⌜ Finds s (storeOf (now (nodes .entry)) count) (coneOf left) (coneOf right) (take rows truth) r ⌝ }
+{
+    let f = frame_of(basis);
+    let first = left.span();
+    let second = right.span();
+    let mut counts = [0u16; 2048];
+    let n = compact_rows(f, rows, &mut xs, &mut ys, &mut truth, &mut counts);
+    let m = energy_moments(&xs, &ys, &truth, &counts, n);
+    find_candidate(
+        s,
+        first,
+        second,
+        basis,
+        m,
+        nodes,
+        count,
+        &xs[..n],
+        &ys[..n],
+        &truth[..n],
+    )
+}
+
+// merge_cones, before the judgement: the cone of a scale pair, without the sources that it cancels.
+fn merged(basis: Basis, best: Score) -> Cone
+    requires { ⌜ Mergeable basis best ⌝ }
+    ensures { λ r. ⌜ IsCone r × (coneOf r ≡ simplifyCone (coneOf (mergedOf basis best))) ⌝ }
+{
+    let n = basis.n;
+    let support = basis.support;
+    let left = basis.left;
+    let right = basis.right;
+    let coefs = prepare_coefficients(&left[..n], &right[..n], best.a, best.b);
+    let known = best.known;
+    simplify_cone(Cone {
+        n,
+        support,
+        coefs,
+        known,
+    })
+}
+
+// A cone that may stand, or the number of the refusal.
+fn validated(s: Settings, cone: Cone) -> Tried
+    requires { ⌜ IsCone cone ⌝ }
+    ensures is { λ r. ⌜ triedOf r ≡ some (validateCone s (coneOf cone)) ⌝ }
+    ensures same { λ r. ⌜ r .cone ≡ cone ⌝ }
+{
+    let state = match validate_cone(s, cone) {
+        Validity::Valid => 1,
+        Validity::OverNorm => 8,
+        Validity::Invalid => 10,
+    };
+    Tried { state, cone }
+}
+
+// The merged cone of the best pair, if there is one.
+fn judged(s: Settings, left: Cone, basis: Basis, best: Score) -> Tried
+    requires { ⌜ (best .found ≡ true → Mergeable basis best) ⌝ }
+    ensures is { λ r. ⌜ triedOf r ≡ judgedBy s basis best ⌝ }
+    ensures cone { λ r. ⌜ (r .state ≡ 1 → Judges basis best (r .cone)) ⌝ }
+{
+    if !best.found {
+        return Tried {
+            state: 0,
+            cone: left,
+        };
+    }
+    let cone = merged(basis, best);
+    validated(s, cone)
+}
+
+// The constant, the merged cone, or no composition, where the sources are not too many.
+fn composed(
+    s: Settings,
+    nodes: &[u8; 25536],
+    count: usize,
+    left: Cone,
+    right: Cone,
+    basis: Basis,
+    gate: [u8; 4],
+) -> Tried
+    requires { ⌜ Trial s (now nodes) count left right basis × (allBits gate ≡ true) ⌝ }
+    ensures is { λ r. ⌜ triedOf r ≡ gated s (storeOf (now (nodes .entry)) count) (coneOf left) (coneOf right) gate ⌝ }
+    ensures stands { λ r. ⌜ (r .state ≡ 1 → Stands count (r .cone)) ⌝ }
+{
+    let mut xs = [0i32; 2048];
+    let mut ys = [0i32; 2048];
+    let mut truth = [0u8; 2048];
+    cone_composition_tables(left, right, basis, gate, &mut xs, &mut ys, &mut truth);
+    let rows = rows_of(basis.n);
+    if all_equal(&truth[..rows]) {
+        return Tried {
+            state: 1,
+            cone: Cone::constant(truth[0]),
+        };
+    }
+    let best = best_pair(s, left, right, basis, nodes, count, rows, xs, ys, truth);
+    judged(s, left, basis, best)
+}
+
+// One attempt: the constant, the merged cone, or no composition.
+pub fn attempt(
+    s: Settings,
+    nodes: &[u8; 25536],
+    count: usize,
+    left: Cone,
+    right: Cone,
+    gate: [u8; 4],
+) -> Tried
+    requires { ⌜ (inLimits s ≡ true) × (IsStore (now nodes) count × (Stands count left × (Stands count right × (allBits gate ≡ true)))) ⌝ }
+    ensures is { λ r. ⌜ triedOf r ≡ compose s (storeOf (now (nodes .entry)) count) (coneOf left) (coneOf right) gate ⌝ }
+    ensures stands { λ r. ⌜ (r .state ≡ 1 → Stands count (r .cone)) ⌝ }
+{
+    if s.t + 1 < union_size(left, right) {
+        return Tried {
+            state: 0,
+            cone: left,
+        };
+    }
+    let basis = basis_of(left, right);
+    composed(s, nodes, count, left, right, basis, gate)
+}
