@@ -1,7 +1,7 @@
 // The two sides of a binary gate: which comes first, how many sources they have, and their bootstraps.
+use crate::map::Limited;
 use bootstrap::boot::Booted;
 use bootstrap::boot::bootstrap_cone;
-use crate::map::Limited;
 use cone::Cone;
 use cone::order::Side;
 use cone::order::Sides;

@@ -1,13 +1,12 @@
 -- The gates in turn: what is asked of their bytes, what the loop's results stand for, and each step.
 use mathlib.Core.Path.{_≡_, refl, sym, ap, ap₂, subst, _∙_}
-use mathlib.Core.Bool.{Bool, true, false, not, _&&_, _||_}
+use mathlib.Core.Bool.{Bool, true, false, _&&_}
 use mathlib.Core.List.{List, [], _∷_, _++_, map}
 use mathlib.Core.Logic.{⊎-elim, _⊎_, inl, inr}
-use mathlib.Core.Option.{none}
 use Prim.Native.Nat.{ℕ, zero, suc, _+_, _*_, _-_, _≤_, _<_}
 use native.Mathlib.Numerals.{add-one}
 use native.Mathlib.Omega.{arith}
-use lib.Dec.{eqb, ltb, leb}
+use lib.Dec.{eqb, leb}
 use lib.ListN.{length, getD, drop, drop-of-length-le}
 use lib.Seq.{drop-cons}
 use borrow.Author.Tests.{lt-ltb, le-ltb, eq-eqb, ne-eqb, leb-true}
@@ -23,11 +22,10 @@ use Rattle.rules.specs.Mapper as M
 use Rattle.rules.specs.Mapper.{State, leadsTo, isForced, isBasic, usedSettings, atLine, andThen, mapNext, mapGates, mapGate, mapUnaryGate, coneAt, replaced, replace, update}
 use Rattle.rules.specs.Network.{LutNode}
 use Rattle.rules.specs.declared.Wire.{Wire}
-use Rattle.rules.specs.declared.Wire.the-variants.{Const, Node}
+use Rattle.rules.specs.declared.Wire.the-variants.{Const}
 use Rattle.rules.specs.Runs.{allBits}
 use Rattle.rules.specs.Store.{Stored, bootstrapCone}
 use Rattle.cone.specs.declared.Cone.{Cone}
-use Rattle.cone.specs.declared.order.Side.{Side}
 use Rattle.cone.specs.View.{coneOf}
 use Rattle.cone.specs.Wires.{coneIn}
 use Rattle.cone.specs.Order.{sideOf}
@@ -38,7 +36,7 @@ use Rattle.mapper.specs.declared.gates.Work.{Work}
 use Rattle.bootstrap.specs.View.{Stands, bootedOf, Boots}
 use Rattle.gate.specs.View.{mappedOf, Maps}
 use Rattle.mapper.specs.View.{conesIn}
-use Rattle.mapper.specs.Wired.{Wired, SlotIn, Settled, Renewed, stateOf, slot-cone, slot-constant, cones-length, cones-own, renewed-cones, renewed-wired, wired-more, wired-put, stands-more}
+use Rattle.mapper.specs.Wired.{Wired, SlotIn, Settled, stateOf, slot-cone, slot-constant, cones-length, cones-own, renewed-cones, renewed-wired, wired-more, wired-put, stands-more}
 use Rattle.circuit.specs.View.{wireIn, slotWire, wiresIn, answersIn, gateIn, gatesIn, outputIn, outputsIn}
 
 -- ---- What is asked of the gates' bytes.

@@ -6,3 +6,7 @@ pub mod Outputs
 pub mod OutputsWalk
 pub mod Live
 pub mod Norm
+pub mod Start
+pub mod Once
+pub mod Conclude
+pub mod Entry

@@ -15,7 +15,7 @@ use Rattle.laws.specs.Tabulate.{tabulate, tabulate-length, tabulate-at}
 use Rattle.laws.specs.Test.{if_then_else_}
 use Rattle.rules.specs.Network.{Term, LutNode, Input, Linear, Bootstrap, member, nodeNorm, largest}
 use Rattle.rules.specs.Scale.{norm}
-use Rattle.rules.specs.Store.{needs, termsOf, renumbered, renumberedTerm, renumberedNode, keptFrom}
+use Rattle.rules.specs.Store.{termsOf, renumbered, renumberedTerm, renumberedNode, keptFrom}
 use Rattle.lut.specs.Nodes.{kindOf}
 use Rattle.lut.specs.Sums.{fine-at}
 use Rattle.lut.specs.View.{term, nodeOf, storeOf, Fine}

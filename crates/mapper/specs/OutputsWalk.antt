@@ -1,7 +1,7 @@
 -- The loop over the outputs: what holds of the ports on the way, and each step.
 use mathlib.Core.Path.{_≡_, refl, sym, ap, ap₂, subst, _∙_}
 use mathlib.Core.List.{List, [], _∷_, _++_}
-use mathlib.Core.Logic.{⊎-elim, _⊎_, inl, inr, _≢_}
+use mathlib.Core.Logic.{⊎-elim, inl, inr, _≢_}
 use Prim.Native.Nat.{ℕ, _+_, _*_, _-_, _≤_, _<_}
 use native.Mathlib.Numerals.{add-one}
 use native.Mathlib.Omega.{arith}
@@ -173,23 +173,25 @@ outputs-done s cones text before outs i nodes k ports v a b e q =
 -- ---- laws: what is left in the ports
 
 pub outs-none : (before : List ℕ) (count outs k i : ℕ) (nodes ports : List ℕ) (v : Work) → Written before k i ports → i ≤ outs → (v .number ≡ 0 → ⊥)
-    → Outs before count outs nodes ports v
-outs-none before count outs k i nodes ports v w h e =
+    → v .line ≡ 0 → Outs before count outs nodes ports v
+outs-none before count outs k i nodes ports v w h e no-line =
     record {
       store = λ z. absurd (e z);
       least = λ z. absurd (e z);
       most = λ z. absurd (e z);
       good = λ z. absurd (e z);
+      line = no-line;
       kept = λ j never. w .others j (λ m l. never m (omega arith));
     }
 
 pub outs-done : (before : List ℕ) (count outs k i : ℕ) (nodes ports : List ℕ) (v : Work) → Written before k i ports → outs ≤ i → i ≤ outs → outs ≤ 32 → IsStore nodes k → count ≤ k
-    → k ≤ count + 2 * i → v .count ≡ k → Outs before count outs nodes ports v
-outs-done before count outs k i nodes ports v w a b few is least most q =
+    → k ≤ count + 2 * i → v .count ≡ k → v .line ≡ 0 → Outs before count outs nodes ports v
+outs-done before count outs k i nodes ports v w a b few is least most q no-line =
     record {
       store = λ z. subst (IsStore nodes) (sym q) is;
       least = λ z. omega arith;
       most = λ z. omega arith;
       good = λ z. subst (λ n. GoodPorts ports n outs) (sym q) (record { long = w .long; few = few; wires = λ j l. w .done j (omega arith) });
+      line = no-line;
       kept = λ j never. w .others j (λ m l. never m (omega arith));
     }

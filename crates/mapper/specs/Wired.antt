@@ -1,25 +1,23 @@
 -- The store and the cones of the wires on the way: what holds of them, and what a cone that is put changes.
 use mathlib.Core.Path.{_≡_, refl, sym, ap, ap₂, subst, _∙_}
-use mathlib.Core.Bool.{Bool, true, false, not}
+use mathlib.Core.Bool.{true, false}
 use mathlib.Core.List.{List, [], _∷_, _++_}
 use mathlib.Core.Logic.{⊎-elim, _⊎_, inl, inr, _≢_}
-use Prim.Native.Nat.{ℕ, suc, _+_, _-_, _≤_, _<_}
+use Prim.Native.Nat.{ℕ, _+_, _-_, _≤_, _<_}
 use native.Mathlib.Numerals.{add-one}
 use native.Mathlib.Omega.{arith}
-use lib.Dec.{eqb, ltb}
 use lib.ListN.{length, getD, set, length-set}
 use lib.Seq.{ext-getD, getD-set-same, getD-set-other}
 use borrow.Author.Tests.{lt-ltb, le-ltb}
-use Rattle.laws.specs.Tabulate.{tabulate, tabulate-length, tabulate-at, tabulate-same, tabulate-snoc}
-use Rattle.laws.specs.Test.{if_then_else_, lt-or-le, eq-or-ne}
-use Rattle.rules.specs.declared.Wire.{Wire}
+use Rattle.laws.specs.Tabulate.{tabulate-length, tabulate-at, tabulate-same, tabulate-snoc}
+use Rattle.laws.specs.Test.{eq-or-ne}
 use Rattle.rules.specs.declared.Wire.the-variants.{Const, Node}
 use Rattle.rules.specs.Cone as C
 use Rattle.rules.specs.Cone.{constant}
 use Rattle.rules.specs.Mapper.{State, coneAt, replace, update}
 use Rattle.cone.specs.declared.Cone.{Cone}
 use Rattle.cone.specs.declared.order.Side.{Side}
-use Rattle.cone.specs.View.{coneOf, IsCone}
+use Rattle.cone.specs.View.{coneOf}
 use Rattle.cone.specs.Order.{sideOf}
 use Rattle.cone.specs.Wires.{coneIn, IsPut}
 use Rattle.lut.specs.View.{storeOf, IsStore}

@@ -1,13 +1,13 @@
 // The gates in turn: each one's cone into its slot, and those of its wires that were bootstrapped.
 use bootstrap::boot::Booted;
 use bootstrap::boot::bootstrap_cone;
-use gate::map::Mapped;
-use gate::map::map_two;
-use gate::map::map_unary;
 use cone::Cone;
 use cone::order::Side;
 use cone::wires::cone_at;
 use cone::wires::put_cone;
+use gate::map::Mapped;
+use gate::map::map_two;
+use gate::map::map_unary;
 use rules::Policy;
 use rules::Settings;
 ghost use mathlib.Core.Path.{_≡_};

@@ -1,6 +1,6 @@
 // The outputs: each one's cone as a wire of the network, a node or a constant, in the place of the circuit's wire.
-use bootstrap::boot::bootstrap_cone;
 use crate::gates::Work;
+use bootstrap::boot::bootstrap_cone;
 use cone::Cone;
 use cone::unary::first_truth;
 use cone::wires::cone_at;

@@ -69,7 +69,7 @@ returns c =
     let l = c .before .before .before .before .before in
     let o = l .before .loop in
     let w = o .inv .1 .1 .1 .1 .0 in
-    (λ text. outputs-refused _ _ text _ _ _ (l .loop-test .taken) _ _ _ w _ _ (c .before .before .map-output .ensures .0) (c .if1 .taken) _ _ refl ∙ o .inv .1 .1 .1 .1 .1 text, outs-none _ _ _ _ _ _ _ _ w (o .inv .0) (c .if1 .taken))
+    (λ text. outputs-refused _ _ text _ _ _ (l .loop-test .taken) _ _ _ w _ _ (c .before .before .map-output .ensures .0) (c .if1 .taken) _ _ refl ∙ o .inv .1 .1 .1 .1 .1 text, outs-none _ _ _ _ _ _ _ _ w (o .inv .0) (c .if1 .taken) refl)
 
 -- src/outputs.rt:171:20
 mul-ports : tie.Need-mul-ports Inv-loop μ-loop
@@ -118,7 +118,7 @@ returns-2 c =
     let o = c .before .loop in
     let s = c .before .before in
     let out = c .loop-test .left in
-    (λ text. outputs-done _ _ text _ _ _ _ _ _ _ out (o .inv .0) refl refl ∙ o .inv .1 .1 .1 .1 .1 text, outs-done _ _ _ _ _ _ _ _ (o .inv .1 .1 .1 .1 .0) out (o .inv .0) (s .pre .1 .1 .1 .1 .few) (o .inv .1 .0 .store) (o .inv .1 .1 .0) (o .inv .1 .1 .1 .0) refl)
+    (λ text. outputs-done _ _ text _ _ _ _ _ _ _ out (o .inv .0) refl refl ∙ o .inv .1 .1 .1 .1 .1 text, outs-done _ _ _ _ _ _ _ _ (o .inv .1 .1 .1 .1 .0) out (o .inv .0) (s .pre .1 .1 .1 .1 .few) (o .inv .1 .0 .store) (o .inv .1 .1 .0) (o .inv .1 .1 .1 .0) refl refl)
 
 pub map-outputs-spec : {M : Type 1} → statement M
 map-outputs-spec =
