@@ -338,7 +338,7 @@ static void *job(void *given) {
             uint8_t out[256];
             fbs_reply r = fbs_map(bytes(mapped[i].text), strlen(mapped[i].text), out, sizeof out);
             j->wrong += r.number != mapped[i].number || r.line != mapped[i].line;
-            j->wrong += r.number == 0 && memcmp(out, mapped[i].network, r.count) != 0;
+            j->wrong += mapped[i].network && (r.count != strlen(mapped[i].network) || memcmp(out, mapped[i].network, r.count) != 0);
         }
         for (size_t i = 0; i < sizeof judged / sizeof *judged; i++) {
             fbs_admission r = fbs_admit(bytes(judged[i].text), strlen(judged[i].text));
