@@ -8,7 +8,6 @@ use Rattle.rules.specs.Runs.{RunAnswer, Numbered, RunOutcome, ran}
 use Rattle.rules.specs.declared.BuilderReply.{BuilderReply}
 use Rattle.rules.specs.declared.BuilderReply.the-variants.{Written, BadSettings, BadLengths, SpanOverM, Conflict, NoCompletion, ShortBuffer}
 use Rattle.exports.specs.Numbers.{answer, runNumbers, numbered}
-use Rattle.exports.specs.declared.FbsReply.{FbsReply}
 
 pub answered : (a b : Answer) (s : List ℕ) (o : Outcome) → a ≡ b → outcome b s ≡ o → outcome a s ≡ o
 answered a b s o e f = ap (λ (t : Answer). outcome t s) e ∙ f

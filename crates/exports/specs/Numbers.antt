@@ -1,6 +1,5 @@
 -- Document 01's answers as numbers: what each place of the two reply structs holds.
 use mathlib.Core.Option.{Option, none, some}
-use Prim.Native.Nat.{ℕ}
 use Rattle.rules.specs.Outcome.{Answer, refused}
 use Rattle.rules.specs.NetworkText.{Admission}
 use Rattle.rules.specs.Runs.{RunAnswer, Numbered, NotBits, NoRoom, BreakOff, RunOutcome, ran}
