@@ -1,28 +1,8 @@
 /* Maps the circuits of standard input through the library, each closed by a line `(end)`, and writes each answer in the service's
  * form (tools/check_exports compares with what the Rust answered). A network that is not admitted is followed by a line that says so. */
-#include <stdio.h>
-#include <string.h>
+#include "job.h"
 
-#include "wonkpecan.h"
-
-static uint8_t text[FBS_ANSWER_BYTES], out[FBS_ANSWER_BYTES];
-
-/* the next job without its `(end)` line; whether there is one */
-static int next_job(size_t *length) {
-    size_t line = 0;
-    int byte;
-    *length = 0;
-    while (*length < sizeof text && (byte = getchar()) != EOF) {
-        text[(*length)++] = (uint8_t)byte;
-        if (byte != '\n') continue;
-        if (*length - line == 6 && memcmp(text + line, "(end)\n", 6) == 0) {
-            *length = line;
-            return 1;
-        }
-        line = *length;
-    }
-    return 0;
-}
+static uint8_t out[FBS_ANSWER_BYTES];
 
 int main(void) {
     size_t length;
