@@ -11,6 +11,7 @@ TARGET = REPOSITORY / "target" / "oracle"
 ORACLE = TARGET / "release" / "oracle"
 REACH = TARGET / "release" / "reach"
 CONES = TARGET / "release" / "cones"
+CONVERT = TARGET / "release" / "convert"
 
 
 def holds_source(place):
