@@ -50,6 +50,7 @@ def press(hand_left, hand_right, guard_shut, curtain_shut, oil_up, air_up, stop,
 
 # What each rule says of the words that its inputs hold: the words that its outputs hold.
 RULES = {
+    "adder2.v": lambda a, b: {"s": a + b},
     "adder4.bristol": lambda i: {"": (i & 15) + (i >> 4)},
     "adder8.v": lambda a, b: {"s": a + b},
     "alarm.v": lambda heat, smoke, flow, hold: {
