@@ -61,6 +61,14 @@ def build():
     return str(ORACLE)
 
 
+def run(program, stream):
+    """What one of the programs prints for the stream."""
+    done = subprocess.run([str(program)], input=stream, stdout=subprocess.PIPE)
+    if done.returncode != 0:
+        sys.exit(f"{program.name} failed with status {done.returncode}")
+    return done.stdout
+
+
 if __name__ == "__main__":
     build()
     print(ORACLE.relative_to(REPOSITORY))
