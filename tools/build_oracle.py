@@ -61,9 +61,9 @@ def build():
     return str(ORACLE)
 
 
-def run(program, stream):
+def run(program, stream, *arguments):
     """What one of the programs prints for the stream."""
-    done = subprocess.run([str(program)], input=stream, stdout=subprocess.PIPE)
+    done = subprocess.run([str(program), *arguments], input=stream, stdout=subprocess.PIPE)
     if done.returncode != 0:
         sys.exit(f"{program.name} failed with status {done.returncode}")
     return done.stdout

@@ -2,11 +2,30 @@
 //! reader and printed a line each: `input ID NAME`, `gate ID BITS WIRE[,WIRE] NAME`
 //! in the order of `topological_gates`, `output WIRE NAME`. A wire is a node's ID,
 //! or `k0` or `k1`. `tools/convert` makes a circuit text of it.
+//!
+//! With an `fbs` line as second argument the circuit is mapped as it was read, and
+//! the answer printed: what the text's answer is to be, but for the names.
 
 #[allow(warnings)]
 mod circuit {
     include!(concat!(env!("OUT_DIR"), "/plain/circuit.rs"));
 }
+#[allow(warnings)]
+mod lut {
+    include!(concat!(env!("OUT_DIR"), "/plain/lut.rs"));
+}
+#[allow(warnings)]
+mod mapper {
+    include!(concat!(env!("OUT_DIR"), "/plain/mapper.rs"));
+}
+#[allow(dead_code)]
+#[path = "../answer.rs"]
+mod answer;
+#[allow(dead_code)]
+#[path = "../probe.rs"]
+mod probe;
+#[path = "../reader.rs"]
+mod reader;
 
 use circuit::{BoolCircuit, BoolNode, BoolWire};
 use std::io::Read;
@@ -43,6 +62,21 @@ fn listing(circuit: &BoolCircuit) -> String {
     text
 }
 
+/// The answer to the circuit itself. A gate is named by the line that it has in our text.
+fn answer_text(mut circuit: BoolCircuit, line: &str) -> Result<String, String> {
+    let job = format!("{line}\n");
+    let settings = reader::read(job.as_bytes())
+        .map_err(|refusal| format!("the fbs line is refused with {}", refusal.number))?;
+    let first = 2 + circuit.inputs.len();
+    for (place, id) in circuit.topological_gates().into_iter().enumerate() {
+        if let BoolNode::Lut { name, .. } = &mut circuit.nodes[id] {
+            *name = (first + place).to_string();
+        }
+    }
+    let mapped = answer::map_rust(settings, &circuit, job.as_bytes());
+    Ok(answer::answer_text(&mapped, job.as_bytes()))
+}
+
 fn read(format: &str) -> Result<BoolCircuit, String> {
     let mut source = String::new();
     std::io::stdin()
@@ -52,14 +86,20 @@ fn read(format: &str) -> Result<BoolCircuit, String> {
         "blif" => BoolCircuit::parse_blif(&source),
         "bench" => BoolCircuit::parse_bench(&source),
         "bristol" => BoolCircuit::parse_bristol(&source),
-        _ => Err("usage: convert blif|bench|bristol < circuit".to_owned()),
+        _ => Err(format!("no such format: {format}")),
     }
 }
 
 fn main() -> ExitCode {
-    match read(&std::env::args().nth(1).unwrap_or_default()) {
-        Ok(circuit) => {
-            print!("{}", listing(&circuit));
+    let arguments: Vec<String> = std::env::args().skip(1).collect();
+    let text = match arguments.as_slice() {
+        [format] => read(format).map(|circuit| listing(&circuit)),
+        [format, line] => read(format).and_then(|circuit| answer_text(circuit, line)),
+        _ => Err("usage: convert blif|bench|bristol [FBS] < circuit".to_owned()),
+    };
+    match text {
+        Ok(text) => {
+            print!("{text}");
             ExitCode::SUCCESS
         }
         Err(error) => {
