@@ -6,18 +6,10 @@
 //! With an `fbs` line as second argument the circuit is mapped as it was read, and
 //! the answer printed: what the text's answer is to be, but for the names.
 
-#[allow(warnings)]
-mod circuit {
-    include!(concat!(env!("OUT_DIR"), "/plain/circuit.rs"));
-}
-#[allow(warnings)]
-mod lut {
-    include!(concat!(env!("OUT_DIR"), "/plain/lut.rs"));
-}
-#[allow(warnings)]
-mod mapper {
-    include!(concat!(env!("OUT_DIR"), "/plain/mapper.rs"));
-}
+#[macro_use]
+#[path = "../copies.rs"]
+mod copies;
+rust_copied_to!("plain");
 #[allow(dead_code)]
 #[path = "../answer.rs"]
 mod answer;
