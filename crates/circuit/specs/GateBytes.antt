@@ -14,7 +14,7 @@ use Rattle.rules.specs.Circuit as C
 use Rattle.rules.specs.CircuitText.{noNode}
 use Rattle.rules.specs.Form.{bitsFrom}
 use Rattle.theorems.specs.LineBits.{WireBit}
-use Rattle.circuit_text.specs.declared.gate.Wires.{Wires}
+use Rattle.circuit_conditions.specs.declared.Wires.{Wires}
 use Rattle.circuit.specs.Below.{Below, below-paste, paste-at}
 use Rattle.circuit.specs.Bits.{bitsAt}
 use Rattle.circuit_text.specs.Brief.{twoWires}

@@ -18,9 +18,9 @@ use Rattle.rules.specs.Form.{Condition, _when_}
 use Rattle.text.specs.Cap.{cap-table, cap-ten, cap-small}
 use Rattle.text.specs.Wire.{capWire}
 use Rattle.text.specs.Judged.{lowest, unmet}
-use Rattle.circuit_text.specs.declared.gate.Wires.{Wires}
+use Rattle.circuit_conditions.specs.declared.Wires.{Wires}
 use Rattle.circuit_text.specs.Settings.{capSettings}
-use Rattle.circuit_text.specs.Wires.{noWires, withWire, withWires, shape, cap-noNode, astray-is, shape-is, long-unmatched}
+use Rattle.circuit_conditions.specs.Wires.{noWires, withWire, withWires, shape, cap-noNode, astray-is, shape-is, long-unmatched}
 
 pub data Brief : Type 0 where
   FbsBrief : Settings → Brief

@@ -14,9 +14,9 @@ use Rattle.rules.specs.Form.{Piece, give, onward, run, runOf, bits, isBits, isB
 use Rattle.text.specs.Name.{bits-length}
 use Rattle.circuit_text.specs.declared.gate.GateRead.{GateRead}
 use Rattle.circuit_text.specs.declared.gate.GateRead.the-variants.{At as GateAt, Nothing as NoGate}
-use Rattle.circuit_text.specs.declared.gate.Wires.{Wires}
+use Rattle.circuit_conditions.specs.declared.Wires.{Wires}
 use Rattle.circuit_text.specs.Brief.{Brief, GateBrief, brief}
-use Rattle.circuit_text.specs.Wires.{noWires, withWires}
+use Rattle.circuit_conditions.specs.Wires.{noWires, withWires}
 
 -- A line that was read after n nodes, as it is kept.
 unfoldable pub briefed : ℕ → Option (Piece CircuitLine) → Option (Piece Brief)

@@ -15,7 +15,7 @@ use Rattle.text.specs.FirstLine.{Inner, Closes, noNewline, firstLine, inner-giv
 use Rattle.text.specs.Forms.{Named, capOutput}
 use Rattle.text.specs.Line.{lineStop}
 use Rattle.text.specs.LineForms.{inner-name, inner-number, inner-bits, inner-wire, inner-norm, closes-in, closes-out}
-use Rattle.circuit_text.specs.declared.gate.Wires.{Wires}
+use Rattle.circuit_conditions.specs.declared.Wires.{Wires}
 use Rattle.circuit_text.specs.declared.line.Line.{Line}
 use Rattle.circuit_text.specs.declared.line.Line.the-variants.{Fbs, In, Gate, Out, Nothing}
 use Rattle.circuit_text.specs.Brief.{Brief, FbsBrief, InBrief, GateBrief, OutBrief, brief}

@@ -10,9 +10,9 @@ use Rattle.rules.specs.Form.{Piece, Reader, give, onward, _>>_, word, many, wir
 use Rattle.text.specs.Capped.{capped, exact-some, exact-none}
 use Rattle.text.specs.Many.{Takes, takes-then, takes-word, keeps-wire, many-none, many-some}
 use Rattle.text.specs.Wire.{capWire}
-use Rattle.circuit_text.specs.declared.gate.Wires.{Wires}
+use Rattle.circuit_conditions.specs.declared.Wires.{Wires}
 use Rattle.circuit_text.specs.declared.gate.WiresRead.{WiresRead}
-use Rattle.circuit_text.specs.Wires.{withWire, withWires}
+use Rattle.circuit_conditions.specs.Wires.{withWire, withWires}
 
 unfoldable pub spacedWire : Reader Wire
 spacedWire = word " " >> wire

@@ -1,65 +1,18 @@
 // A gate's line.
-ghost use mathlib.Core.Path.{_≡_};
 ghost use Prim.Native.Nat.{_≤_};
 ghost use lib.ListN.{length, drop};
-ghost use Rattle.rules.specs.CircuitText.{noNode, gateLine};
+ghost use Rattle.rules.specs.CircuitText.{gateLine};
 ghost use Rattle.text.specs.Capped.{capped};
 ghost use Rattle.text.specs.Reads.{Reads};
 ghost use Rattle.text.specs.Wire.{capWire, wireTaken, wireEnd};
 ghost use Rattle.circuit_text.specs.GateLine.{briefed, gateTaken, gateEnd, BitsIn};
-ghost use Rattle.circuit_text.specs.Wires.{noWires, withWire};
+ghost use Rattle.circuit_conditions.specs.Wires.{noWires};
 ghost use Rattle.circuit_text.specs.WiresRead.{spacedWire, wiresTaken, wiresFrom};
+use circuit_conditions::Wires;
+use circuit_conditions::with_wire;
 use rules::Wire;
 use text::Found;
 use text::WireRead;
-
-// What is kept of a gate's wires: how many (3 for more), the first two, and whether one of them goes to no earlier node.
-pub struct Wires {
-    pub count: usize,
-    pub left: Wire,
-    pub right: Wire,
-    pub astray: bool,
-}
-
-// Whether a wire goes to none of n nodes.
-pub fn is_astray(n: usize, w: Wire) -> bool
-    ensures { λ r. ⌜ r ≡ noNode n w ⌝ }
-{
-    match w {
-        Wire::Const(_) => false,
-        Wire::Node(id) => n <= id,
-    }
-}
-
-fn with_wire(n: usize, v: Wires, w: Wire) -> Wires
-    ensures { λ r. ⌜ r ≡ withWire n v w ⌝ }
-{
-    let left = v.left;
-    let right = v.right;
-    let astray = v.astray | is_astray(n, w);
-    if v.count == 0 {
-        return Wires {
-            count: 1,
-            left: w,
-            right,
-            astray,
-        };
-    }
-    if v.count == 1 {
-        return Wires {
-            count: 2,
-            left,
-            right: w,
-            astray,
-        };
-    }
-    Wires {
-        count: 3,
-        left,
-        right,
-        astray,
-    }
-}
 
 // A wire behind a space, from `at` on.
 fn spaced_wire(s: &[u8], at: usize) -> WireRead

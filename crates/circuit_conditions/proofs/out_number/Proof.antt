@@ -1,7 +1,7 @@
 use borrow.Author.Tests.{le-leb, lt-leb}
 use Rattle.text.specs.Judged.{lowest}
-use Rattle.circuit_text.proofs.number.out_number.Statement.{statement}
-use Rattle.circuit_text.proofs.number.out_number.Tie as tie
+use Rattle.circuit_conditions.proofs.out_number.Statement.{statement}
+use Rattle.circuit_conditions.proofs.out_number.Tie as tie
 
 returns : tie.Need-returns
 unfolding lowest

@@ -1,8 +1,8 @@
 use mathlib.Core.Bool.{or-false}
 use borrow.Author.Tests.{ne-eqb}
-use Rattle.circuit_text.specs.Wires.{shape}
-use Rattle.circuit_text.proofs.number.is_matched.Statement.{statement}
-use Rattle.circuit_text.proofs.number.is_matched.Tie as tie
+use Rattle.circuit_conditions.specs.Wires.{shape}
+use Rattle.circuit_conditions.proofs.is_matched.Statement.{statement}
+use Rattle.circuit_conditions.proofs.is_matched.Tie as tie
 
 returns : tie.Need-returns
 unfolding shape

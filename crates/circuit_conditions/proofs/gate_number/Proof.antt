@@ -1,7 +1,7 @@
 use borrow.Author.Tests.{le-leb, le-ltb, lt-leb, lt-ltb}
 use Rattle.text.specs.Judged.{lowest}
-use Rattle.circuit_text.proofs.number.gate_number.Statement.{statement}
-use Rattle.circuit_text.proofs.number.gate_number.Tie as tie
+use Rattle.circuit_conditions.proofs.gate_number.Statement.{statement}
+use Rattle.circuit_conditions.proofs.gate_number.Tie as tie
 
 returns : tie.Need-returns
 unfolding lowest

@@ -1,11 +1,62 @@
-// The lowest of the conditions 2 to 7 that a line meets, 0 for none.
+// What decides the conditions 2 to 7 of a circuit's line: what is kept of a gate's wires, and the lowest number that a line meets, 0 for none,
+// by counts of the lines before it and tests of its own. It leans on no other code.
 ghost use mathlib.Core.Path.{_≡_};
 ghost use mathlib.Core.Bool.{_&&_, _||_, not};
 ghost use mathlib.Core.List.{[], _∷_};
 ghost use lib.Dec.{leb, ltb};
+ghost use Rattle.rules.specs.CircuitText.{noNode};
 ghost use Rattle.rules.specs.Form.{_when_};
 ghost use Rattle.text.specs.Judged.{lowest};
-ghost use Rattle.circuit_text.specs.Wires.{shape};
+ghost use Rattle.circuit_conditions.specs.Wires.{withWire, shape};
+use rules::Wire;
+
+// What is kept of a gate's wires: how many (3 for more), the first two, and whether one of them goes to no earlier node.
+pub struct Wires {
+    pub count: usize,
+    pub left: Wire,
+    pub right: Wire,
+    pub astray: bool,
+}
+
+// Whether a wire goes to none of n nodes.
+pub fn is_astray(n: usize, w: Wire) -> bool
+    ensures { λ r. ⌜ r ≡ noNode n w ⌝ }
+{
+    match w {
+        Wire::Const(_) => false,
+        Wire::Node(id) => n <= id,
+    }
+}
+
+pub fn with_wire(n: usize, v: Wires, w: Wire) -> Wires
+    ensures { λ r. ⌜ r ≡ withWire n v w ⌝ }
+{
+    let left = v.left;
+    let right = v.right;
+    let astray = v.astray | is_astray(n, w);
+    if v.count == 0 {
+        return Wires {
+            count: 1,
+            left: w,
+            right,
+            astray,
+        };
+    }
+    if v.count == 1 {
+        return Wires {
+            count: 2,
+            left,
+            right: w,
+            astray,
+        };
+    }
+    Wires {
+        count: 3,
+        left,
+        right,
+        astray,
+    }
+}
 
 pub fn fbs_number(started: bool, within: bool, t: usize) -> usize
     ensures { λ r. ⌜ r ≡ lowest ((2 when not (within && (leb 1 t && leb t 10))) ∷ (4 when started) ∷ []) ⌝ }

@@ -1,8 +1,8 @@
 use mathlib.Core.Path.{sym, ap}
 use borrow.Author.Needs.{needs}
 use Rattle.rules.specs.CircuitText.{noNode}
-use Rattle.circuit_text.proofs.gate.is_astray.Statement.{statement}
-use Rattle.circuit_text.proofs.gate.is_astray.Tie as tie
+use Rattle.circuit_conditions.proofs.is_astray.Statement.{statement}
+use Rattle.circuit_conditions.proofs.is_astray.Tie as tie
 
 returns : tie.Need-returns
 unfolding noNode

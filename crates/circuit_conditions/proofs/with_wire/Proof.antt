@@ -1,7 +1,7 @@
 use borrow.Author.Needs.{needs}
-use Rattle.circuit_text.specs.Wires.{wire-first, wire-second, wire-more}
-use Rattle.circuit_text.proofs.gate.with_wire.Statement.{statement}
-use Rattle.circuit_text.proofs.gate.with_wire.Tie as tie
+use Rattle.circuit_conditions.specs.Wires.{wire-first, wire-second, wire-more}
+use Rattle.circuit_conditions.proofs.with_wire.Statement.{statement}
+use Rattle.circuit_conditions.proofs.with_wire.Tie as tie
 
 returns : tie.Need-returns
 returns c = wire-first _ _ _ _ (c .before .before .before .is-astray .ensures) (c .if1 .taken)

@@ -15,7 +15,7 @@ use Rattle.rules.specs.CircuitText.{noNode, anyNoNode, matching}
 use Rattle.text.specs.Wire.{capWire}
 use Rattle.theorems.specs.LineBits.{WireBit}
 use Rattle.theorems.specs.SoundCircuits.{WireBits}
-use Rattle.circuit_text.specs.declared.gate.Wires.{Wires}
+use Rattle.circuit_conditions.specs.declared.Wires.{Wires}
 
 unfoldable pub noWires : Wires
 noWires = record { count = 0; left = Const 0; right = Const 0; astray = false }
