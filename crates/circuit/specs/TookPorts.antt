@@ -15,7 +15,7 @@ use Rattle.rules.specs.declared.Wire.{Wire}
 use Rattle.rules.specs.Circuit as C
 use Rattle.rules.specs.CircuitText.{listed, noNode, withLine}
 use Rattle.rules.specs.Form.{_when_}
-use Rattle.text.specs.Forms.{Named}
+use Rattle.text.specs.Name.{Named}
 use Rattle.text.specs.Judged.{lowest, unmet}
 use Rattle.circuit.specs.declared.Circuit.{Circuit}
 use Rattle.circuit.specs.Below.{Below, below-self, below-set, below-less, names-same, names-more, name-same, outs-more, put-name, put-named, named-same}

@@ -7,7 +7,7 @@ ghost use lib.ListN.{length, take, drop, set};
 ghost use lib.Seq.{paste};
 ghost use Rattle.rules.specs.CircuitText.{listed, circuitLine};
 ghost use Rattle.text.specs.FirstLine.{firstLine};
-ghost use Rattle.text.specs.Forms.{Named};
+ghost use Rattle.text.specs.Name.{Named};
 ghost use Rattle.text.specs.Line.{lineStop};
 ghost use Rattle.theorems.specs.LineBits.{WireBit};
 ghost use Rattle.circuit.specs.Bits.{bitsAt};

@@ -12,7 +12,7 @@ use Rattle.laws.specs.Test.{if_then_else_, if-both, lt-or-le, neither-left, nei
 use Rattle.rules.specs.declared.Wire.{Wire}
 use Rattle.rules.specs.declared.Wire.the-variants.{Const, Node}
 use Rattle.rules.specs.CircuitText.{noNode, anyNoNode, matching}
-use Rattle.text.specs.Wire.{capWire}
+use Rattle.forms.specs.Wire.{capWire}
 use Rattle.theorems.specs.LineBits.{WireBit}
 use Rattle.theorems.specs.SoundCircuits.{WireBits}
 use Rattle.circuit_conditions.specs.declared.Wires.{Wires}

@@ -16,7 +16,7 @@ use Rattle.rules.specs.Circuit.{Name}
 use Rattle.rules.specs.CircuitText.{CircuitLine, FbsLine, InLine, GateLine, OutLine, Prefix, inLimits, some?, listed, nodeCount, noNode, anyNoNode, matching, conditions}
 use Rattle.rules.specs.Form.{Condition, _when_}
 use Rattle.text.specs.Cap.{cap-table, cap-ten, cap-small}
-use Rattle.text.specs.Wire.{capWire}
+use Rattle.forms.specs.Wire.{capWire}
 use Rattle.text.specs.Judged.{lowest, unmet}
 use Rattle.circuit_conditions.specs.declared.Wires.{Wires}
 use Rattle.circuit_text.specs.Settings.{capSettings}

@@ -12,9 +12,10 @@ use Rattle.rules.specs.Form.{Reader, give, onward, either, bitsFrom, inLine, ou
 use Rattle.text.specs.Capped.{capped, exact-some, exact-none}
 use Rattle.text.specs.Chain.{step, stop, first, second}
 use Rattle.text.specs.FirstLine.{Inner, Closes, noNewline, firstLine, inner-give, inner-or, inner-then, inner-word, inner-many, closes-or, closes-then, closes-give, closes-word, whole-found, whole-none, after-is}
-use Rattle.text.specs.Forms.{Named, capOutput}
+use Rattle.forms.specs.Forms.{capOutput}
+use Rattle.text.specs.Name.{Named}
 use Rattle.text.specs.Line.{lineStop}
-use Rattle.text.specs.LineForms.{inner-name, inner-number, inner-bits, inner-wire, inner-norm, closes-in, closes-out}
+use Rattle.forms.specs.LineForms.{inner-name, inner-number, inner-bits, inner-wire, inner-norm, closes-in, closes-out}
 use Rattle.circuit_conditions.specs.declared.Wires.{Wires}
 use Rattle.circuit_text.specs.declared.line.Line.{Line}
 use Rattle.circuit_text.specs.declared.line.Line.the-variants.{Fbs, In, Gate, Out, Nothing}

@@ -9,7 +9,7 @@ use Rattle.rules.specs.declared.Wire.{Wire}
 use Rattle.rules.specs.Form.{Piece, Reader, give, onward, _>>_, word, many, wire}
 use Rattle.text.specs.Capped.{capped, exact-some, exact-none}
 use Rattle.text.specs.Many.{Takes, takes-then, takes-word, keeps-wire, many-none, many-some}
-use Rattle.text.specs.Wire.{capWire}
+use Rattle.forms.specs.Wire.{capWire}
 use Rattle.circuit_conditions.specs.declared.Wires.{Wires}
 use Rattle.circuit_text.specs.declared.gate.WiresRead.{WiresRead}
 use Rattle.circuit_conditions.specs.Wires.{withWire, withWires}

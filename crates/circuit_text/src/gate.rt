@@ -4,15 +4,15 @@ ghost use lib.ListN.{length, drop};
 ghost use Rattle.rules.specs.CircuitText.{gateLine};
 ghost use Rattle.text.specs.Capped.{capped};
 ghost use Rattle.text.specs.Reads.{Reads};
-ghost use Rattle.text.specs.Wire.{capWire, wireTaken, wireEnd};
+ghost use Rattle.forms.specs.Wire.{capWire, wireTaken, wireEnd};
 ghost use Rattle.circuit_text.specs.GateLine.{briefed, gateTaken, gateEnd, BitsIn};
 ghost use Rattle.circuit_conditions.specs.Wires.{noWires};
 ghost use Rattle.circuit_text.specs.WiresRead.{spacedWire, wiresTaken, wiresFrom};
 use circuit_conditions::Wires;
 use circuit_conditions::with_wire;
+use forms::WireRead;
 use rules::Wire;
 use text::Found;
-use text::WireRead;
 
 // A wire behind a space, from `at` on.
 fn spaced_wire(s: &[u8], at: usize) -> WireRead
@@ -22,7 +22,7 @@ fn spaced_wire(s: &[u8], at: usize) -> WireRead
     let Found::At(a) = text::read_word(s, at, b" ") else {
         return WireRead::Nothing;
     };
-    text::read_wire(s, a)
+    forms::read_wire(s, a)
 }
 
 // The wires of a gate, and where they end.

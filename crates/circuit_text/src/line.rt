@@ -7,10 +7,10 @@ use crate::gate::read_gate;
 use crate::settings::FbsRead;
 use crate::settings::read_fbs;
 use circuit_conditions::Wires;
+use forms::NameRead;
+use forms::OutRead;
 use rules::Settings;
 use rules::Wire;
-use text::NameRead;
-use text::OutRead;
 
 // Its settings; its name from start to end; its bits from start to end, and its wires; its name, and its wire. Last, where the line ends.
 pub enum Line {
@@ -29,13 +29,13 @@ pub fn read_line(s: &[u8], at: usize, n: usize) -> Line
     if let FbsRead::At(f, e) = read_fbs(s, at) {
         return Line::Fbs(f, e);
     }
-    if let NameRead::At(a, b, e) = text::read_in(s, at) {
+    if let NameRead::At(a, b, e) = forms::read_in(s, at) {
         return Line::In(a, b, e);
     }
     if let GateRead::At(d, c, v, e) = read_gate(s, at, n) {
         return Line::Gate(d, c, v, e);
     }
-    let OutRead::At(a, b, w, e) = text::read_out(s, at) else {
+    let OutRead::At(a, b, w, e) = forms::read_out(s, at) else {
         return Line::Nothing;
     };
     Line::Out(a, b, w, e)

@@ -5,11 +5,11 @@ ghost use Rattle.rules.specs.CircuitText.{policy, tables, fbsLine};
 ghost use Rattle.text.specs.Capped.{capped};
 ghost use Rattle.text.specs.Reads.{Reads};
 ghost use Rattle.circuit_text.specs.Settings.{policyTaken, policyEnd, tablesTaken, tablesEnd, fbsTail, tailTaken, tailEnd, capSettings, fbsTaken, fbsEnd};
+use forms::LimitRead;
 use rules::Limit;
 use rules::Policy;
 use rules::Settings;
 use text::Found;
-use text::LimitRead;
 use text::Number;
 
 // POLICY, and where it ends.
@@ -63,7 +63,7 @@ fn read_tail(s: &[u8], at: usize) -> TailRead
     requires { ⌜ at ≤ length (now s) ⌝ }
     ensures { λ r. ⌜ ((p m t : ℕ) → Reads (length (now (s .entry))) (tailTaken p m t (now (s .entry)) r) (tailEnd r) (fbsTail p m t (drop at (now (s .entry))))) ⌝ }
 {
-    let LimitRead::At(l, a) = text::read_norm(s, at) else {
+    let LimitRead::At(l, a) = forms::read_norm(s, at) else {
         return TailRead::Nothing;
     };
     let Found::At(b) = text::read_word(s, a, b" ") else {

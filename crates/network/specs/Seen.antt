@@ -19,7 +19,7 @@ use Rattle.rules.specs.Network.{Term}
 use Rattle.rules.specs.NetworkText.{over}
 use Rattle.rules.specs.Rotation.{rotatable}
 use Rattle.text.specs.declared.Name.{Name}
-use Rattle.text.specs.Forms.{Named}
+use Rattle.text.specs.Name.{Named}
 use Rattle.text.specs.Judged.{lowest, Numbered}
 use Rattle.text.specs.Names.{nameBytes}
 use Rattle.network_text.specs.Lines.{TablePlace, Within}

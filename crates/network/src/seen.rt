@@ -3,7 +3,7 @@ ghost use mathlib.Core.Path.{_≡_};
 ghost use Prim.Native.Nat.{_+_, _-_, _<_};
 ghost use lib.ListN.{length, take, drop};
 ghost use Rattle.rules.specs.NetworkText.{over};
-ghost use Rattle.text.specs.Forms.{Named};
+ghost use Rattle.text.specs.Name.{Named};
 ghost use Rattle.text.specs.Judged.{lowest};
 ghost use Rattle.text.specs.Names.{nameBytes};
 ghost use Rattle.network_text.specs.Lines.{TablePlace, Within};

@@ -4,7 +4,7 @@ use native.Mathlib.Omega.{arith}
 use borrow.Author.Needs.{needs}
 use lib.ListN.{length}
 use Rattle.text.specs.Reads.{found, ends}
-use Rattle.text.specs.Wire.{wireTaken, wireEnd}
+use Rattle.forms.specs.Wire.{wireTaken, wireEnd}
 use Rattle.circuit_conditions.specs.Wires.{noWires}
 use Rattle.circuit_text.specs.WiresRead.{wiresFrom, wires-done, wires-next, wires-later}
 use Rattle.circuit_text.proofs.gate.read_wires.Statement.{statement}

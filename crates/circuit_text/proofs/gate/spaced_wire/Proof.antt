@@ -3,7 +3,7 @@ use borrow.Author.Needs.{needs}
 use Rattle.text.specs.Capped.{capped, capped-none}
 use Rattle.text.specs.Chain.{step, stop}
 use Rattle.text.specs.Reads.{passed, endOf, found, ends}
-use Rattle.text.specs.Wire.{capWire}
+use Rattle.forms.specs.Wire.{capWire}
 use Rattle.circuit_text.specs.WiresRead.{spacedWire}
 use Rattle.circuit_text.proofs.gate.spaced_wire.Statement.{statement}
 use Rattle.circuit_text.proofs.gate.spaced_wire.Tie as tie

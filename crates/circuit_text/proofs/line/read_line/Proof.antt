@@ -1,7 +1,7 @@
 use mathlib.Core.Path.{subst}
 use borrow.Author.Needs.{needs}
 use lib.ListN.{length}
-use Rattle.text.specs.Forms.{nameFrom, nameTo, nameEnd, nameTaken, outFrom, outTo, outEnd, outTaken, named-at}
+use Rattle.forms.specs.Forms.{nameFrom, nameTo, nameEnd, nameTaken, outFrom, outTo, outEnd, outTaken, named-at}
 use Rattle.text.specs.Reads.{found, ends}
 use Rattle.circuit_text.specs.GateLine.{gateTaken, gateEnd, BitsIn}
 use Rattle.circuit_text.specs.LineRead.{fbs-line, in-line, gate-line, out-line, no-line}

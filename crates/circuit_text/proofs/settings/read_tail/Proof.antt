@@ -1,7 +1,7 @@
 use mathlib.Core.Path.{refl, sym}
 use borrow.Author.Needs.{needs}
 use Rattle.text.specs.Chain.{step, stop}
-use Rattle.text.specs.Limit.{limitTaken, limitEnd}
+use Rattle.forms.specs.Limit.{limitTaken, limitEnd}
 use Rattle.text.specs.Reads.{passed, endOf, found, ends}
 use Rattle.circuit_text.specs.Settings.{policyTaken, policyEnd, tablesTaken, tablesEnd, fbsTail}
 use Rattle.circuit_text.proofs.settings.read_tail.Statement.{statement}

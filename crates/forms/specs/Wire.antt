@@ -6,8 +6,8 @@ use lib.ListN.{drop}
 use Rattle.rules.specs.declared.Wire.{Wire}
 use Rattle.rules.specs.declared.Wire.the-variants.{Const, Node}
 use Rattle.rules.specs.Form.{Piece, Reader, give, _>>=_, _>>_, word, number}
-use Rattle.text.specs.declared.WireRead.{WireRead}
-use Rattle.text.specs.declared.WireRead.the-variants.{At, Nothing}
+use Rattle.forms.specs.declared.WireRead.{WireRead}
+use Rattle.forms.specs.declared.WireRead.the-variants.{At, Nothing}
 
 unfoldable pub capWire : Wire → Wire
 capWire (Const b) = Const b

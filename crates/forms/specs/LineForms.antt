@@ -1,7 +1,7 @@
 -- The pieces stand within a line, and the lines that both texts have are whole lines.
-use mathlib.Core.Path.{_≡_, refl}
+use mathlib.Core.Path.{refl}
 use mathlib.Core.Bool.{Bool, true, false}
-use mathlib.Core.List.{List, [], _∷_}
+use mathlib.Core.List.{[], _∷_}
 use mathlib.Core.Option.{none}
 use Prim.Native.Nat.{ℕ}
 use lib.Dec.{leb}

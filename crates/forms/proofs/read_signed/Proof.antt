@@ -3,13 +3,13 @@ use native.Mathlib.Omega.{arith}
 use borrow.Author.Needs.{needs}
 use Rattle.rules.specs.Form.{signed}
 use Rattle.laws.specs.Integer.{fits-abs}
 use Rattle.text.specs.Capped.{capped-some, capped-none, exact-some, exact-none}
 use Rattle.text.specs.Chain.{step, stop, first, second}
 use Rattle.text.specs.Number.{numberTaken, numberEnd, number-value}
 use Rattle.text.specs.Reads.{found, ends}
-use Rattle.text.specs.Signed.{capSigned, signedTaken, signedEnd, negative, cap-pos, cap-back}
-use Rattle.text.proofs.read_signed.Statement.{statement}
-use Rattle.text.proofs.read_signed.Tie as tie
+use Rattle.forms.specs.Signed.{capSigned, signedTaken, signedEnd, negative, cap-pos, cap-back}
+use Rattle.forms.proofs.read_signed.Statement.{statement}
+use Rattle.forms.proofs.read_signed.Tie as tie
 
 returns : tie.Need-returns
 unfolding signed negative

@@ -1,12 +1,12 @@
 use mathlib.Core.Path.{refl}
 use borrow.Author.Needs.{needs}
 use Rattle.rules.specs.Form.{wire}
 use Rattle.text.specs.Capped.{capped-some, capped-none, exact-some, exact-none}
 use Rattle.text.specs.Chain.{step, stop, first, second}
 use Rattle.text.specs.Reads.{passed, endOf, found, ends}
-use Rattle.text.specs.Wire.{capWire, wireTaken, wireEnd, nodeWire}
-use Rattle.text.proofs.read_wire.Statement.{statement}
-use Rattle.text.proofs.read_wire.Tie as tie
+use Rattle.forms.specs.Wire.{capWire, wireTaken, wireEnd, nodeWire}
+use Rattle.forms.proofs.read_wire.Statement.{statement}
+use Rattle.forms.proofs.read_wire.Tie as tie
 
 returns : tie.Need-returns
 unfolding wire nodeWire

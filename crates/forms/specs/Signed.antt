@@ -12,8 +12,8 @@ use mir.Syntax.{w64}
 use mir.Val.{toZ, ofZ}
 use Rattle.laws.specs.Integer.{abs-neg, fits-abs}
 use Rattle.rules.specs.Form.{Piece, Reader, give, _>>=_, _>>_, word, number, below}
-use Rattle.text.specs.declared.Signed.{Signed}
-use Rattle.text.specs.declared.Signed.the-variants.{At, Nothing}
+use Rattle.forms.specs.declared.Signed.{Signed}
+use Rattle.forms.specs.declared.Signed.the-variants.{At, Nothing}
 
 unfoldable pub capSigned : ℤ → ℤ
 capSigned (pos n) = pos (min 65536 n)

@@ -1,13 +1,13 @@
 use mathlib.Core.Path.{refl, ap}
 use borrow.Author.Needs.{needs}
 use Rattle.rules.specs.declared.Wire.the-variants.{Node}
 use Rattle.text.specs.Capped.{capped-some, capped-none}
 use Rattle.text.specs.Chain.{step, stop}
 use Rattle.text.specs.Number.{numberTaken, numberEnd, number-value}
 use Rattle.text.specs.Reads.{passed, endOf, found, ends}
-use Rattle.text.specs.Wire.{capWire, nodeWire}
-use Rattle.text.proofs.read_node.Statement.{statement}
-use Rattle.text.proofs.read_node.Tie as tie
+use Rattle.forms.specs.Wire.{capWire, nodeWire}
+use Rattle.forms.proofs.read_node.Statement.{statement}
+use Rattle.forms.proofs.read_node.Tie as tie
 
 returns : tie.Need-returns
 unfolding nodeWire

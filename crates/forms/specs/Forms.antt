@@ -2,29 +2,18 @@
 use mathlib.Core.Path.{_≡_, sym, ap, subst}
 use mathlib.Core.List.{List}
 use mathlib.Core.Option.{Option, none, some}
-use Prim.Native.Nat.{ℕ, _+_, _-_, _≤_}
+use Prim.Native.Nat.{ℕ, _-_}
 use native.Mathlib.Omega.{arith}
-use lib.ListN.{length, take, drop, length-take, length-drop}
+use lib.ListN.{length, take, drop}
 use Rattle.rules.specs.Circuit.{Name, Output}
 use Rattle.rules.specs.declared.Wire.{Wire}
 use Rattle.rules.specs.Form.{Piece, name, inLine, outLine}
-use Rattle.text.specs.declared.NameRead.{NameRead}
-use Rattle.text.specs.declared.OutRead.{OutRead}
+use Rattle.forms.specs.declared.NameRead.{NameRead}
+use Rattle.forms.specs.declared.OutRead.{OutRead}
 use Rattle.text.specs.Capped.{capped, capped-none}
-use Rattle.text.specs.Name.{name-bounds}
+use Rattle.text.specs.Name.{Named}
 use Rattle.text.specs.Reads.{Reads}
-use Rattle.text.specs.Wire.{capWire}
-
--- The bytes from a up to b of a text of n bytes may be a name.
-pub record Named (n a b : ℕ) : Type 0 where
-  pub later : a ≤ b
-  pub short : b ≤ a + 16
-  pub inside : b ≤ n
-
-pub name-named : (s : List ℕ) (a e : ℕ) → name (drop a s) ≡ some (record { value = take (e - a) (drop a s); rest = drop e s }) → e ≤ length s → Named (length s) a e
-name-named s a e h k =
-    let w = simp (length-take, length-drop) at (name-bounds _ _ _ h) in
-    record { later = omega arith; short = omega arith; inside = k }
+use Rattle.forms.specs.Wire.{capWire}
 
 -- ---- `(in NAME)`
 

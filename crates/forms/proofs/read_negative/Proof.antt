@@ -1,13 +1,13 @@
 use mathlib.Core.Path.{_∙_}
 use native.Mathlib.Omega.{arith}
 use borrow.Author.Needs.{needs}
 use Rattle.text.specs.Capped.{capped-some, capped-none}
 use Rattle.text.specs.Chain.{step, stop}
 use Rattle.text.specs.Number.{numberTaken, numberEnd, number-value}
 use Rattle.text.specs.Reads.{passed, endOf, found, ends}
-use Rattle.text.specs.Signed.{capSigned, negative, below-zero, below-good, cap-neg, cap-back}
-use Rattle.text.proofs.read_negative.Statement.{statement}
-use Rattle.text.proofs.read_negative.Tie as tie
+use Rattle.forms.specs.Signed.{capSigned, negative, below-zero, below-good, cap-neg, cap-back}
+use Rattle.forms.proofs.read_negative.Statement.{statement}
+use Rattle.forms.proofs.read_negative.Tie as tie
 
 returns : tie.Need-returns
 unfolding negative

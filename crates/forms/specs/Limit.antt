@@ -9,8 +9,8 @@ use lib.ListN.{drop}
 use Rattle.rules.specs.declared.Limit.{Limit}
 use Rattle.rules.specs.declared.Limit.the-variants.{AtMost}
 use Rattle.rules.specs.Form.{Piece, give, upTo4096}
-use Rattle.text.specs.declared.LimitRead.{LimitRead}
-use Rattle.text.specs.declared.LimitRead.the-variants.{At, Nothing}
+use Rattle.forms.specs.declared.LimitRead.{LimitRead}
+use Rattle.forms.specs.declared.LimitRead.the-variants.{At, Nothing}
 
 abbrev pub limitEnd : LimitRead → ℕ
 limitEnd (At l e) = e

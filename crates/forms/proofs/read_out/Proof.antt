@@ -1,13 +1,14 @@
 use mathlib.Core.Path.{refl}
 use borrow.Author.Needs.{needs}
 use Rattle.rules.specs.Form.{outLine}
 use Rattle.text.specs.Capped.{capped-some, exact-some, exact-none}
 use Rattle.text.specs.Chain.{step, stop}
-use Rattle.text.specs.Forms.{capOutput, out-none, cap-output, name-named}
+use Rattle.forms.specs.Forms.{capOutput, out-none, cap-output}
+use Rattle.text.specs.Name.{name-named}
 use Rattle.text.specs.Reads.{passed, taken, endOf, found, ends}
-use Rattle.text.specs.Wire.{capWire, wireTaken, wireEnd}
-use Rattle.text.proofs.read_out.Statement.{statement}
-use Rattle.text.proofs.read_out.Tie as tie
+use Rattle.forms.specs.Wire.{capWire, wireTaken, wireEnd}
+use Rattle.forms.proofs.read_out.Statement.{statement}
+use Rattle.forms.proofs.read_out.Tie as tie
 
 returns : tie.Need-returns
 unfolding outLine

@@ -1,11 +1,12 @@
 use mathlib.Core.Path.{refl, sym}
 use borrow.Author.Needs.{needs}
 use Rattle.rules.specs.Form.{inLine}
 use Rattle.text.specs.Chain.{step, stop}
-use Rattle.text.specs.Forms.{in-none, name-named}
+use Rattle.forms.specs.Forms.{in-none}
+use Rattle.text.specs.Name.{name-named}
 use Rattle.text.specs.Reads.{passed, taken, endOf, found, ends}
-use Rattle.text.proofs.read_in.Statement.{statement}
-use Rattle.text.proofs.read_in.Tie as tie
+use Rattle.forms.proofs.read_in.Statement.{statement}
+use Rattle.forms.proofs.read_in.Tie as tie
 
 returns : tie.Need-returns
 unfolding inLine

@@ -7,8 +7,8 @@ use mir.Facts.{toZ-ofZ}
 use mir.Syntax.{w64}
 use mir.Val.{toZ, SFits}
 use Rattle.laws.specs.Integer.{abs-neg, fits-abs}
-use Rattle.text.proofs.opposite.Statement.{statement}
-use Rattle.text.proofs.opposite.Tie as tie
+use Rattle.forms.proofs.opposite.Statement.{statement}
+use Rattle.forms.proofs.opposite.Tie as tie
 
 module _ (v : ℕ) (h : v ≤ 65536) where
   less : pos 0 -ℤ toZ w64 v ≡ negℤ (pos v)

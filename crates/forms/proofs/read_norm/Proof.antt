@@ -1,12 +1,12 @@
 use mathlib.Core.Path.{refl, sym}
 use borrow.Author.Needs.{needs}
 use Rattle.rules.specs.Form.{norm}
 use Rattle.text.specs.Chain.{step, stop, first, second}
-use Rattle.text.specs.Limit.{limit-high, limit-good}
+use Rattle.forms.specs.Limit.{limit-high, limit-good}
 use Rattle.text.specs.Number.{numberTaken, numberEnd, number-value}
 use Rattle.text.specs.Reads.{passed, endOf, found, ends}
-use Rattle.text.proofs.read_norm.Statement.{statement}
-use Rattle.text.proofs.read_norm.Tie as tie
+use Rattle.forms.proofs.read_norm.Statement.{statement}
+use Rattle.forms.proofs.read_norm.Tie as tie
 
 returns : tie.Need-returns
 unfolding norm
