@@ -12,5 +12,4 @@ pub mod Number
 pub mod Capped
 pub mod Same
 pub mod Decimal
-pub mod Names
 pub mod Name

@@ -1,7 +1,7 @@
 use borrow.Author.Needs.{needs}
-use Rattle.text.specs.Names.{length-short, length-full}
-use Rattle.text.proofs.name_length.Statement.{statement}
-use Rattle.text.proofs.name_length.Tie as tie
+use Rattle.names.specs.Names.{length-short, length-full}
+use Rattle.names.proofs.name_length.Statement.{statement}
+use Rattle.names.proofs.name_length.Tie as tie
 
 returns : tie.Need-returns
 returns c = (length-short _ (search needs) (c .if1 .taken), search needs)

@@ -2,9 +2,9 @@ use mathlib.Core.Path.{_≡_, refl}
 use Prim.Native.Nat.{_-_, _≤_}
 use lib.ListN.{length, take, drop, length-set}
 use borrow.Author.Needs.{needs}
-use Rattle.text.specs.Names.{copy-next, copy-done}
-use Rattle.text.proofs.name_of.Statement.{statement}
-use Rattle.text.proofs.name_of.Tie as tie
+use Rattle.names.specs.Names.{copy-next, copy-done}
+use Rattle.names.proofs.name_of.Statement.{statement}
+use Rattle.names.proofs.name_of.Tie as tie
 
 abbrev Inv-loop : tie.InvT-loop
 Inv-loop s a e bytes₀ i₀ bytes i = (i ≤ e - a) × (length bytes ≡ 16) × (take i bytes ≡ take i (drop a s))

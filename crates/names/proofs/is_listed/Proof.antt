@@ -4,9 +4,9 @@ use Prim.Native.Nat.{_-_, _≤_}
 use lib.ListN.{take}
 use borrow.Author.Needs.{needs}
 use Rattle.rules.specs.CircuitText.{listed}
-use Rattle.text.specs.Names.{nameBytes, listedFrom, listed-start, listed-done, listed-found, listed-next}
-use Rattle.text.proofs.is_listed.Statement.{statement}
-use Rattle.text.proofs.is_listed.Tie as tie
+use Rattle.names.specs.Names.{nameBytes, listedFrom, listed-start, listed-done, listed-found, listed-next}
+use Rattle.names.proofs.is_listed.Statement.{statement}
+use Rattle.names.proofs.is_listed.Tie as tie
 
 abbrev Inv-loop : tie.InvT-loop
 Inv-loop n name names i₀ i =

@@ -1,7 +1,7 @@
 use borrow.Author.Needs.{needs}
-use Rattle.text.specs.Names.{same-names}
-use Rattle.text.proofs.is_same_name.Statement.{statement}
-use Rattle.text.proofs.is_same_name.Tie as tie
+use Rattle.names.specs.Names.{same-names}
+use Rattle.names.proofs.is_same_name.Statement.{statement}
+use Rattle.names.proofs.is_same_name.Tie as tie
 
 returns : tie.Need-returns
 returns c =

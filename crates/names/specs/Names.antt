@@ -9,7 +9,7 @@ use native.Mathlib.Omega.{arith}
 use lib.ListN.{length, getD, take, drop, set, length-take, length-drop}
 use lib.Seq.{take-suc, take-suc-set, getD-drop, drop-cons}
 use Rattle.rules.specs.CircuitText.{sameName, listed}
-use Rattle.text.specs.declared.Name.{Name}
+use Rattle.names.specs.declared.Name.{Name}
 
 -- A name's bytes.
 unfoldable pub nameBytes : Name → List ℕ
