@@ -1,7 +1,7 @@
 // What both texts are made of, from pieces: wires, norm limits, numbers with a sign, and the lines `(in NAME)` and `(out NAME WIRE)`.
 // It leans on the pieces (`text`) and on no other code.
 ghost use mathlib.Core.Path.{_≡_};
-ghost use Prim.Native.Nat.{_-_, _<_, _≤_};
+ghost use Prim.Native.Nat.{_≤_};
 ghost use lib.IntN.{pos, negℤ};
 ghost use lib.ListN.{length, drop};
 ghost use Rattle.rules.specs.Form.{wire, norm, signed};
