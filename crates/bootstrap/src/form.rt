@@ -2,10 +2,10 @@
 use cone::Cone;
 use cone::order::cone_order_key;
 use cone::order::is_less;
-use cone::table::linear_span;
-use cone::table::rows_of;
 use cone::table::truths_of;
-use cone::table::values_of;
+use linear::linear_span;
+use linear::rows_of;
+use linear::values_of;
 use rules::Settings;
 ghost use mathlib.Core.Path.{_≡_};
 ghost use mathlib.Core.Bool.{true};

@@ -24,10 +24,10 @@ use Rattle.theorems.specs.Bits.{bit-at}
 use Rattle.theorems.specs.ConeTruths.{overRows-bits}
 use Rattle.theorems.specs.Unions.{union-different}
 use Rattle.cone.specs.declared.Cone.{Cone}
-use Rattle.cone.specs.declared.compose.Basis.{Basis}
-use Rattle.cone.specs.Basis.{coefficientsOver, Composed, coefficientsOver-total}
-use Rattle.cone.specs.Compose.{gateTruth-length}
-use Rattle.cone.specs.Span.{table-within-total}
+use Rattle.compose.specs.declared.Basis.{Basis}
+use Rattle.compose.specs.Basis.{coefficientsOver, Composed, coefficientsOver-total}
+use Rattle.compose.specs.Compose.{gateTruth-length}
+use Rattle.linear.specs.Span.{table-within-total}
 use Rattle.theorems.specs.LinearTables.{span-table}
 use Rattle.theorems.specs.ConeValues.{linearTable-length}
 use Rattle.cone.specs.View.{coneOf, narrow-total}

@@ -18,10 +18,10 @@ use Rattle.rules.specs.Form.{Condition, _when_, bitsFrom}
 use Rattle.rules.specs.Network.{Term}
 use Rattle.rules.specs.NetworkText.{over}
 use Rattle.rules.specs.Rotation.{rotatable}
-use Rattle.text.specs.declared.Name.{Name}
-use Rattle.text.specs.Forms.{Named}
+use Rattle.names.specs.declared.Name.{Name}
+use Rattle.text.specs.Name.{Named}
 use Rattle.text.specs.Judged.{lowest, Numbered}
-use Rattle.text.specs.Names.{nameBytes}
+use Rattle.names.specs.Names.{nameBytes}
 use Rattle.network_text.specs.Lines.{TablePlace, Within}
 use Rattle.network_text.specs.Terms.{termsOf, termsAt, terms-start, terms-next, terms-end}
 use Rattle.network_text.specs.declared.line.Line.{Line}

@@ -26,9 +26,9 @@ use Rattle.rules.specs.Network as W
 use Rattle.rules.specs.Network.{Term, LutNode, Input, Linear, Bootstrap, leastOf, greatestOf, isInput, isLinear, nodeNorm}
 use Rattle.rules.specs.NetworkText as N
 use Rattle.rules.specs.NetworkText.{Net, NetworkLine, NetLine, NodeLine, OutLine, NetPrefix, networkLine, allInputs, unknown, nodeAt, sources, anyBadSource, ending, settingsOf, fitsTable, isBit, noBit, safetyConditions, withNetworkLine, networkEnded, noNetwork}
-use Rattle.text.specs.declared.Name.{Name}
+use Rattle.names.specs.declared.Name.{Name}
 use Rattle.text.specs.Judged.{lowest, unmet}
-use Rattle.text.specs.Names.{nameBytes}
+use Rattle.names.specs.Names.{nameBytes}
 use Rattle.network_text.specs.Lines.{lineIn, lineOf, goodLine, TablePlace, Within, LineRead}
 use Rattle.network_text.specs.Terms.{termsOf, termsAt, terms-start, terms-next}
 use Rattle.network_text.specs.declared.line.Line.{Line}

@@ -3,18 +3,18 @@ ghost use mathlib.Core.Path.{_≡_};
 ghost use Prim.Native.Nat.{_+_, _-_, _<_};
 ghost use lib.ListN.{length, take, drop};
 ghost use Rattle.rules.specs.NetworkText.{over};
-ghost use Rattle.text.specs.Forms.{Named};
+ghost use Rattle.text.specs.Name.{Named};
 ghost use Rattle.text.specs.Judged.{lowest};
-ghost use Rattle.text.specs.Names.{nameBytes};
+ghost use Rattle.names.specs.Names.{nameBytes};
 ghost use Rattle.network_text.specs.Lines.{TablePlace, Within};
 ghost use Rattle.network_text.specs.Terms.{Small, termsOf};
 ghost use Rattle.network.specs.Seen.{noLines, Sized, Flags, repeated, inConditions, nodeConditions, badSource, linConditions, bootConditions, wireConditions, outConditions, seenConditions, withNet, withNode, withName, withOutput, RoomFor, Follows};
+use names::Name;
 use network_text::Lin;
 use network_text::Line;
 use network_text::Read;
 use rules::Limit;
 use rules::Wire;
-use text::Name;
 
 // The `net` line, if it was there; how many nodes, inputs and outputs; of each node whether it is a sum, the length of the tables that its
 // bounds fit, and whether they are within 0..1; the inputs' names.
@@ -78,7 +78,7 @@ fn is_known_name(k: Seen, name: Name) -> bool
     ensures { λ r. ⌜ r ≡ repeated k (nameBytes name) ⌝ }
 {
     let names = k.names;
-    text::is_listed(names, k.inputs, name)
+    names::is_listed(names, k.inputs, name)
 }
 
 fn name_number(k: Seen, l: &[u8], a: usize, e: usize) -> usize
@@ -91,7 +91,7 @@ fn name_number(k: Seen, l: &[u8], a: usize, e: usize) -> usize
         k.outputs,
         k.inputs,
         k.count,
-        is_known_name(k, text::name_of(l, a, e)),
+        is_known_name(k, names::name_of(l, a, e)),
     )
 }
 
@@ -307,7 +307,7 @@ pub fn with_line(k: Seen, l: &[u8], r: Read) -> Seen
     match line {
         Line::Bad => k,
         Line::Net(p, m, norm) => with_net(k, p, m, norm),
-        Line::In(a, e) => with_node(with_name(k, text::name_of(l, a, e)), false, 2, true),
+        Line::In(a, e) => with_node(with_name(k, names::name_of(l, a, e)), false, 2, true),
         Line::Lin => with_node(
             k,
             true,

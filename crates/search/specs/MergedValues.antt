@@ -12,7 +12,7 @@ use Rattle.rules.specs.Cone.{Cone, linearTable, values}
 use Rattle.rules.specs.Store.{terms, coefficientOf}
 use Rattle.rules.specs.Composition.{Scales, mergedCoefficients}
 use Rattle.scale.specs.Divisor.{divisor-not-zero, normalised-exact}
-use Rattle.cone.specs.Basis.{coefficientsOver}
+use Rattle.compose.specs.Basis.{coefficientsOver}
 use Rattle.theorems.specs.ConeValues.{linearTable-length}
 use Rattle.search.specs.MergedIntegers.{mul-add, add-mul, quot-of, zipWith-append, map-zipWith}
 use Rattle.theorems.specs.Normalised.{normalised-length}

@@ -19,8 +19,8 @@ use Rattle.rules.specs.Cone.{Cone, Candidate, linearTable, coneSpan, bestFrom, 
 use Rattle.rules.specs.Composition.{Scales, scales, unionSupport, scalePairs, triedPairs, mergedCoefficients, evaluate, findCandidate}
 use Rattle.rules.specs.Network.{LutNode}
 use Rattle.rules.specs.Scale.{isScalePair}
-use Rattle.cone.specs.declared.compose.Basis.{Basis}
-use Rattle.cone.specs.Basis.{coefficientsOver, IsBasis}
+use Rattle.compose.specs.declared.Basis.{Basis}
+use Rattle.compose.specs.Basis.{coefficientsOver, IsBasis}
 use Rattle.search.specs.declared.Ranges.{Ranges}
 use Rattle.search.specs.declared.energy.Moments.{Moments}
 use Rattle.search.specs.declared.score.Score.{Score}

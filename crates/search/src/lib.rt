@@ -4,7 +4,7 @@ pub mod pair;
 pub mod rows;
 pub mod score;
 
-use cone::compose::Basis;
+use compose::Basis;
 use energy::Moments;
 use lut::Terms;
 use pair::Pair;

@@ -174,7 +174,7 @@ fn network_run(text: &[u8], bits: &[u8], values: &mut [i64]) {
 
 fn circuit_run(text: &[u8], bits: &[u8], values: &mut [u8]) {
     let mut out = [0u8; 8192];
-    let r = circuit::run_circuit(text, bits, values);
+    let r = circuit_run::run_circuit(text, bits, values);
     let a = put_run(&mut out, r);
     let n = put_bits(&mut out, a, values);
     end_line(&mut out, n);
