@@ -1,0 +1,2 @@
+-- What is asked of a buffer after a reply.
+pub mod Buffer
