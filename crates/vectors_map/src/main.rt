@@ -11,6 +11,8 @@ use rules::MapReply;
 ghost use mathlib.Core.Path.{_≡_};
 ghost use Prim.Native.Nat.{_≤_};
 ghost use lib.ListN.{length};
+ghost use Rattle.framing.specs.Feeding.{stateWith, after, fedAll};
+ghost use Rattle.framing.specs.Step.{fed};
 ghost use Rattle.vectors_map.specs.Buffer.{untouched, leftAt, kept, begins};
 
 // Every byte of a buffer before it is lent: 165, which no text has.
@@ -192,13 +194,18 @@ fn take_event(e: Event, job: &[u8]) {
     }
 }
 
-fn take_byte(f: Feed, b: u8, job: &mut [u8]) -> Feed {
+// One byte of the input.
+fn take_byte(f: Feed, b: u8, job: &mut [u8]) -> Feed
+    ensures { λ r. ⌜ stateWith r (now (job .exit)) ≡ after (fed f b (now (job .entry))) ⌝ }
+{
     let e = feed_byte(f, b, job);
     take_event(e, job);
     next_feed(e)
 }
 
-fn take_bytes(feed: Feed, bytes: &[u8], job: &mut [u8]) -> Feed {
+fn take_bytes(feed: Feed, bytes: &[u8], job: &mut [u8]) -> Feed
+    ensures { λ r. ⌜ stateWith r (now (job .exit)) ≡ fedAll (stateWith feed (now (job .entry))) (now (bytes .entry)) ⌝ }
+{
     let mut f = feed;
     let mut i = 0;
     while i < bytes.len() {
