@@ -46,8 +46,7 @@ module _ (number line : ℕ) (n : number < 2 ^ 64) (l : line < 2 ^ 64) where
   pub refusal-short : length (refusalText number line) ≤ 48
   unfolding refusalText
   refusal-short =
-      omega
-      (
+      omega (
         arith,
         length-append (bytes "(no " ++ digits number ++ bytes " " ++ digits line) (bytes ")\n"),
         length-append (bytes "(no " ++ digits number ++ bytes " ") (digits line),
