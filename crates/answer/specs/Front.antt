@@ -1,42 +1,20 @@
 -- A text in the front of a buffer.
-use mathlib.Core.Path.{_≡_, refl, sym, ap, _∙_}
-use mathlib.Core.List.{List, [], _∷_, _++_}
-use mathlib.Core.Logic.{⊎-elim}
-use Prim.Native.Nat.{ℕ, zero, suc, _+_, _≤_, _<_, _/_, _^_}
-use native.Mathlib.Nat.{not-suc-le-zero, le-of-suc-le-suc, zero-add, suc-add}
+use mathlib.Core.Path.{_≡_}
+use mathlib.Core.List.{List, _++_}
+use Prim.Native.Nat.{ℕ, _+_, _≤_, _<_, _^_}
 use native.Mathlib.Omega.{arith}
 use lib.ListN.{length, length-append, take}
-use Rattle.laws.specs.Laid.{laid, laid-length}
-use Rattle.laws.specs.Test.{lt-or-le}
+use Rattle.laws.specs.Laid.{laid-length, laid-take}
 use Rattle.rules.specs.Form.{bytes}
 use Rattle.rules.specs.Service.{endLine, refusalText}
 use Rattle.rules.specs.Writing.{digits}
-use Rattle.theorems.specs.Decimals.{digits-one, digits-more}
+use Rattle.theorems.specs.Decimals.{digits-within}
 use Rattle.writer.specs.Put.{Put, Room}
 
 -- The first n bytes of the buffer are the text.
 pub record Front (text : List ℕ) (n : ℕ) (out : List ℕ) : Type 0 where
   pub within : n ≤ length out
   pub bytes : take n out ≡ text
-
--- what is laid, with what stands before it
-module _ {A : Type 0} where
-  laid-take : (k : ℕ) (s d : List A) → k + length s ≤ length d → take (k + length s) (laid k s d) ≡ take k d ++ s
-  unfolding laid
-  laid-take zero [] [] h = refl
-  laid-take zero (x ∷ s) [] h = absurd (omega arith)
-  laid-take (suc k) s [] h = absurd (omega arith)
-  laid-take zero [] (y ∷ d) h = refl
-  laid-take zero (x ∷ s) (y ∷ d) h =
-      rw (zero-add (suc (length s))) (ap {B = List A} (λ r. x ∷ r) (rw (zero-add (length s)) at (laid-take zero s d (omega arith))))
-  laid-take (suc k) s (y ∷ d) h = rw (suc-add k (length s)) (ap {B = List A} (λ r. y ∷ r) (laid-take k s d (omega arith)))
-
--- A number below 10 to the k has at most k digits, and one at least.
-digits-within : (k n : ℕ) → n < 10 ^ suc k → length (digits n) ≤ suc k
-digits-within zero n h = rw (digits-one n (omega arith)) (omega arith)
-digits-within (suc k) n h =
-    ⊎-elim (λ (l : n < 10). rw (digits-one n l) (omega arith))
-    (λ (l : 10 ≤ n). rw (digits-more n l, length-append (digits (n / 10))) (omega (arith, digits-within k (n / 10) (omega arith)))) (lt-or-le n 10)
 
 machine-digits : (n : ℕ) → n < 2 ^ 64 → length (digits n) ≤ 20
 machine-digits n h = digits-within 19 n (omega arith)

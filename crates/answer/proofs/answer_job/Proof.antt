@@ -6,11 +6,6 @@ use Rattle.answer.specs.Answer.{written-ends, front-written, front-refus
 use borrow.Author.Needs.{needs}
 use Rattle.answer.proofs.answer_job.Statement.{statement}
 use Rattle.answer.proofs.answer_job.Tie as tie
-use Rattle.answer.proofs.answer_job.Reads as reads
-use Rattle.answer.proofs.answer_job.Lts as lts
-use Rattle.answer.proofs.put_end.Reads as put-end-reads
-use Rattle.answer.proofs.refuse.Reads as refuse-reads
-use Rattle.mapper.proofs.map.Reads as map-reads
 
 -- src/lib.rt:53:22
 slice-relend-prefix-map : tie.Need-slice-relend-prefix-map

@@ -4,9 +4,6 @@ use Rattle.answer.specs.Front.{front-end}
 use borrow.Author.Needs.{needs}
 use Rattle.answer.proofs.put_end.Statement.{statement}
 use Rattle.answer.proofs.put_end.Tie as tie
-use Rattle.answer.proofs.put_end.Reads as reads
-use Rattle.answer.proofs.put_end.Lts as lts
-use Rattle.writer.proofs.put.put_all.Reads as put-all-reads
 
 -- src/lib.rt:36:21
 slice-aggregate-put-all : tie.Need-slice-aggregate-put-all

@@ -6,11 +6,6 @@ use Rattle.answer.specs.Front.{refusal-room}
 use borrow.Author.Needs.{needs}
 use Rattle.answer.proofs.put_refusal.Statement.{statement}
 use Rattle.answer.proofs.put_refusal.Tie as tie
-use Rattle.answer.proofs.put_refusal.Reads as reads
-use Rattle.answer.proofs.put_refusal.Lts as lts
-use Rattle.writer.proofs.put.put.Reads as put-reads
-use Rattle.writer.proofs.put.put_all.Reads as put-all-reads
-use Rattle.writer.proofs.put.put_number.Reads as put-number-reads
 
 -- src/lib.rt:24:29
 slice-aggregate-put-all : tie.Need-slice-aggregate-put-all

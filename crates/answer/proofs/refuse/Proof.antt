@@ -2,10 +2,6 @@ use Rattle.answer.specs.Front.{refusal-ends, front-refusal}
 use borrow.Author.Needs.{needs}
 use Rattle.answer.proofs.refuse.Statement.{statement}
 use Rattle.answer.proofs.refuse.Tie as tie
-use Rattle.answer.proofs.refuse.Reads as reads
-use Rattle.answer.proofs.refuse.Lts as lts
-use Rattle.answer.proofs.put_end.Reads as put-end-reads
-use Rattle.answer.proofs.put_refusal.Reads as put-refusal-reads
 
 -- src/lib.rt:44:9
 put-refusal-requires : tie.Need-put-refusal-requires

@@ -5,10 +5,6 @@ use Rattle.answer.specs.Answer.{within-job, front-job, front-long}
 use borrow.Author.Needs.{needs}
 use Rattle.answer.proofs.say.Statement.{statement}
 use Rattle.answer.proofs.say.Tie as tie
-use Rattle.answer.proofs.say.Reads as reads
-use Rattle.answer.proofs.say.Lts as lts
-use Rattle.answer.proofs.answer_job.Reads as answer-job-reads
-use Rattle.answer.proofs.refuse.Reads as refuse-reads
 
 -- src/lib.rt:66:27
 enum-told : tie.Need-enum-told

@@ -2,10 +2,6 @@ use Rattle.answer.specs.Answer.{front-cut, front-none}
 use borrow.Author.Needs.{needs}
 use Rattle.answer.proofs.say_at_end.Statement.{statement}
 use Rattle.answer.proofs.say_at_end.Tie as tie
-use Rattle.answer.proofs.say_at_end.Reads as reads
-use Rattle.answer.proofs.say_at_end.Lts as lts
-use Rattle.answer.proofs.refuse.Reads as refuse-reads
-use Rattle.framing.proofs.is_cut.Reads as is-cut-reads
 
 -- src/lib.rt:77:8
 is-cut-requires : tie.Need-is-cut-requires
