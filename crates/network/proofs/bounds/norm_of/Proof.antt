@@ -1,63 +1,50 @@
-use Rattle.laws.specs.Integer.{read-back}
-use mir.Val.{toZ, ofZ}
-use mir.Syntax.{w64}
-use lib.ListN.{getD}
-use lib.IntN.{pos}
-use mathlib.Core.Path.{_≡_, ap}
-use Prim.Native.Nat.{_+_, _*_, _-_, _≤_}
-use borrow.Author.Needs.{needs}
-use native.Mathlib.Omega.{arith}
-use Rattle.network_text.specs.Terms.{termsOf, termsAt, terms-start}
-use Rattle.network.specs.Bounds.{coefNorm, norm-next, norm-end}
 use Rattle.network.proofs.bounds.norm_of.Statement.{statement}
 use Rattle.network.proofs.bounds.norm_of.Tie as tie
+use Rattle.network.proofs.bounds.norm_of.Reads as reads
+use Rattle.network.proofs.bounds.norm_of.Lts as lts
+use Rattle.network.proofs.bounds.square.Reads as square-reads
 
 abbrev Inv-loop : tie.InvT-loop
-Inv-loop lin sum₀ i₀ sum i = (i ≤ lin .n) × (sum ≤ 961 * i) × (sum + coefNorm (termsAt lin i) ≡ coefNorm (termsOf lin))
+Inv-loop lin sum₀ i₀ sum i = ?
 
 abbrev μ-loop : tie.MeasureT-loop
-μ-loop lin sum₀ i₀ sum i = lin .n - i
+μ-loop lin sum₀ i₀ sum i = ?
 
-back : (c : tie.After-square-arg Inv-loop μ-loop) → toZ w64 (ofZ w64 (getD (c .before .before .before .args .t1 .coefs) (c .before .before .loop .i) (pos 0))) ≡ getD (c .before .before .before .args .t1 .coefs) (c .before .before .loop .i) (pos 0)
-back c = read-back _ (c .square-arg .given)
-
+-- src/bounds.rt:61:5
 loop-holds : tie.Need-loop-holds Inv-loop μ-loop
-loop-holds c = (search needs, search needs, omega (arith, ap coefNorm (terms-start (c .args .t1) 0)))
+loop-holds c = ?
 
--- src/bounds.rt:50:28
+-- src/bounds.rt:62:28
 mul-square : tie.Need-mul-square Inv-loop μ-loop
-mul-square c = search needs
+mul-square c = ?
 
--- src/bounds.rt:50:28
+-- src/bounds.rt:62:28
 element-copy-out-square : tie.Need-element-copy-out-square Inv-loop μ-loop
-element-copy-out-square c = search needs
+element-copy-out-square c = ?
 
--- src/bounds.rt:50:21
+-- src/bounds.rt:62:21
 square-requires : tie.Need-square-requires Inv-loop μ-loop
-square-requires c κs = simp (back c) (c .before .before .before .pre .coefs (c .before .before .loop .i))
+square-requires c κs = ?
 
--- src/bounds.rt:50:15
+-- src/bounds.rt:62:15
 add-sum : tie.Need-add-sum Inv-loop μ-loop
-add-sum c = search needs
+add-sum c = ?
 
--- src/bounds.rt:51:9
+-- src/bounds.rt:63:9
 add-i : tie.Need-add-i Inv-loop μ-loop
-add-i c = search needs
+add-i c = ?
 
--- src/bounds.rt:49:5
+-- src/bounds.rt:61:5
 loop-less : tie.Need-loop-less Inv-loop μ-loop
-loop-less c = search needs
+loop-less c = ?
 
--- src/bounds.rt:49:5
+-- src/bounds.rt:61:5
 loop-again : tie.Need-loop-again Inv-loop μ-loop
-loop-again c =
-    let l = c .before .before .before .before .args .t1 in
-    let i = c .before .before .before .loop .i in
-    (search needs, search needs, omega (arith, simp (back (c .before)) at (c .square .ensures .0), norm-next l i (search needs)))
+loop-again c = ?
 
--- src/bounds.rt:43:1
+-- src/bounds.rt:55:1
 returns : tie.Need-returns Inv-loop μ-loop
-returns c = omega (arith, norm-end (c .before .before .args .t1) (c .before .loop .i) (search needs))
+returns c = ?
 
 pub norm-of-spec : {M : Type 1} → statement M
 norm-of-spec =
