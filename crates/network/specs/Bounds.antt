@@ -6,7 +6,7 @@ use Prim.Native.Nat.{ℕ, zero, suc, _+_, _*_, _<_, _≤_}
 use native.Mathlib.Nat.{not-suc-le-zero}
 use native.Mathlib.Numerals.{add-one}
 use native.Mathlib.Omega.{arith}
-use lib.Dec.{T}
+use lib.Dec.{T, eqb}
 use lib.IntN.{ℤ, pos, negsuc, natAbs, _+ℤ_}
 use lib.ListN.{length, getD, drop, drop-of-length-le}
 use lib.Seq.{drop-cons}
@@ -18,7 +18,7 @@ use Rattle.rules.specs.Network.{Term, LutNode, Input, Linear, Bootstrap, below0
 use Rattle.rules.specs.NetworkText.{isBit}
 use Rattle.rules.specs.Scale.{norm}
 use Rattle.rules.specs.Store.{termsOf}
-use Rattle.lut.specs.Nodes.{constantOf}
+use Rattle.lut.specs.Nodes.{kindOf, constantOf}
 use Rattle.lut.specs.Sums.{fine-at}
 use Rattle.lut.specs.View.{term, Fine}
 use Rattle.network_text.specs.declared.sum.Lin.{Lin}
@@ -175,6 +175,12 @@ next-nonNeg (pos a) h = tt
 next-nonNeg (negsuc a) h = absurd (omega (arith, ltZ-false (negsuc a) (pos 0) h))
 
 -- ---- A node's fit and whether it is a bit, by the code's tests.
+
+pub kind-sum : (n : LutNode) → eqb (kindOf n) 1 ≡ isLinear n
+unfolding kindOf isLinear
+kind-sum (Input name) = refl
+kind-sum (Linear c ts) = refl
+kind-sum (Bootstrap i table) = refl
 
 module _ (n : LutNode) where
   pub other-fit : isLinear n ≡ false → 2 ≡ nodeFit n

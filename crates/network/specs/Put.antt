@@ -1,20 +1,28 @@
 -- What putting a line changes: the header, the store, the ports.
 use mathlib.Core.Path.{_≡_, refl, sym, ap, ap₂, subst, _∙_}
-use mathlib.Core.List.{List, [], _∷_, _++_}
-use Prim.Native.Nat.{ℕ, _+_, _*_, _-_, _<_, _≤_, _^_}
-use lib.ListN.{length, set, take, drop}
+use mathlib.Core.List.{List, [], _∷_, _++_, zipWith}
+use Prim.Native.Nat.{ℕ, zero, suc, _+_, _*_, _-_, _<_, _≤_, _^_}
+use native.Mathlib.Numerals.{add-one}
+use native.Mathlib.Omega.{arith}
+use lib.IntN.{ℤ, pos}
+use lib.ListN.{length, getD, set, take, drop}
+use lib.Seq.{drop-cons}
 use Rattle.rules.specs.declared.Limit.{Limit}
 use Rattle.rules.specs.declared.Wire.{Wire}
 use Rattle.rules.specs.declared.Wire.the-variants.{Const, Node}
 use Rattle.rules.specs.Form.{bitsFrom}
-use Rattle.rules.specs.Network.{LutNode, Input, Linear, Bootstrap}
+use Rattle.rules.specs.Network.{Term, LutNode, Input, Linear, Bootstrap}
 use Rattle.lut.specs.declared.Terms.{Terms}
-use Rattle.lut.specs.View.{storeOf, FineTerms, IsStore}
-use Rattle.network_text.specs.Lines.{Within}
-use Rattle.network_text.specs.Terms.{termsOf, Small}
+use Rattle.theorems.specs.Bits.{bit-at}
+use Rattle.lut.specs.Store.{put-new}
+use Rattle.lut.specs.Sums.{in-length, fine-more}
+use Rattle.lut.specs.View.{recordOf, storeOf, putAt, term, termsOver, termsIn, FineTerms, Fine, GoodTerms, IsStore}
+use Rattle.network_text.specs.Lines.{TablePlace, Within}
+use Rattle.network_text.specs.Terms.{termsFrom, termsAt, termsOf, Small}
 use Rattle.network_text.specs.declared.line.Line.{Line}
 use Rattle.network_text.specs.declared.line.Line.the-variants.{Bad, Net as NetRead, In, Lin as Sum, Boot, Out}
 use Rattle.network_text.specs.declared.sum.Lin.{Lin}
+use Rattle.network.specs.Table.{TableIs, table-length, lent}
 use Rattle.network.specs.declared.Header.{Header}
 
 -- The store with one node more.
@@ -69,3 +77,49 @@ Follows h at l (In a e) v nodes ports s nodes₁ ports₁ = (s ≡ withInput h) 
 Follows h at l Sum v nodes ports s nodes₁ ports₁ = (s ≡ withNode h) × Adds (Linear (v .constant) (termsOf v)) nodes (h .count) nodes₁ × (ports₁ ≡ ports)
 Follows h at l (Boot i a e) v nodes ports s nodes₁ ports₁ = (s ≡ withNode h) × Adds (Bootstrap i (bitsFrom (take (e - a) (drop a l)))) nodes (h .count) nodes₁ × (ports₁ ≡ ports)
 Follows h at l (Out a e w) v nodes ports s nodes₁ ports₁ = (s ≡ withOutput h) × (nodes₁ ≡ nodes) × (ports₁ ≡ withPort ports (h .outputs) (at + a) (at + e) (signalOf w))
+
+-- ---- A sum's terms.
+
+terms-zip : (cs : List ℤ) (is : List ℕ) (k i : ℕ) → i + k ≤ length cs → i + k ≤ length is → termsFrom i k cs is ≡ zipWith term (take k (drop i cs)) (take k (drop i is))
+unfolding termsFrom zipWith term
+terms-zip cs is zero i h g = refl
+terms-zip cs is (suc k) i h g =
+    rw (drop-cons cs i (pos 0) (omega arith), drop-cons is i 0 (omega arith), ← add-one i)
+    (ap {B = List Term} (λ r. record { coef = getD cs i (pos 0); node = getD is i 0 } ∷ r) (terms-zip cs is k (i + 1) (omega arith) (omega arith)))
+
+module _ (v : Lin) (s : Small v) (e : length (v .coefs) ≡ 11) (f : length (v .sources) ≡ 11) where
+  same-terms : termsIn (sumTerms v) ≡ termsOf v
+  unfolding sumTerms termsIn termsOver termsOf termsAt
+  same-terms = let k = s .few in let z : v .n - 0 ≡ v .n = omega arith in sym (rw z (terms-zip (v .coefs) (v .sources) (v .n) 0 (omega arith) (omega arith)))
+
+  few-terms : length (termsOf v) ≤ 11
+  unfolding sumTerms
+  few-terms = let l = in-length (sumTerms v) (s .few) e f in let k = s .few in rw (← same-terms) (omega arith)
+
+  pub sum-good : (count : ℕ) → count < 672 → FineTerms count (termsOf v) → GoodTerms 672 (sumTerms v)
+  unfolding sumTerms
+  sum-good count h g = record { few = s .few; near = s .constant; fine = rw same-terms (fine-more count 672 (termsOf v) (omega arith) g) }
+
+  pub sum-added : (nodes : List ℕ) (count : ℕ) (r after : List ℕ) → IsStore nodes count → count < 672 → FineTerms count (termsOf v)
+      → r ≡ recordOf (Linear (sumTerms v .constant) (termsIn (sumTerms v))) → after ≡ putAt nodes count r → Adds (Linear (v .constant) (termsOf v)) nodes count after
+  unfolding sumTerms Fine
+  sum-added nodes count r after i h g q p =
+      let n = put-new nodes count (Linear (v .constant) (termsOf v)) r after i h (few-terms, s .constant, g) (q ∙ ap (λ ts. recordOf (Linear (v .constant) ts)) same-terms) p in
+      record { store = n .0; still = n .1 }
+
+-- ---- A boot's table.
+
+module _ (nodes : List ℕ) (count i : ℕ) (l : List ℕ) (a e : ℕ) (p : TablePlace l a e) where
+  pub boot-added : (r after t : List ℕ) → IsStore nodes count → count < 672 → i < count → TableIs l a e t → r ≡ recordOf (Bootstrap i (take (e - a - 0) t)) → after ≡ putAt nodes count r
+      → Adds (Bootstrap i (bitsFrom (take (e - a) (drop a l)))) nodes count after
+  unfolding Fine
+  boot-added r after t s h k q f g =
+      let n = put-new nodes count (Bootstrap i (bitsFrom (take (e - a) (drop a l)))) r after s h
+          (k, rw (table-length p) (p .short), λ j. bit-at (bitsFrom (take (e - a) (drop a l))) j (p .bits))
+          (f ∙ ap (λ b. recordOf (Bootstrap i b)) (lent q)) g in
+      record { store = n .0; still = n .1 }
+
+-- ---- A wire's signal.
+
+pub signal-constant : {w : Wire} {b n : ℕ} → w ≡ Const b → n ≡ b → 1000 + n ≡ signalOf w
+signal-constant e f = rw (e, f)

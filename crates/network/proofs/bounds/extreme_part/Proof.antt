@@ -1,23 +1,27 @@
+use mir.Facts.{toZ-ofZ}
+use Rattle.network.specs.Bounds.{least-below, least-above, greatest-below, greatest-above}
 use Rattle.network.proofs.bounds.extreme_part.Statement.{statement}
 use Rattle.network.proofs.bounds.extreme_part.Tie as tie
-use Rattle.network.proofs.bounds.extreme_part.Reads as reads
-use Rattle.network.proofs.bounds.extreme_part.Lts as lts
 
--- src/bounds.rt:15:1
 returns : tie.Need-returns
-returns c = ?
+returns c =
+    let f = c .before .before .fits .coef in
+    simp (toZ-ofZ f) (least-below _ _ (c .before .if1 .taken) (simp (toZ-ofZ f) at (c .if2 .taken)))
 
--- src/bounds.rt:15:1
 returns-2 : tie.Need-returns-2
-returns-2 c = ?
+returns-2 c =
+    let f = c .before .before .fits .coef in
+    least-above _ _ (c .before .if1 .taken) (simp (toZ-ofZ f) at (c .if2 .left))
 
--- src/bounds.rt:15:1
 returns-3 : tie.Need-returns-3
-returns-3 c = ?
+returns-3 c =
+    let f = c .before .before .fits .coef in
+    greatest-below _ _ (c .before .if1 .left) (simp (toZ-ofZ f) at (c .if3 .taken))
 
--- src/bounds.rt:15:1
 returns-4 : tie.Need-returns-4
-returns-4 c = ?
+returns-4 c =
+    let f = c .before .before .fits .coef in
+    simp (toZ-ofZ f) (greatest-above _ _ (c .before .if1 .left) (simp (toZ-ofZ f) at (c .if3 .left)))
 
 pub extreme-part-spec : {M : Type 1} → statement M
 extreme-part-spec = tie.close (tie.spec returns returns-2 returns-3 returns-4)

@@ -1,19 +1,24 @@
+use native.Mathlib.Omega.{arith}
+use lib.IntN.{_*ℤ_}
+use mir.Syntax.{w64}
+use mir.Val.{SFits}
+use mir.Facts.{toZ-ofZ}
+use Rattle.laws.specs.Integer.{fits-abs, abs-mul-le, abs-mul, square-nonNeg}
 use Rattle.network.proofs.bounds.square.Statement.{statement}
 use Rattle.network.proofs.bounds.square.Tie as tie
-use Rattle.network.proofs.bounds.square.Reads as reads
-use Rattle.network.proofs.bounds.square.Lts as lts
 
--- src/bounds.rt:51:6
+fits : (c : tie.Start) → SFits w64 (c .args .x *ℤ c .args .x)
+fits c = fits-abs _ (omega (arith, abs-mul-le (c .args .x) (c .args .x) (c .pre) (c .pre)))
+
 mul-result : tie.Need-mul-result
-mul-result c = ?
+mul-result c = simp (toZ-ofZ (c .fits .x)) (fits c)
 
--- src/bounds.rt:51:5
 cast-result : tie.Need-cast-result
-cast-result c = ?
+cast-result c =
+    simp (toZ-ofZ (c .fits .x), toZ-ofZ (fits c)) (square-nonNeg (c .args .x), record { fits = omega (arith, abs-mul-le (c .args .x) (c .args .x) (c .pre) (c .pre)) })
 
--- src/bounds.rt:47:1
 returns : tie.Need-returns
-returns c = ?
+returns c = simp (toZ-ofZ (c .fits .x), toZ-ofZ (fits c)) (abs-mul (c .args .x) (c .args .x), abs-mul-le (c .args .x) (c .args .x) (c .pre) (c .pre))
 
 pub square-spec : {M : Type 1} → statement M
 square-spec = tie.close (tie.spec mul-result cast-result returns)

@@ -1,8 +1,8 @@
+use mathlib.Core.Path.{refl}
+use Rattle.network.specs.Put.{withPort}
 use borrow.Author.Needs.{needs}
 use Rattle.network.proofs.put.put_port.Statement.{statement}
 use Rattle.network.proofs.put.put_port.Tie as tie
-use Rattle.network.proofs.put.put_port.Reads as reads
-use Rattle.network.proofs.put.put_port.Lts as lts
 
 -- src/put.rt:113:16
 mul-ports : tie.Need-mul-ports
@@ -62,7 +62,8 @@ element-write-ports-3 c = search needs
 
 -- src/put.rt:109:1
 returns : tie.Need-returns
-returns c = ?
+unfolding withPort
+returns c = refl
 
 pub put-port-spec : {M : Type 1} → statement M
 put-port-spec =

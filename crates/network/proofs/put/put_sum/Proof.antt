@@ -1,11 +1,6 @@
 use borrow.Author.Needs.{needs}
 use Rattle.network.proofs.put.put_sum.Statement.{statement}
 use Rattle.network.proofs.put.put_sum.Tie as tie
-use Rattle.network.proofs.put.put_sum.Reads as reads
-use Rattle.network.proofs.put.put_sum.Lts as lts
-use Rattle.lut.proofs.record.sum.Reads as sum-reads
-use Rattle.lut.proofs.store.put_record.Reads as put-record-reads
-use Rattle.network.proofs.put.terms_of.Reads as terms-of-reads
 
 -- src/put.rt:71:34
 terms-of-requires : tie.Need-terms-of-requires

@@ -1,9 +1,7 @@
+use Rattle.network.specs.Put.{signal-constant}
 use borrow.Author.Needs.{needs}
 use Rattle.network.proofs.put.signal_of.Statement.{statement}
 use Rattle.network.proofs.put.signal_of.Tie as tie
-use Rattle.network.proofs.put.signal_of.Reads as reads
-use Rattle.network.proofs.put.signal_of.Lts as lts
-use Rattle.network.proofs.put.wide.Reads as wide-reads
 
 -- src/put.rt:103:21
 enum-known-w : tie.Need-enum-known-w
@@ -23,7 +21,7 @@ enum-known-w-2 c = search needs
 
 -- src/put.rt:99:1
 returns : tie.Need-returns
-returns c = ?
+returns c = signal-constant (c .before .before .w .given .1) (c .before .wide .ensures .0)
 
 -- src/put.rt:99:1
 returns-2 : tie.Need-returns-2

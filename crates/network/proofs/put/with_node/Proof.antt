@@ -1,8 +1,8 @@
+use mathlib.Core.Path.{refl}
+use Rattle.network.specs.Put.{withNode}
 use borrow.Author.Needs.{needs}
 use Rattle.network.proofs.put.with_node.Statement.{statement}
 use Rattle.network.proofs.put.with_node.Tie as tie
-use Rattle.network.proofs.put.with_node.Reads as reads
-use Rattle.network.proofs.put.with_node.Lts as lts
 
 -- src/put.rt:29:15
 add-r : tie.Need-add-r
@@ -10,7 +10,8 @@ add-r c = search needs
 
 -- src/put.rt:24:1
 returns : tie.Need-returns
-returns c = ?
+unfolding withNode
+returns c = refl
 
 pub with-node-spec : {M : Type 1} → statement M
 with-node-spec = tie.close (tie.spec add-r returns)

@@ -1,8 +1,8 @@
+use mathlib.Core.Path.{refl}
+use Rattle.network.specs.Put.{withOutput}
 use borrow.Author.Needs.{needs}
 use Rattle.network.proofs.put.with_output.Statement.{statement}
 use Rattle.network.proofs.put.with_output.Tie as tie
-use Rattle.network.proofs.put.with_output.Reads as reads
-use Rattle.network.proofs.put.with_output.Lts as lts
 
 -- src/put.rt:50:17
 add-r : tie.Need-add-r
@@ -10,7 +10,8 @@ add-r c = search needs
 
 -- src/put.rt:45:1
 returns : tie.Need-returns
-returns c = ?
+unfolding withOutput
+returns c = refl
 
 pub with-output-spec : {M : Type 1} → statement M
 with-output-spec = tie.close (tie.spec add-r returns)
