@@ -17,8 +17,9 @@ use Rattle.laws.specs.Integer.{plus, minus, ltZ-true, ltZ-false, true-leZ, fals
 use Rattle.rules.specs.Network.{Term, LutNode, Input, Linear, Bootstrap, below0, above0, leastSum, greatestSum, leastOf, greatestOf, isLinear}
 use Rattle.rules.specs.NetworkText.{isBit}
 use Rattle.rules.specs.Scale.{norm}
-use Rattle.rules.specs.Store.{termsOf}
-use Rattle.lut.specs.Nodes.{kindOf, constantOf}
+use Rattle.rules.specs.Store.{needs, termsOf}
+use Rattle.theorems.specs.Terms.{sources-length}
+use Rattle.lut.specs.Nodes.{kindOf, constantOf, few-terms}
 use Rattle.lut.specs.Sums.{fine-at}
 use Rattle.lut.specs.View.{term, Fine}
 use Rattle.network_text.specs.declared.sum.Lin.{Lin}
@@ -88,6 +89,18 @@ part-small true (negsuc a) h = h
 part-small false (pos a) h = h
 part-small false (negsuc a) h = omega arith
 
+sum-size : (n : LutNode) → isLinear n ≡ true → length (needs n) ≡ length (termsOf n)
+unfolding needs termsOf isLinear
+sum-size (Input name) e = refl
+sum-size (Linear c ts) e = sources-length ts
+sum-size (Bootstrap i table) e = absurd (true≢false (sym e))
+
+near-constant : (i : ℕ) (n : LutNode) → Fine i n → isLinear n ≡ true → natAbs (constantOf n) ≤ 31
+unfolding Fine constantOf isLinear
+near-constant i (Input name) f e = absurd (true≢false (sym e))
+near-constant i (Linear c ts) f e = f .1
+near-constant i (Bootstrap j table) f e = absurd (true≢false (sym e))
+
 fine-term : (i : ℕ) (n : LutNode) → Fine i n → (k : ℕ) → k < length (termsOf n) → natAbs (getD (termsOf n) k (term (pos 0) 0) .coef) ≤ 31
 unfolding Fine termsOf
 fine-term i (Input name) f k h = absurd (not-suc-le-zero h)
@@ -105,8 +118,13 @@ unfolding extremeSum extremePart leastSum greatestSum
 extreme-cons true c t ts = refl
 extreme-cons false c t ts = refl
 
+extreme-nil : (low : Bool) (c : ℤ) → extremeSum low c [] ≡ c
+unfolding extremeSum leastSum greatestSum
+extreme-nil true c = refl
+extreme-nil false c = refl
+
 module _ (low : Bool) (n : LutNode) where
-  pub sum-start : isLinear n ≡ true → extremeOf low n ≡ extremeSum low (constantOf n) (termsLeft n 0)
+  sum-start : isLinear n ≡ true → extremeOf low n ≡ extremeSum low (constantOf n) (termsLeft n 0)
   unfolding extremeOf extremeSum leastOf greatestOf isLinear constantOf termsLeft termsOf
   sum-start = by low n
     where
@@ -116,25 +134,33 @@ module _ (low : Bool) (n : LutNode) where
       by false (Linear c ts) e = refl
       by b (Bootstrap i table) e = absurd (true≢false (sym e))
 
-  module _ (c : ℤ) (k : ℕ) where
-    pub sum-next : (x : ℤ) → k < length (termsOf n) → x ≡ extremePart low (getD (termsOf n) k (term (pos 0) 0) .coef)
-        → extremeSum low c (termsLeft n k) ≡ extremeSum low (c +ℤ x) (termsLeft n (k + 1))
+  -- c is the sum of the constant and of the extremes of the first k of m terms
+  pub record Summing (m : ℕ) (c : ℤ) (k : ℕ) : Type 0 where
+    pub within : k ≤ m
+    pub size : m ≡ length (termsOf n)
+    pub few : m ≤ 11
+    pub near : natAbs c ≤ 31 + 31 * k
+    pub same : extremeOf low n ≡ extremeSum low c (termsLeft n k)
+
+  pub summing-start : (i : ℕ) {m : ℕ} {c : ℤ} → Fine i n → isLinear n ≡ true → m ≡ length (needs n) → c ≡ constantOf n → Summing m c 0
+  summing-start i f l e d =
+      let q : length (needs n) ≡ length (termsOf n) = sum-size n l in
+      let t = few-terms i n f in
+      let z : natAbs (constantOf n) ≤ 31 = near-constant i n f l in
+      record { within = omega arith; size = e ∙ q; few = omega arith; near = rw d (omega arith); same = sum-start l ∙ rw d }
+
+  module _ {m : ℕ} {c : ℤ} {k : ℕ} (s : Summing m c k) where
+    pub summing-next : (i : ℕ) {x : ℤ} → Fine i n → k < m → x ≡ extremePart low (getD (termsOf n) k (term (pos 0) 0) .coef) → Summing m (c +ℤ x) (k + 1)
     unfolding termsLeft
-    sum-next x h e = rw (e, drop-cons (termsOf n) k (term (pos 0) 0) h, add-one k) (extreme-cons low c _ _)
-
-    pub sum-end : length (termsOf n) ≤ k → extremeSum low c (termsLeft n k) ≡ c
-    unfolding termsLeft extremeSum leastSum greatestSum
-    sum-end h = rw (drop-of-length-le (termsOf n) {i = k} h) (by low)
-      where
-        by : (b : Bool) → extremeSum b c [] ≡ c
-        by true = refl
-        by false = refl
-
-    pub turn-size : (i : ℕ) (x : ℤ) → Fine i n → natAbs c ≤ 31 + 31 * k → k < length (termsOf n) → x ≡ extremePart low (getD (termsOf n) k (term (pos 0) 0) .coef)
-        → natAbs (c +ℤ x) ≤ 31 + 31 * (k + 1)
-    turn-size i x f h l e =
+    summing-next i {x} f h e =
+        let l : k < length (termsOf n) = omega (arith, s .size) in
         let q : natAbs x ≤ 31 = rw e (part-small low _ (fine-term i n f k l)) in
-        omega (arith, abs-add c x)
+        let t : extremeSum low c (drop k (termsOf n)) ≡ extremeSum low (c +ℤ x) (drop (k + 1) (termsOf n)) = rw (e, drop-cons (termsOf n) k (term (pos 0) 0) l, add-one k) (extreme-cons low c _ _) in
+        record { within = omega arith; size = s .size; few = s .few; near = omega (arith, abs-add c x, s .near); same = s .same ∙ t }
+
+    pub summing-done : m ≤ k → (c ≡ extremeOf low n) × (natAbs c ≤ 372)
+    unfolding termsLeft
+    summing-done h = (sym (s .same ∙ rw (drop-of-length-le (termsOf n) {i = k} (omega (arith, s .size))) (extreme-nil low c)), omega (arith, s .near, s .within, s .few))
 
 -- ---- The norm's loop.
 

@@ -8,7 +8,7 @@ use native.Mathlib.Omega.{arith}
 use borrow.Author.Tests.{eq-eqb, ne-eqb, le-leb, lt-leb, lt-ltb, not-true, not-false}
 use lib.Dec.{leb, ltb, eqb}
 use lib.ListN.{length, getD, take, drop, drop-of-length-le}
-use lib.Seq.{drop-cons}
+use lib.Seq.{drop-cons, take-length}
 use Rattle.laws.specs.Test.{if_then_else_, if-both}
 use Rattle.rules.specs.declared.Limit.{Limit}
 use Rattle.rules.specs.declared.Limit.the-variants.{Unlimited, AtMost}
@@ -116,6 +116,10 @@ input-plain (Input name) e = refl
 input-plain (Linear c ts) e = absurd (true≢false (sym e))
 input-plain (Bootstrap i table) e = absurd (true≢false (sym e))
 
+-- a name's bytes as a slice, whole
+pub whole-name : (name : C.Name) {s t : List ℕ} {b : Bool} → b ≡ sameName name (take (length s - 0) (drop 0 s)) → s ≡ t → b ≡ sameName name t
+whole-name name {s} e f = e ∙ ap (sameName name) (let z : length s - 0 ≡ length s = omega arith in rw z (take-length s) ∙ f)
+
 names-cons : (n : LutNode) (ns : List LutNode) → isInput n ≡ true → names (n ∷ ns) ≡ bytesIn n ∷ names ns
 unfolding isInput names bytesIn
 names-cons (Input name) ns e = refl
@@ -182,6 +186,13 @@ module _ (h : Header) (ns : List LutNode) (name : C.Name) (p : h .p ≡ 0 → �
   pub in-new : {b : Bool} → b ≡ listed name (names ns) → b ≡ false → 0 ≡ lowest (inConditions h ns name)
   unfolding inConditions lowest
   in-new e t = rw (ne-eqb (h .p) 0 p, lt-leb 1 (h .outputs) o, eq-eqb (h .inputs) (h .count) i, lt-leb 32 (h .count) c, sym e ∙ t)
+
+-- a node of the store, by its place
+pub fit-at : (nodes : List ℕ) {count i x : ℕ} → i < count → x ≡ nodeFit (nodeOf nodes i) → x ≡ nodeFit (nodeAt (storeOf nodes count) i)
+fit-at nodes {count} {i} h e = e ∙ ap nodeFit (sym (at-store nodes i count h))
+
+pub bit-at : (nodes : List ℕ) {count i : ℕ} {b : Bool} → i < count → b ≡ isBit (nodeOf nodes i) → b ≡ isBit (nodeAt (storeOf nodes count) i)
+bit-at nodes {count} {i} h e = e ∙ ap isBit (sym (at-store nodes i count h))
 
 module _ (judge : Bool) (h : Header) (ns : List LutNode) {n : ℕ} (e : n ≡ lowest (nodeConditions h)) where
   free : n ≡ 0 → (ms : List Condition) → lowest (nodeConditions h ++ ms) ≡ lowest ms

@@ -5,4 +5,5 @@ pub mod Table
 pub mod Conditions
 pub mod Verdict
 pub mod Put
+pub mod Numbers
 pub mod Step

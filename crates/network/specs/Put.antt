@@ -13,6 +13,7 @@ use Rattle.rules.specs.declared.Wire.the-variants.{Const, Node}
 use Rattle.rules.specs.Form.{bitsFrom}
 use Rattle.rules.specs.Network.{Term, LutNode, Input, Linear, Bootstrap}
 use Rattle.lut.specs.declared.Terms.{Terms}
+use Rattle.text.specs.Forms.{Named}
 use Rattle.theorems.specs.Bits.{bit-at}
 use Rattle.lut.specs.Store.{put-new}
 use Rattle.lut.specs.Sums.{in-length, fine-more}
@@ -96,16 +97,24 @@ module _ (v : Lin) (s : Small v) (e : length (v .coefs) ≡ 11) (f : length (v .
   unfolding sumTerms
   few-terms = let l = in-length (sumTerms v) (s .few) e f in let k = s .few in rw (← same-terms) (omega arith)
 
-  pub sum-good : (count : ℕ) → count < 672 → FineTerms count (termsOf v) → GoodTerms 672 (sumTerms v)
+  good : (count : ℕ) → count < 672 → FineTerms count (termsOf v) → GoodTerms 672 (sumTerms v)
   unfolding sumTerms
-  sum-good count h g = record { few = s .few; near = s .constant; fine = rw same-terms (fine-more count 672 (termsOf v) (omega arith) g) }
+  good count h g = record { few = s .few; near = s .constant; fine = rw same-terms (fine-more count 672 (termsOf v) (omega arith) g) }
 
-  pub sum-added : (nodes : List ℕ) (count : ℕ) (r after : List ℕ) → IsStore nodes count → count < 672 → FineTerms count (termsOf v)
-      → r ≡ recordOf (Linear (sumTerms v .constant) (termsIn (sumTerms v))) → after ≡ putAt nodes count r → Adds (Linear (v .constant) (termsOf v)) nodes count after
-  unfolding sumTerms Fine
-  sum-added nodes count r after i h g q p =
-      let n = put-new nodes count (Linear (v .constant) (termsOf v)) r after i h (few-terms, s .constant, g) (q ∙ ap (λ ts. recordOf (Linear (v .constant) ts)) same-terms) p in
-      record { store = n .0; still = n .1 }
+  same-node : Linear (sumTerms v .constant) (termsIn (sumTerms v)) ≡ Linear (v .constant) (termsOf v)
+  unfolding sumTerms
+  same-node = ap (Linear (v .constant)) same-terms
+
+  module _ (t : Terms) (d : t ≡ sumTerms v) (nodes : List ℕ) (count : ℕ) (i : IsStore nodes count) (h : count < 672) (g : FineTerms count (termsOf v)) where
+    pub sum-good : GoodTerms 672 t
+    sum-good = subst (GoodTerms 672) (sym d) (good count h g)
+
+    pub sum-added : (r after : List ℕ) → r ≡ recordOf (Linear (t .constant) (termsIn t)) → after ≡ putAt nodes count r → Adds (Linear (v .constant) (termsOf v)) nodes count after
+    unfolding Fine
+    sum-added r after q p =
+        let e = q ∙ ap (λ (x : Terms). recordOf (Linear (x .constant) (termsIn x))) d ∙ ap recordOf same-node in
+        let n = put-new nodes count (Linear (v .constant) (termsOf v)) r after i h (few-terms, s .constant, g) e p in
+        record { store = n .0; still = n .1 }
 
 -- ---- A boot's table.
 
@@ -123,3 +132,61 @@ module _ (nodes : List ℕ) (count i : ℕ) (l : List ℕ) (a e : ℕ) (p : Tabl
 
 pub signal-constant : {w : Wire} {b n : ℕ} → w ≡ Const b → n ≡ b → 1000 + n ≡ signalOf w
 signal-constant e f = rw (e, f)
+
+-- ---- A line told apart.
+
+module _ {h : Header} {at : ℕ} {l : List ℕ} {line : Line} {v : Lin} {nodes ports : List ℕ} (r : Ready h at l line v nodes ports) where
+  named : {a e : ℕ} → line ≡ In a e → Named (length l) a e
+  named q = subst (Within l) q (r .within)
+
+  pub in-room : {a e : ℕ} → line ≡ In a e → (h .count < 672) × (h .inputs ≤ 32)
+  unfolding RoomFor
+  in-room q = subst (λ x. RoomFor h x v) q (r .room)
+
+  pub in-ready : {a e : ℕ} → line ≡ In a e → IsStore nodes (h .count) × (h .count < 672) × Named (length l) a e
+  in-ready q = (r .store, in-room q .0, named q)
+
+  pub sum-ready : line ≡ Sum → IsStore nodes (h .count) × (h .count < 672) × Small v × FineTerms (h .count) (termsOf v)
+  unfolding RoomFor
+  sum-ready q = let k = subst (λ x. RoomFor h x v) q (r .room) in (r .store, k .0, r .small, k .1)
+
+  pub boot-ready : {i a e : ℕ} → line ≡ Boot i a e → IsStore nodes (h .count) × (h .count < 672) × (i < h .count) × TablePlace l a e
+  unfolding RoomFor
+  boot-ready q = let k = subst (λ x. RoomFor h x v) q (r .room) in (r .store, k .0, k .1, subst (Within l) q (r .within))
+
+  pub out-room : {a e : ℕ} {w : Wire} → line ≡ Out a e w → h .outputs < 32
+  unfolding RoomFor
+  out-room q = subst (λ x. RoomFor h x v) q (r .room)
+
+  pub out-near : {a e : ℕ} {w : Wire} → line ≡ Out a e w → (at + a < 2 ^ 64) × (at + e < 2 ^ 64)
+  out-near {a} {e} q =
+      let n : Named (length l) a e = subst (Within l) q (r .within) in
+      (omega (arith, n .later, n .inside, r .near), omega (arith, n .inside, r .near))
+
+module _ (h : Header) (at : ℕ) (l : List ℕ) (line : Line) (v : Lin) (nodes ports : List ℕ) where
+  pub follows-bad : line ≡ Bad → Follows h at l line v nodes ports h nodes ports
+  unfolding Follows
+  follows-bad q = rw q (refl, refl, refl)
+
+  pub follows-net : {p m : ℕ} {n : Limit} → line ≡ NetRead p m n → Follows h at l line v nodes ports (withNet h p m n) nodes ports
+  unfolding Follows
+  follows-net q = rw q (refl, refl, refl)
+
+  module _ {s : Header} {nodes₁ : List ℕ} where
+    pub follows-in : {a e : ℕ} → line ≡ In a e → s ≡ withInput h → Adds (Input (take (e - a) (drop a l))) nodes (h .count) nodes₁ → Follows h at l line v nodes ports s nodes₁ ports
+    unfolding Follows
+    follows-in q f k = rw q (f, k, refl)
+
+    pub follows-sum : line ≡ Sum → s ≡ withNode h → Adds (Linear (v .constant) (termsOf v)) nodes (h .count) nodes₁ → Follows h at l line v nodes ports s nodes₁ ports
+    unfolding Follows
+    follows-sum q f k = rw q (f, k, refl)
+
+    pub follows-boot : {i a e : ℕ} → line ≡ Boot i a e → s ≡ withNode h → Adds (Bootstrap i (bitsFrom (take (e - a) (drop a l)))) nodes (h .count) nodes₁
+        → Follows h at l line v nodes ports s nodes₁ ports
+    unfolding Follows
+    follows-boot q f k = rw q (f, k, refl)
+
+    pub follows-out : {a e n : ℕ} {w : Wire} {ports₁ : List ℕ} → line ≡ Out a e w → s ≡ withOutput h → n ≡ signalOf w → ports₁ ≡ withPort ports (h .outputs) (at + a) (at + e) n
+        → Follows h at l line v nodes ports s nodes ports₁
+    unfolding Follows
+    follows-out q f g k = rw q (f, refl, k ∙ ap (withPort ports (h .outputs) _ _) g)

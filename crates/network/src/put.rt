@@ -52,6 +52,7 @@ fn with_output(h: Header) -> Header
 }
 
 fn terms_of(lin: Lin) -> lut::Terms
+    requires { ⌜ Small lin ⌝ }
     ensures { λ r. ⌜ r ≡ sumTerms lin ⌝ }
 {
     let coefs = lin.coefs;

@@ -1,43 +1,32 @@
+use Rattle.network.specs.Bounds.{other-fit, sum-fit}
+use Rattle.laws.specs.Integer.{read-back}
+use borrow.Author.Tests.{not-true, not-false}
+use mathlib.Core.Path.{sym, _∙_}
 use borrow.Author.Needs.{needs}
 use Rattle.network.proofs.bounds.node_fit.Statement.{statement}
 use Rattle.network.proofs.bounds.node_fit.Tie as tie
-use Rattle.network.proofs.bounds.node_fit.Reads as reads
-use Rattle.network.proofs.bounds.node_fit.Lts as lts
-use Rattle.network.proofs.bounds.extreme_sum.Reads as extreme-sum-reads
-use Rattle.network.proofs.bounds.fit.Reads as fit-reads
-use Rattle.network.proofs.bounds.is_sum.Reads as is-sum-reads
 
--- src/bounds.rt:87:9
 is-sum-requires : tie.Need-is-sum-requires
 is-sum-requires c κs = search needs
 
--- src/bounds.rt:88:9
 returns : tie.Need-returns
-returns c = ?
+returns c = other-fit _ (sym (c .before .is-sum .ensures) ∙ not-true _ (c .if1 .taken))
 
--- src/bounds.rt:90:9
 extreme-sum-requires : tie.Need-extreme-sum-requires
-extreme-sum-requires c κs = ?
+extreme-sum-requires c κs = (c .before .before .pre, sym (c .before .is-sum .ensures) ∙ not-false _ (c .if1 .left))
 
--- src/bounds.rt:90:38
 extreme-sum-requires-2 : tie.Need-extreme-sum-requires-2
-extreme-sum-requires-2 c κs = ?
+extreme-sum-requires-2 c κs = (c .before .before .before .pre, sym (c .before .before .is-sum .ensures) ∙ not-false _ (c .before .if1 .left))
 
--- src/bounds.rt:90:5
 fit-requires : tie.Need-fit-requires
 fit-requires c κs = search needs
 
--- src/bounds.rt:83:1
 returns-2 : tie.Need-returns-2
-returns-2 c = ?
+returns-2 c =
+    let r = c .before .before .extreme-sum in
+    let q = c .before .extreme-sum2 in
+    sum-fit _ _ (r .ensures .0) _ (q .ensures .0) _ (simp (read-back (r .result) (r .ok), read-back (q .result) (q .ok)) at (c .fit .ensures))
 
 pub node-fit-spec : {M : Type 1} → statement M
 node-fit-spec =
-    tie.close
-    (tie.spec
-    is-sum-requires
-    returns
-    extreme-sum-requires
-    extreme-sum-requires-2
-    fit-requires
-    returns-2)
+    tie.close (tie.spec is-sum-requires returns extreme-sum-requires extreme-sum-requires-2 fit-requires returns-2)

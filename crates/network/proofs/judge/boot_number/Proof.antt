@@ -1,59 +1,53 @@
+use mathlib.Core.Path.{sym, ap, _∙_}
+use Rattle.lut.specs.View.{is-node}
+use Rattle.network.specs.Conditions.{fit-at, boot-met, boot-unknown, boot-read, boot-misfit, boot-long, boot-good, boot-bent}
 use borrow.Author.Needs.{needs}
 use Rattle.network.proofs.judge.boot_number.Statement.{statement}
 use Rattle.network.proofs.judge.boot_number.Tie as tie
-use Rattle.network.proofs.judge.boot_number.Reads as reads
-use Rattle.network.proofs.judge.boot_number.Lts as lts
-use Rattle.network.proofs.bounds.node_fit.Reads as node-fit-reads
-use Rattle.network.proofs.judge.node_number.Reads as node-number-reads
-use Rattle.network.proofs.table.is_rotatable.Reads as is-rotatable-reads
 
--- src/judge.rt:146:9
 node-number-requires : tie.Need-node-number-requires
 node-number-requires c κs = search needs
 
--- src/judge.rt:148:9
 returns : tie.Need-returns
-returns c = ?
+returns c = boot-met _ _ _ (c .before .node-number .ensures) _ _ _ _ (c .if1 .taken)
 
--- src/judge.rt:151:9
 returns-2 : tie.Need-returns-2
-returns-2 c = ?
+returns-2 c = boot-unknown _ _ _ (c .before .before .before .node-number .ensures) _ _ _ _ (c .before .before .if1 .left) (c .if2 .taken)
 
--- src/judge.rt:154:9
 returns-3 : tie.Need-returns-3
-returns-3 c = ?
+returns-3 c = boot-read (c .before .before .before .before .before .before .args .judge) _ _ (c .before .before .before .before .node-number .ensures) _ _ _ _ (c .before .before .before .if1 .left) (c .before .if2 .left) (c .if3 .taken)
 
--- src/judge.rt:156:8
 node-fit-requires : tie.Need-node-fit-requires
-node-fit-requires c κs = ?
+node-fit-requires c κs = is-node _ _ _ (c .before .before .before .before .before .before .pre .0) (c .before .if2 .left)
 
--- src/judge.rt:156:50
 sub-if4 : tie.Need-sub-if4
 sub-if4 c = search needs
 
--- src/judge.rt:157:9
 returns-4 : tie.Need-returns-4
-returns-4 c = ?
+returns-4 c =
+    boot-misfit (c .before .before .before .before .before .before .before .before .args .judge) _ _ (c .before .before .before .before .before .before .node-number .ensures) _ _ _ _ (c .before .before .before .before .before .if1 .left) (c .before .before .before .if2 .left) (c .before .before .if3 .left)
+    (fit-at _ (c .before .before .before .if2 .left) (c .before .node-fit .ensures)) (c .if4 .taken)
 
--- src/judge.rt:159:14
 sub-if5 : tie.Need-sub-if5
 sub-if5 c = search needs
 
--- src/judge.rt:160:9
 returns-5 : tie.Need-returns-5
-returns-5 c = ?
+returns-5 c =
+    boot-long (c .before .before .before .before .before .before .before .before .before .before .args .judge) _ _ (c .before .before .before .before .before .before .before .before .node-number .ensures) _ _ _ _ (c .before .before .before .before .before .before .before .if1 .left) (c .before .before .before .before .before .if2 .left) (c .before .before .before .before .if3 .left)
+    (fit-at _ (c .before .before .before .before .before .if2 .left) (c .before .before .before .node-fit .ensures)) (c .before .before .if4 .left) (c .if5 .taken)
 
--- src/judge.rt:162:8
 is-rotatable-requires : tie.Need-is-rotatable-requires
 is-rotatable-requires c κs = search needs
 
--- src/judge.rt:134:1
 returns-6 : tie.Need-returns-6
-returns-6 c = ?
+returns-6 c =
+    boot-good (c .before .before .before .before .before .before .before .before .before .before .before .before .args .judge) _ _ (c .before .before .before .before .before .before .before .before .before .before .node-number .ensures) _ _ _ _ (c .before .before .before .before .before .before .before .before .before .if1 .left) (c .before .before .before .before .before .before .before .if2 .left) (c .before .before .before .before .before .before .if3 .left)
+    (fit-at _ (c .before .before .before .before .before .before .before .if2 .left) (c .before .before .before .before .before .node-fit .ensures)) (c .before .before .before .before .if4 .left) (c .before .before .if5 .left) (c .before .is-rotatable .ensures) (c .if6 .taken)
 
--- src/judge.rt:134:1
 returns-7 : tie.Need-returns-7
-returns-7 c = ?
+returns-7 c =
+    boot-bent (c .before .before .before .before .before .before .before .before .before .before .before .before .args .judge) _ _ (c .before .before .before .before .before .before .before .before .before .before .node-number .ensures) _ _ _ _ (c .before .before .before .before .before .before .before .before .before .if1 .left) (c .before .before .before .before .before .before .before .if2 .left) (c .before .before .before .before .before .before .if3 .left)
+    (fit-at _ (c .before .before .before .before .before .before .before .if2 .left) (c .before .before .before .before .before .node-fit .ensures)) (c .before .before .before .before .if4 .left) (c .before .before .if5 .left) (c .before .is-rotatable .ensures) (c .if6 .left)
 
 pub boot-number-spec : {M : Type 1} → statement M
 boot-number-spec =

@@ -1,41 +1,34 @@
+use Rattle.lut.specs.View.{is-node}
+use Rattle.network.specs.Conditions.{bit-at, wire-constant, wire-unknown, wire-read, wire-bit, wire-other}
 use borrow.Author.Needs.{needs}
 use Rattle.network.proofs.judge.wire_number.Statement.{statement}
 use Rattle.network.proofs.judge.wire_number.Tie as tie
-use Rattle.network.proofs.judge.wire_number.Reads as reads
-use Rattle.network.proofs.judge.wire_number.Lts as lts
-use Rattle.network.proofs.bounds.is_bit.Reads as is-bit-reads
 
--- src/judge.rt:173:20
 enum-known-w : tie.Need-enum-known-w
 enum-known-w c = search needs
 
--- src/judge.rt:174:9
 enum-told : tie.Need-enum-told
 enum-told c = search needs
 
--- src/judge.rt:174:9
 returns : tie.Need-returns
-returns c = ?
+returns c = wire-constant _ _ _ _ (c .enum-told .given .1)
 
--- src/judge.rt:177:9
 returns-2 : tie.Need-returns-2
-returns-2 c = ?
+returns-2 c = wire-unknown _ _ _ _ (c .before .before .w .given .1) (c .if1 .taken)
 
--- src/judge.rt:180:9
 returns-3 : tie.Need-returns-3
-returns-3 c = ?
+returns-3 c = wire-read (c .before .before .before .before .before .args .judge) _ _ _ (c .before .before .before .w .given .1) (c .before .if1 .left) (c .if2 .taken)
 
--- src/judge.rt:182:8
 is-bit-requires : tie.Need-is-bit-requires
-is-bit-requires c κs = ?
+is-bit-requires c κs = is-node _ _ _ (c .before .before .before .before .before .pre) (c .before .if1 .left)
 
--- src/judge.rt:169:1
 returns-4 : tie.Need-returns-4
-returns-4 c = ?
+returns-4 c =
+    wire-bit (c .before .before .before .before .before .before .before .args .judge) _ _ _ (c .before .before .before .before .before .w .given .1) (c .before .before .before .if1 .left) (c .before .before .if2 .left) (bit-at _ (c .before .before .before .if1 .left) (c .before .is-bit .ensures)) (c .if3 .taken)
 
--- src/judge.rt:169:1
 returns-5 : tie.Need-returns-5
-returns-5 c = ?
+returns-5 c =
+    wire-other (c .before .before .before .before .before .before .before .args .judge) _ _ _ (c .before .before .before .before .before .w .given .1) (c .before .before .before .if1 .left) (c .before .before .if2 .left) (bit-at _ (c .before .before .before .if1 .left) (c .before .is-bit .ensures)) (c .if3 .left)
 
 pub wire-number-spec : {M : Type 1} → statement M
 wire-number-spec =

@@ -1,11 +1,7 @@
+use Rattle.network.specs.Put.{boot-added}
 use borrow.Author.Needs.{needs}
 use Rattle.network.proofs.put.put_boot.Statement.{statement}
 use Rattle.network.proofs.put.put_boot.Tie as tie
-use Rattle.network.proofs.put.put_boot.Reads as reads
-use Rattle.network.proofs.put.put_boot.Lts as lts
-use Rattle.lut.proofs.record.boot.Reads as boot-reads
-use Rattle.lut.proofs.store.put_record.Reads as put-record-reads
-use Rattle.network.proofs.table.table_of.Reads as table-of-reads
 
 -- src/put.rt:79:17
 table-of-requires : tie.Need-table-of-requires
@@ -41,7 +37,9 @@ put-record-requires c κs = search needs
 
 -- src/put.rt:75:1
 returns : tie.Need-returns
-returns c = ?
+returns c =
+    let p = c .before .before .before .before .before .before .before .before .pre in
+    boot-added _ _ _ _ _ _ (p .3) _ _ _ (p .0) (p .1) (p .2) (c .before .before .before .before .before .before .table-of .ensures) (c .before .before .before .boot .ensures) (c .put-record .ensures)
 
 pub put-boot-spec : {M : Type 1} → statement M
 put-boot-spec =

@@ -1,16 +1,7 @@
+use Rattle.network.specs.Put.{withNet, in-ready, in-room, sum-ready, boot-ready, out-room, out-near, follows-bad, follows-net, follows-in, follows-sum, follows-boot, follows-out}
 use borrow.Author.Needs.{needs}
 use Rattle.network.proofs.put.put_line.Statement.{statement}
 use Rattle.network.proofs.put.put_line.Tie as tie
-use Rattle.network.proofs.put.put_line.Reads as reads
-use Rattle.network.proofs.put.put_line.Lts as lts
-use Rattle.network.proofs.put.put_boot.Reads as put-boot-reads
-use Rattle.network.proofs.put.put_in.Reads as put-in-reads
-use Rattle.network.proofs.put.put_port.Reads as put-port-reads
-use Rattle.network.proofs.put.put_sum.Reads as put-sum-reads
-use Rattle.network.proofs.put.signal_of.Reads as signal-of-reads
-use Rattle.network.proofs.put.with_input.Reads as with-input-reads
-use Rattle.network.proofs.put.with_node.Reads as with-node-reads
-use Rattle.network.proofs.put.with_output.Reads as with-output-reads
 
 -- src/put.rt:133:22
 enum-told : tie.Need-enum-told
@@ -26,11 +17,11 @@ enum-known-line-2 c = search needs
 
 -- src/put.rt:143:13
 put-in-requires : tie.Need-put-in-requires
-put-in-requires c κs = ?
+put-in-requires c κs = in-ready (c .before .before .before .before .before .before .pre) (c .before .before .line2 .given .1)
 
 -- src/put.rt:144:13
 with-input-requires : tie.Need-with-input-requires
-with-input-requires c κs = ?
+with-input-requires c κs = in-room (c .before .before .before .before .before .before .before .pre) (c .before .before .before .line2 .given .1)
 
 -- src/put.rt:147:21
 enum-told-2 : tie.Need-enum-told-2
@@ -38,7 +29,7 @@ enum-told-2 c = search needs
 
 -- src/put.rt:147:13
 put-sum-requires : tie.Need-put-sum-requires
-put-sum-requires c κs = ?
+put-sum-requires c κs = sum-ready (c .before .before .before .before .before .pre) (c .before .enum-told2 .given .1)
 
 -- src/put.rt:148:13
 with-node-requires : tie.Need-with-node-requires
@@ -50,7 +41,7 @@ enum-known-line-3 c = search needs
 
 -- src/put.rt:151:13
 put-boot-requires : tie.Need-put-boot-requires
-put-boot-requires c κs = ?
+put-boot-requires c κs = boot-ready (c .before .before .before .before .before .before .pre) (c .before .before .line3 .given .1)
 
 -- src/put.rt:152:13
 with-node-requires-2 : tie.Need-with-node-requires-2
@@ -62,11 +53,11 @@ enum-known-line-4 c = search needs
 
 -- src/put.rt:155:40
 add-put-port : tie.Need-add-put-port
-add-put-port c = ?
+add-put-port c = record { fits = out-near (c .before .before .before .before .before .before .pre) (c .before .before .line4 .given .1) .0 }
 
 -- src/put.rt:155:48
 add-put-port-2 : tie.Need-add-put-port-2
-add-put-port-2 c = ?
+add-put-port-2 c = record { fits = out-near (c .before .before .before .before .before .before .pre) (c .before .before .line4 .given .1) .1 }
 
 -- src/put.rt:155:56
 signal-of-requires : tie.Need-signal-of-requires
@@ -74,35 +65,36 @@ signal-of-requires c κs = search needs
 
 -- src/put.rt:155:13
 put-port-requires : tie.Need-put-port-requires
-put-port-requires c κs = ?
+put-port-requires c κs = let p = c .before .before .before .before .before .before .before .pre in (p .long, out-room p (c .before .before .before .line4 .given .1))
 
 -- src/put.rt:156:13
 with-output-requires : tie.Need-with-output-requires
-with-output-requires c κs = ?
+with-output-requires c κs = out-room (c .before .before .before .before .before .before .before .before .pre) (c .before .before .before .before .line4 .given .1)
 
 -- src/put.rt:119:1
 returns : tie.Need-returns
-returns c = ?
+returns c = follows-bad _ _ _ _ _ _ _ (c .enum-told .given .1)
 
 -- src/put.rt:119:1
 returns-2 : tie.Need-returns-2
-returns-2 c = ?
+unfolding withNet
+returns-2 c = follows-net _ _ _ _ _ _ _ (c .before .line .given .1)
 
 -- src/put.rt:119:1
 returns-3 : tie.Need-returns-3
-returns-3 c = ?
+returns-3 c = follows-in _ _ _ _ _ _ _ (c .before .before .before .before .line2 .given .1) (c .with-input .ensures) (c .before .put-in .ensures)
 
 -- src/put.rt:119:1
 returns-4 : tie.Need-returns-4
-returns-4 c = ?
+returns-4 c = follows-sum _ _ _ _ _ _ _ (c .before .before .before .enum-told2 .given .1) (c .with-node .ensures) (c .before .put-sum .ensures)
 
 -- src/put.rt:119:1
 returns-5 : tie.Need-returns-5
-returns-5 c = ?
+returns-5 c = follows-boot _ _ _ _ _ _ _ (c .before .before .before .before .line3 .given .1) (c .with-node2 .ensures) (c .before .put-boot .ensures)
 
 -- src/put.rt:119:1
 returns-6 : tie.Need-returns-6
-returns-6 c = ?
+returns-6 c = follows-out _ _ _ _ _ _ _ (c .before .before .before .before .before .line4 .given .1) (c .with-output .ensures) (c .before .before .signal-of .ensures) (c .before .put-port .ensures)
 
 pub put-line-spec : {M : Type 1} → statement M
 put-line-spec =

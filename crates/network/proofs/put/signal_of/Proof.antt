@@ -21,7 +21,7 @@ enum-known-w-2 c = search needs
 
 -- src/put.rt:99:1
 returns : tie.Need-returns
-returns c = signal-constant (c .before .before .w .given .1) (c .before .wide .ensures .0)
+returns c = signal-constant (c .before .before .w .given .1) (c .wide .ensures .0)
 
 -- src/put.rt:99:1
 returns-2 : tie.Need-returns-2
