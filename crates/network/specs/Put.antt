@@ -186,7 +186,7 @@ module _ (h : Header) (at : ℕ) (l : List ℕ) (line : Line) (v : Lin) (nodes p
     unfolding Follows
     follows-boot q f k = rw q (f, k, refl)
 
-    pub follows-out : {a e n : ℕ} {w : Wire} {ports₁ : List ℕ} → line ≡ Out a e w → s ≡ withOutput h → n ≡ signalOf w → ports₁ ≡ withPort ports (h .outputs) (at + a) (at + e) n
-        → Follows h at l line v nodes ports s nodes ports₁
-    unfolding Follows
-    follows-out q f g k = rw q (f, refl, k ∙ ap (withPort ports (h .outputs) _ _) g)
+  pub follows-out : {s : Header} {a e n : ℕ} {w : Wire} {ports₁ : List ℕ} → line ≡ Out a e w → s ≡ withOutput h → n ≡ signalOf w
+      → ports₁ ≡ withPort ports (h .outputs) (at + a) (at + e) n → Follows h at l line v nodes ports s nodes ports₁
+  unfolding Follows
+  follows-out {a = a} {e = e} q f g k = rw q (f, refl, k ∙ ap (withPort ports (h .outputs) (at + a) (at + e)) g)
