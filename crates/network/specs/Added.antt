@@ -1,34 +1,33 @@
 -- A line with no fault added: the arrays stand for the lines with it.
-use mathlib.Core.Path.{_≡_, refl, sym, ap, ap₂, subst, _∙_}
-use mathlib.Core.Bool.{Bool, true, false, not, true≢false, _&&_}
+use mathlib.Core.Path.{_≡_, refl, sym, ap, ap₂, _∙_}
+use mathlib.Core.Bool.{Bool, true, false, not, _&&_}
 use mathlib.Core.List.{List, [], _∷_, _++_}
 use mathlib.Core.Logic.{⊎-elim}
 use mathlib.Core.Option.{Option, none, some, Option·some-injective, Option·none-ne-some}
 use Prim.Native.Nat.{ℕ, _+_, _*_, _-_, _<_, _≤_}
 use native.Mathlib.Numerals.{add-one}
 use native.Mathlib.Omega.{arith}
-use borrow.Author.Tests.{eq-eqb, ne-eqb, le-leb, lt-leb, lt-ltb, le-ltb, leb-false, eqb-true}
-use lib.Dec.{leb, ltb, eqb, leb→le}
-use lib.ListN.{length, getD, set, take, drop, length-set, length-append, length-take, length-drop, List·getD-append}
+use borrow.Author.Tests.{ne-eqb, lt-ltb, le-ltb, leb-false, eqb-true}
+use lib.Dec.{leb, eqb, leb→le}
+use lib.ListN.{length, getD, set, take, drop, length-set, length-take, length-drop, List·getD-append}
 use lib.Seq.{getD-set-same, getD-set-other, getD-at, take-take, drop-drop}
-use Rattle.laws.specs.Tabulate.{tabulate, tabulate-length, tabulate-same, tabulate-snoc}
-use Rattle.laws.specs.Test.{if_then_else_, isSome, lt-or-le, eq-or-ne, and-left, and-right, is-T}
+use Rattle.laws.specs.Tabulate.{tabulate-length, tabulate-same, tabulate-snoc}
+use Rattle.laws.specs.Test.{if_then_else_, isSome, lt-or-le, and-left, is-T}
 use Rattle.rules.specs.declared.Limit.{Limit}
 use Rattle.rules.specs.declared.Wire.{Wire}
 use Rattle.rules.specs.declared.Wire.the-variants.{Const, Node}
 use Rattle.rules.specs.Builder.{tableLimits}
 use Rattle.rules.specs.Circuit.{Output}
 use Rattle.rules.specs.CircuitText.{noNode}
-use Rattle.rules.specs.Form.{bitsFrom}
 use Rattle.rules.specs.Network as W
 use Rattle.rules.specs.Network.{LutNode, Input, Linear, Bootstrap, isInput}
 use Rattle.rules.specs.NetworkText as N
-use Rattle.rules.specs.NetworkText.{Net, NetworkLine, NetLine, NodeLine, OutLine, NetPrefix, networkLine, nodeAt, allInputs, settingsOf, withNetworkLine}
+use Rattle.rules.specs.NetworkText.{Net, NetworkLine, NetLine, NodeLine, OutLine, networkLine, nodeAt, allInputs, settingsOf, withNetworkLine}
 use Rattle.text.specs.Forms.{Named}
 use Rattle.theorems.specs.Counts.{count-snoc, count-most}
 use Rattle.theorems.specs.LineBits.{WireBit, LineBits, line-bits}
 use Rattle.lut.specs.Ports.{signalWire, outputAt, portOutput}
-use Rattle.lut.specs.View.{nodeOf, storeOf, IsStore, at-store, store-length, part-drop}
+use Rattle.lut.specs.View.{nodeOf, storeOf, at-store, store-length, part-drop}
 use Rattle.network_text.specs.Lines.{lineIn, lineOf, goodLine, Within, LineRead}
 use Rattle.network_text.specs.Terms.{termsOf}
 use Rattle.network_text.specs.declared.line.Line.{Line}
@@ -169,15 +168,14 @@ module _ (ports : List ℕ) (i a e n : ℕ) (l : length ports ≡ 160) (h : i < 
 
   new-port : (getD (withPort ports i a e n) (64 + 3 * i) 0 ≡ a) × (getD (withPort ports i a e n) (64 + 3 * i + 1) 0 ≡ e) × (getD (withPort ports i a e n) (64 + 3 * i + 2) 0 ≡ n)
   unfolding withPort
-  new-port =
-      (
-        getD-set-other (set (set ports (64 + 3 * i) a) (64 + 3 * i + 1) e) (64 + 3 * i + 2) (64 + 3 * i) n 0 (λ (q : 64 + 3 * i ≡ 64 + 3 * i + 2). omega arith)
+  new-port = (
+    getD-set-other (set (set ports (64 + 3 * i) a) (64 + 3 * i + 1) e) (64 + 3 * i + 2) (64 + 3 * i) n 0 (λ (q : 64 + 3 * i ≡ 64 + 3 * i + 2). omega arith)
         ∙ getD-set-other (set ports (64 + 3 * i) a) (64 + 3 * i + 1) (64 + 3 * i) e 0 (λ (q : 64 + 3 * i ≡ 64 + 3 * i + 1). omega arith)
         ∙ getD-set-same ports (64 + 3 * i) a 0 (omega arith),
-        getD-set-other (set (set ports (64 + 3 * i) a) (64 + 3 * i + 1) e) (64 + 3 * i + 2) (64 + 3 * i + 1) n 0 (λ (q : 64 + 3 * i + 1 ≡ 64 + 3 * i + 2). omega arith)
+    getD-set-other (set (set ports (64 + 3 * i) a) (64 + 3 * i + 1) e) (64 + 3 * i + 2) (64 + 3 * i + 1) n 0 (λ (q : 64 + 3 * i + 1 ≡ 64 + 3 * i + 2). omega arith)
         ∙ getD-set-same (set ports (64 + 3 * i) a) (64 + 3 * i + 1) e 0 (simp length-set (omega arith)),
-        getD-set-same (set (set ports (64 + 3 * i) a) (64 + 3 * i + 1) e) (64 + 3 * i + 2) n 0 (simp length-set (omega arith)),
-      )
+    getD-set-same (set (set ports (64 + 3 * i) a) (64 + 3 * i + 1) e) (64 + 3 * i + 2) n 0 (simp length-set (omega arith)),
+  )
 
   port-long : length (withPort ports i a e n) ≡ 160
   unfolding withPort

@@ -2,7 +2,7 @@
 use mathlib.Core.Path.{_≡_, refl, sym, ap, _∙_}
 use mathlib.Core.Bool.{Bool, true, false}
 use mathlib.Core.List.{List}
-use mathlib.Core.Option.{none, some}
+use mathlib.Core.Option.{some}
 use Prim.Native.Nat.{ℕ, _+_, _-_, _<_, _≤_, _^_}
 use native.Mathlib.Nat.{not-suc-le-zero}
 use native.Mathlib.Omega.{arith}
@@ -11,20 +11,20 @@ use lib.ListN.{length, take, drop, length-take, length-drop}
 use Rattle.laws.specs.Test.{if_then_else_}
 use Rattle.rules.specs.declared.Limit.the-variants.{Unlimited}
 use Rattle.rules.specs.Form as F
-use Rattle.rules.specs.Network.{Network, count, isInput}
-use Rattle.rules.specs.NetworkText.{NetworkLine, NetPrefix, networkLine, noNetwork, withNet, withNetworkLine, networkEnded, readNetwork, readAdmitted}
+use Rattle.rules.specs.Network.{count}
+use Rattle.rules.specs.NetworkText.{NetworkLine, networkLine, noNetwork, withNet, withNetworkLine, networkEnded, readNetwork, readAdmitted}
 use Rattle.laws.specs.Tabulate.{tabulate}
 use Rattle.text.specs.Judged.{lowest}
 use Rattle.text.specs.Line.{LineEnd}
-use Rattle.lut.specs.View.{storeOf, IsStore}
+use Rattle.lut.specs.View.{storeOf}
 use Rattle.network_text.specs.Lines.{LineRead}
 use Rattle.network_text.specs.declared.line.Read.{Read}
-use Rattle.network.specs.Added.{Added, holds-says, added}
+use Rattle.network.specs.Added.{holds-says, added}
 use Rattle.network.specs.Conditions.{Kept, lineConditions}
 use Rattle.network.specs.Numbers.{number-is, room-for}
 use Rattle.network.specs.Put.{Ready, Follows}
 use Rattle.network.specs.Verdict.{refusal, networkFrom, network-read, network-admitted, network-end, line-refused, line-next}
-use Rattle.network.specs.View.{outputsOf, netOf, networkOf, prefixOf, readingOf, Holds, Held}
+use Rattle.network.specs.View.{outputsOf, netOf, networkOf, prefixOf, Holds, Held}
 use Rattle.network.specs.declared.Header.{Header}
 use Rattle.network.specs.declared.Reading.the-variants.{Good, Refused}
 use Rattle.network.specs.declared.put.Step.{Step}
