@@ -8,3 +8,4 @@ pub mod Nodes
 pub mod Reuse
 pub mod Prune
 pub mod Forms
+pub mod Norm

@@ -6,11 +6,11 @@ use lib.IntN.{pos}
 use lib.ListN.{getD}
 use Rattle.laws.specs.Integer.{read-back}
 use Rattle.rules.specs.Store.{termsOf}
 use Rattle.lut.specs.View.{term, nodeOf}
-use Rattle.mapper.specs.Norm.{term-near, one-within, one-square}
+use Rattle.lut.specs.Norm.{term-near, one-within, one-square}
 use borrow.Author.Needs.{needs}
-use Rattle.mapper.proofs.norm.term_norm.Statement.{statement}
-use Rattle.mapper.proofs.norm.term_norm.Tie as tie
+use Rattle.lut.proofs.norm.term_norm.Statement.{statement}
+use Rattle.lut.proofs.norm.term_norm.Tie as tie
 
 -- the coefficient as it is read
 is : (c : tie.After-coef-of) → let s = c .before in
