@@ -72,7 +72,7 @@ module _ (P : ℕ) (bytes : List ℕ) (count i : ℕ) where
   turns-end h = let l = store-length bytes count in rw (drop-of-length-le (storeOf bytes count) {i = i} (omega arith))
 
 -- where one is no rotation's, every run breaks off
-pub turns-none : (P : ℕ) (bits : List ℕ) (values : List ℤ) (ns : List LutNode) → all (turns P) ns ≡ false → nodeValues P bits values ns ≡ none
+turns-none : (P : ℕ) (bits : List ℕ) (values : List ℤ) (ns : List LutNode) → all (turns P) ns ≡ false → nodeValues P bits values ns ≡ none
 unfolding nodeValues all withValue
 turns-none P bits values [] e = absurd (true≢false e)
 turns-none P bits values (n ∷ ns) e = by (turns P n) refl e (nodeValue P bits values n) (λ v. turns-none P bits (values ++ (v ∷ [])) ns)
@@ -85,6 +85,10 @@ turns-none P bits values (n ∷ ns) e = by (turns P n) refl e (nodeValue P bits 
         later none = refl
         later (some v) = r v f
     by false q f o r = ap (λ o. withValue o (λ v. nodeValues P bits (values ++ (v ∷ [])) ns)) (value-none P bits values n q)
+
+pub unturned : (P : ℕ) (bits : List ℕ) (ns : List LutNode) (values : List ℤ) (count : ℕ) → all (turns P) ns ≡ false → valuesIn false values count ≡ nodeValues P bits [] ns
+unfolding valuesIn
+unturned P bits ns values count e = sym (turns-none P bits [] ns e)
 
 -- ---- laws: a turn
 

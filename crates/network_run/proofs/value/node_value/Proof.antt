@@ -1,58 +1,88 @@
-use borrow.Author.Needs.{needs}
+-- `network_run::value::node_value` meets its contract.
+use mathlib.Core.Path.{_≡_, sym, ap, ap₂, _∙_}
+use mathlib.Core.Bool.{true≢false}
+use mathlib.Core.Option.{Option}
+use Prim.Native.Nat.{_<_}
+use native.Mathlib.Omega.{arith}
+use borrow.Author.Needs.{needs as asked}
+use lib.IntN.{ℤ, pos}
+use lib.ListN.{length, getD}
+use Rattle.laws.specs.Integer.{read-back}
+use Rattle.rules.specs.Store.{needs}
+use Rattle.lut.specs.Nodes.{kindOf, source-before}
+use Rattle.lut.specs.View.{nodeOf}
+use Rattle.network_run.specs.Value.{looked, input-value, sum-value, table-value, sum-kind, boot-needs}
 use Rattle.network_run.proofs.value.node_value.Statement.{statement}
 use Rattle.network_run.proofs.value.node_value.Tie as tie
-use Rattle.network_run.proofs.value.node_value.Reads as reads
-use Rattle.network_run.proofs.value.node_value.Lts as lts
-use Rattle.lut.proofs.node.kind_of.Reads as kind-of-reads
-use Rattle.lut.proofs.node.source_of.Reads as source-of-reads
-use Rattle.lut.proofs.node.table_of.Reads as table-of-reads
-use Rattle.network_run.proofs.value.bit_at.Reads as bit-at-reads
-use Rattle.network_run.proofs.value.look_up.Reads as look-up-reads
-use Rattle.network_run.proofs.value.sum_of.Reads as sum-of-reads
 
--- src/value.rt:84:9
 kind-of-requires : tie.Need-kind-of-requires
-kind-of-requires c κs = search needs
+kind-of-requires c κs = c .before .pre .node
 
--- src/value.rt:86:26
 bit-at-requires : tie.Need-bit-at-requires
-bit-at-requires c κs = search needs
+bit-at-requires c κs = search asked
 
--- src/value.rt:86:9
 returns : tie.Need-returns
-returns c = ?
+returns c =
+    let s = c .before .before .before .before in
+    let k = c .before .before .kind-of .ensures in
+    simp (read-back (c .bit-at .result) (c .bit-at .ok))
+    (record { is = input-value (s .args .bits .now) (s .args .values .now) (s .args .i) (nodeOf (s .args .nodes .now) (s .args .i)) _ (sym k ∙ c .before .if1 .taken) (c .bit-at .ensures .0); small = λ _. c .bit-at .ensures .1 })
 
--- src/value.rt:89:26
 sum-of-requires : tie.Need-sum-of-requires
-sum-of-requires c κs = ?
+sum-of-requires c κs =
+    let s = c .before .before .before .before in
+    (s .pre, sum-kind (nodeOf (s .args .nodes .now) (s .args .i)) (sym (c .before .before .kind-of .ensures) ∙ c .if2 .taken))
 
--- src/value.rt:89:9
 returns-2 : tie.Need-returns-2
-returns-2 c = ?
+returns-2 c =
+    let s = c .before .before .before .before .before in
+    let n = nodeOf (s .args .nodes .now) (s .args .i) in
+    let k = sym (c .before .before .before .kind-of .ensures) ∙ c .before .if2 .taken in
+    simp (read-back (c .sum-of .result) (c .sum-of .ok))
+    (record { is = sum-value (s .args .bits .now) (s .args .values .now) (s .args .i) n _ k (c .sum-of .ensures); small = λ e. absurd (true≢false (sym (sum-kind n k) ∙ e)) })
 
--- src/value.rt:91:9
+-- what is left is a boot
+not-input : (c : tie.Else2) → kindOf (nodeOf (c .before .before .before .before .args .nodes .now) (c .before .before .before .before .args .i)) ≡ 0 → ⊥
+not-input c e = c .before .if1 .left (c .before .before .kind-of .ensures ∙ e)
+
+not-sum : (c : tie.Else2) → kindOf (nodeOf (c .before .before .before .before .args .nodes .now) (c .before .before .before .before .args .i)) ≡ 1 → ⊥
+not-sum c e = c .if2 .left (c .before .before .kind-of .ensures ∙ e)
+
 source-of-requires : tie.Need-source-of-requires
-source-of-requires c κs = ?
+source-of-requires c κs = let b = boot-needs _ (not-input c) (not-sum c) in (c .before .before .before .before .pre .node, omega (arith, b .1))
 
--- src/value.rt:92:13
 table-of-requires : tie.Need-table-of-requires
-table-of-requires c κs = ?
+table-of-requires c κs = (c .before .before .before .before .before .pre .node, boot-needs _ (not-input (c .before)) (not-sum (c .before)) .0)
 
--- src/value.rt:92:33
+source : (c : tie.After-table-of) → c .before .source-of .result < 672
+source c =
+    let s = c .before .before .before .before .before .before in
+    let n = nodeOf (s .args .nodes .now) (s .args .i) in
+    let b = boot-needs n (not-input (c .before .before)) (not-sum (c .before .before)) in
+    omega (arith, source-before (s .args .i) n (s .pre .node .fine) 0 (omega (arith, b .1)), c .before .source-of .ensures, s .pre .node .inside)
+
 mul-look-up : tie.Need-mul-look-up
-mul-look-up c = ?
+mul-look-up c = omega (arith, source c)
 
--- src/value.rt:92:33
 element-copy-out-look-up : tie.Need-element-copy-out-look-up
-element-copy-out-look-up c = ?
+element-copy-out-look-up c = source c
 
--- src/value.rt:92:5
 look-up-requires : tie.Need-look-up-requires
-look-up-requires c κs = search needs
+look-up-requires c κs = search asked
 
--- src/value.rt:80:1
 returns-3 : tie.Need-returns-3
-returns-3 c = ?
+returns-3 c =
+    let s = c .before .before .before .before .before .before .before .before in
+    let n = nodeOf (s .args .nodes .now) (s .args .i) in
+    let e = c .before .before .before .before in
+    let g = c .before .before .before .source-of in
+    let t = c .before .before .table-of in
+    record {
+      is = table-value (s .args .bits .now) (s .args .values .now) (s .args .i) n _ (not-input e) (not-sum e)
+          (simp (read-back (getD (s .args .values .now) (g .result) (pos 0)) (c .before .look-up-arg .given)) at (c .look-up .ensures .0)
+          ∙ ap₂ {C = Option ℤ} (λ table j. looked table (getD (s .args .values .now) j (pos 0))) (t .ensures) (g .ensures));
+      small = λ _. c .look-up .ensures .1;
+    }
 
 pub node-value-spec : {M : Type 1} → statement M
 node-value-spec =
