@@ -168,18 +168,6 @@ sum-size c x k h l = omega (arith, abs-add c x)
 
 -- ---- laws: each kind of node
 
-pub sum-kind : (n : LutNode) → kindOf n ≡ 1 → isLinear n ≡ true
-unfolding kindOf isLinear
-sum-kind (Input name) h = absurd (omega arith)
-sum-kind (Linear c ts) h = refl
-sum-kind (Bootstrap j table) h = absurd (omega arith)
-
-pub linear-kind : (n : LutNode) → isLinear n ≡ true → kindOf n ≡ 1
-unfolding kindOf isLinear
-linear-kind (Input name) h = absurd (true≢false (sym h))
-linear-kind (Linear c ts) h = refl
-linear-kind (Bootstrap j table) h = absurd (true≢false (sym h))
-
 pub near-constant : (i : ℕ) (n : LutNode) → Fine i n → natAbs (constantOf n) ≤ 31
 unfolding Fine constantOf
 near-constant i (Input name) f = omega arith
@@ -199,17 +187,11 @@ module _ (bits : List ℕ) (values : List ℤ) (i : ℕ) where
   sum-value (Linear c ts) x h e = ap {B = Option ℤ} some e
   sum-value (Bootstrap j table) x h e = absurd (omega arith)
 
-  pub table-value : (n : LutNode) (o : Option ℤ) → (kindOf n ≡ 0 → ⊥) → (kindOf n ≡ 1 → ⊥) → o ≡ looked (bytesIn n) (getD values (getD (needs n) 0 0) (pos 0)) → o ≡ valueAt bits values i n
+  pub table-value : (n : LutNode) (o : Option ℤ) → kindOf n ≡ 2 → o ≡ looked (bytesIn n) (getD values (getD (needs n) 0 0) (pos 0)) → o ≡ valueAt bits values i n
   unfolding kindOf valueAt bytesIn needs
-  table-value (Input name) o h k e = absurd (h refl)
-  table-value (Linear c ts) o h k e = absurd (k refl)
-  table-value (Bootstrap j table) o h k e = e
-
-pub boot-needs : (n : LutNode) → (kindOf n ≡ 0 → ⊥) → (kindOf n ≡ 1 → ⊥) → (isLinear n ≡ false) × (length (needs n) ≡ 1)
-unfolding kindOf isLinear needs
-boot-needs (Input name) h k = absurd (h refl)
-boot-needs (Linear c ts) h k = absurd (k refl)
-boot-needs (Bootstrap j table) h k = (refl, refl)
+  table-value (Input name) o h e = absurd (omega arith)
+  table-value (Linear c ts) o h e = absurd (omega arith)
+  table-value (Bootstrap j table) o h e = e
 
 pub other-turns : (P : ℕ) (n : LutNode) → (kindOf n ≡ 2 → ⊥) → true ≡ turns P n
 unfolding kindOf turns
@@ -222,9 +204,3 @@ unfolding kindOf turns bytesIn
 table-turns P (Input name) h = absurd (omega arith)
 table-turns P (Linear c ts) h = absurd (omega arith)
 table-turns P (Bootstrap j table) h = refl
-
-pub boot-kind : (n : LutNode) → kindOf n ≡ 2 → isLinear n ≡ false
-unfolding kindOf isLinear
-boot-kind (Input name) h = refl
-boot-kind (Linear c ts) h = absurd (omega arith)
-boot-kind (Bootstrap j table) h = refl

@@ -2,7 +2,8 @@
 use mathlib.Core.Path.{_≡_, sym, ap, _∙_}
 use borrow.Author.Needs.{needs}
 use Rattle.rules.specs.Rotation.{rotatable}
-use Rattle.network_run.specs.Value.{other-turns, table-turns, boot-kind}
+use Rattle.lut.specs.Kinds.{boot-kind}
+use Rattle.network_run.specs.Value.{other-turns, table-turns}
 use Rattle.network_run.proofs.nodes.is_rotatable.Statement.{statement}
 use Rattle.network_run.proofs.nodes.is_rotatable.Tie as tie
 

@@ -1,17 +1,18 @@
 -- `network_run::value::node_value` meets its contract.
-use mathlib.Core.Path.{_≡_, sym, ap, ap₂, _∙_}
+use mathlib.Core.Path.{_≡_, sym, ap₂, _∙_}
 use mathlib.Core.Bool.{true≢false}
 use mathlib.Core.Option.{Option}
 use Prim.Native.Nat.{_<_}
 use native.Mathlib.Omega.{arith}
-use borrow.Author.Needs.{needs as asked}
+use borrow.Author.Needs.{needs}
 use lib.IntN.{ℤ, pos}
-use lib.ListN.{length, getD}
+use lib.ListN.{getD}
 use Rattle.laws.specs.Integer.{read-back}
-use Rattle.rules.specs.Store.{needs}
+use Rattle.lut.specs.Kinds.{sum-kind, boot-kind, third-kind}
 use Rattle.lut.specs.Nodes.{kindOf, source-before}
+use Rattle.lut.specs.Reuse.{boot-source}
 use Rattle.lut.specs.View.{nodeOf}
-use Rattle.network_run.specs.Value.{looked, input-value, sum-value, table-value, sum-kind, boot-needs}
+use Rattle.network_run.specs.Value.{looked, input-value, sum-value, table-value}
 use Rattle.network_run.proofs.value.node_value.Statement.{statement}
 use Rattle.network_run.proofs.value.node_value.Tie as tie
 
@@ -19,7 +20,7 @@ kind-of-requires : tie.Need-kind-of-requires
 kind-of-requires c κs = c .before .pre .node
 
 bit-at-requires : tie.Need-bit-at-requires
-bit-at-requires c κs = search asked
+bit-at-requires c κs = search needs
 
 returns : tie.Need-returns
 returns c =
@@ -42,24 +43,22 @@ returns-2 c =
     (record { is = sum-value (s .args .bits .now) (s .args .values .now) (s .args .i) n _ k (c .sum-of .ensures); small = λ e. absurd (true≢false (sym (sum-kind n k) ∙ e)) })
 
 -- what is left is a boot
-not-input : (c : tie.Else2) → kindOf (nodeOf (c .before .before .before .before .args .nodes .now) (c .before .before .before .before .args .i)) ≡ 0 → ⊥
-not-input c e = c .before .if1 .left (c .before .before .kind-of .ensures ∙ e)
-
-not-sum : (c : tie.Else2) → kindOf (nodeOf (c .before .before .before .before .args .nodes .now) (c .before .before .before .before .args .i)) ≡ 1 → ⊥
-not-sum c e = c .if2 .left (c .before .before .kind-of .ensures ∙ e)
+boot : (c : tie.Else2) → kindOf (nodeOf (c .before .before .before .before .args .nodes .now) (c .before .before .before .before .args .i)) ≡ 2
+boot c =
+    let k = c .before .before .kind-of .ensures in
+    third-kind _ (λ e. c .before .if1 .left (k ∙ e)) (λ e. c .if2 .left (k ∙ e))
 
 source-of-requires : tie.Need-source-of-requires
-source-of-requires c κs = let b = boot-needs _ (not-input c) (not-sum c) in (c .before .before .before .before .pre .node, omega (arith, b .1))
+source-of-requires c κs = (c .before .before .before .before .pre .node, boot-source _ (boot c))
 
 table-of-requires : tie.Need-table-of-requires
-table-of-requires c κs = (c .before .before .before .before .before .pre .node, boot-needs _ (not-input (c .before)) (not-sum (c .before)) .0)
+table-of-requires c κs = (c .before .before .before .before .before .pre .node, boot-kind _ (boot (c .before)))
 
 source : (c : tie.After-table-of) → c .before .source-of .result < 672
 source c =
     let s = c .before .before .before .before .before .before in
     let n = nodeOf (s .args .nodes .now) (s .args .i) in
-    let b = boot-needs n (not-input (c .before .before)) (not-sum (c .before .before)) in
-    omega (arith, source-before (s .args .i) n (s .pre .node .fine) 0 (omega (arith, b .1)), c .before .source-of .ensures, s .pre .node .inside)
+    omega (arith, source-before (s .args .i) n (s .pre .node .fine) 0 (boot-source n (boot (c .before .before))), c .before .source-of .ensures, s .pre .node .inside)
 
 mul-look-up : tie.Need-mul-look-up
 mul-look-up c = omega (arith, source c)
@@ -68,7 +67,7 @@ element-copy-out-look-up : tie.Need-element-copy-out-look-up
 element-copy-out-look-up c = source c
 
 look-up-requires : tie.Need-look-up-requires
-look-up-requires c κs = search asked
+look-up-requires c κs = search needs
 
 returns-3 : tie.Need-returns-3
 returns-3 c =
@@ -78,7 +77,7 @@ returns-3 c =
     let g = c .before .before .before .source-of in
     let t = c .before .before .table-of in
     record {
-      is = table-value (s .args .bits .now) (s .args .values .now) (s .args .i) n _ (not-input e) (not-sum e)
+      is = table-value (s .args .bits .now) (s .args .values .now) (s .args .i) n _ (boot e)
           (simp (read-back (getD (s .args .values .now) (g .result) (pos 0)) (c .before .look-up-arg .given)) at (c .look-up .ensures .0)
           ∙ ap₂ {C = Option ℤ} (λ table j. looked table (getD (s .args .values .now) j (pos 0))) (t .ensures) (g .ensures));
       small = λ _. c .look-up .ensures .1;

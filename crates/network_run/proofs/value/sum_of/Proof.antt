@@ -12,10 +12,11 @@ use Rattle.laws.specs.Integer.{read-back, fits-abs}
 use Rattle.rules.specs.Network.{sumFrom}
 use Rattle.rules.specs.Store.{termsOf}
 use Rattle.lut.specs.Forms.{terms-all, terms-need}
+use Rattle.lut.specs.Kinds.{linear-kind}
 use Rattle.lut.specs.Nodes.{constantOf, few-terms, source-before}
 use Rattle.lut.specs.Norm.{term-near}
 use Rattle.lut.specs.View.{term, nodeOf}
-use Rattle.network_run.specs.Value.{sumAt, sum-start, sum-next, sum-end, sum-size, term-is, linear-kind, near-constant}
+use Rattle.network_run.specs.Value.{sumAt, sum-start, sum-next, sum-end, sum-size, term-is, near-constant}
 use Rattle.network_run.proofs.value.sum_of.Statement.{statement}
 use Rattle.network_run.proofs.value.sum_of.Tie as tie
 

@@ -1,0 +1,2 @@
+-- The statistics as they are counted over the node store.
+pub mod Count
