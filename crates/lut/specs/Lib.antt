@@ -10,3 +10,4 @@ pub mod Reuse
 pub mod Prune
 pub mod Forms
 pub mod Norm
+pub mod Ports

@@ -34,7 +34,7 @@ fn find(nodes: &[u8; 25536], count: usize, bytes: &[u8; 38]) -> usize
     i
 }
 
-fn put_record(nodes: &mut [u8; 25536], i: usize, bytes: &[u8; 38])
+pub fn put_record(nodes: &mut [u8; 25536], i: usize, bytes: &[u8; 38])
     requires { ⌜ (length (now nodes) ≡ 25536) × (i < 672) × (length (now bytes) ≡ 38) ⌝ }
     ensures { λ _. ⌜ now (nodes .exit) ≡ putAt (now (nodes .entry)) i (now (bytes .entry)) ⌝ }
 {

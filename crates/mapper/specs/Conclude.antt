@@ -28,11 +28,12 @@ use Rattle.rules.specs.Writing.{networkText}
 use Rattle.theorems.specs.Members.{member-head, member-left, member-right, among-at}
 use Rattle.mapped.specs.PrunedLive.{live-outputs}
 use Rattle.circuit.specs.View.{wireIn, nameAt, outputIn, outputsIn}
+use Rattle.lut.specs.Ports.{signalWire, outputAt, portOutput}
 use Rattle.lut.specs.View.{storeOf, store-length, IsStore}
 use Rattle.writer.specs.declared.Network as W
 use Rattle.writer.specs.Kept.{Numbered, Closed, closed, kept-sourced}
 use Rattle.writer.specs.Live.{Sourced}
-use Rattle.writer.specs.Outputs.{signalWire, outputAt, portOutput, Signalled, Ported, kept-signal}
+use Rattle.writer.specs.Outputs.{Signalled, Ported, kept-signal}
 use Rattle.writer.specs.Put.{Put, Room}
 use Rattle.writer.specs.Whole.{networkOf, kept-network}
 use Rattle.mapper.specs.Live.{Keeps}

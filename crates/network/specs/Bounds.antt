@@ -1,20 +1,29 @@
 -- Bounds and norm of a sum, as the code reckons them.
-use mathlib.Core.Path.{_≡_, refl, _∙_}
-use mathlib.Core.Bool.{Bool, true, false, _&&_}
+use mathlib.Core.Path.{_≡_, refl, sym, _∙_}
+use mathlib.Core.Bool.{Bool, true, false, true≢false}
 use mathlib.Core.List.{List, [], _∷_, map}
 use Prim.Native.Nat.{ℕ, zero, suc, _+_, _*_, _<_, _≤_}
+use native.Mathlib.Nat.{not-suc-le-zero}
+use native.Mathlib.Numerals.{add-one}
 use native.Mathlib.Omega.{arith}
-use lib.Dec.{T}
+use lib.Dec.{T, eqb}
 use lib.IntN.{ℤ, pos, negsuc, natAbs, _+ℤ_}
-use lib.ListN.{getD}
+use lib.ListN.{length, getD, drop, drop-of-length-le}
+use lib.Seq.{drop-cons}
 use lib.Signed.{leZ, ltZ, nonNeg}
 use mir.Syntax.{w64}
 use mir.Val.{SFits, ofZ}
 use Rattle.laws.specs.Integer.{plus, minus, ltZ-true, ltZ-false, true-leZ, false-leZ, abs-bits, abs-add}
-use Rattle.rules.specs.Network.{Term, below0, above0, leastSum, greatestSum}
+use Rattle.rules.specs.Network.{Term, LutNode, Input, Linear, Bootstrap, below0, above0, leastSum, greatestSum, leastOf, greatestOf, isLinear}
+use Rattle.rules.specs.NetworkText.{isBit}
 use Rattle.rules.specs.Scale.{norm}
+use Rattle.rules.specs.Store.{needs, termsOf}
+use Rattle.theorems.specs.Terms.{sources-length}
+use Rattle.lut.specs.Nodes.{kindOf, constantOf, few-terms}
+use Rattle.lut.specs.Sums.{fine-at}
+use Rattle.lut.specs.View.{term, Fine}
 use Rattle.network_text.specs.declared.sum.Lin.{Lin}
-use Rattle.network_text.specs.Terms.{Small, termsAt, terms-next, terms-end}
+use Rattle.network_text.specs.Terms.{termsAt, terms-next, terms-end}
 
 -- What a term adds to the least sum (true) or to the greatest.
 unfoldable pub extremePart : Bool → ℤ → ℤ
@@ -35,11 +44,14 @@ fitOf (pos zero) (negsuc h) = 0
 fitOf (pos (suc a)) high = 0
 fitOf (negsuc a) high = 0
 
-unfoldable pub tableFit : ℤ → List Term → ℕ
-tableFit c ts = fitOf (leastSum c ts) (greatestSum c ts)
+-- The length of the tables that a node's bounds fit.
+unfoldable pub nodeFit : LutNode → ℕ
+nodeFit n = fitOf (leastOf n) (greatestOf n)
 
-unfoldable pub bitBounds : ℤ → List Term → Bool
-bitBounds c ts = leZ (pos 0) (leastSum c ts) && leZ (greatestSum c ts) (pos 1)
+-- The least (true) or the greatest that a node can be.
+unfoldable pub extremeOf : Bool → LutNode → ℤ
+extremeOf true n = leastOf n
+extremeOf false n = greatestOf n
 
 -- ---- What a term adds, by the code's tests.
 
@@ -77,24 +89,78 @@ part-small true (negsuc a) h = h
 part-small false (pos a) h = h
 part-small false (negsuc a) h = omega arith
 
+sum-size : (n : LutNode) → isLinear n ≡ true → length (needs n) ≡ length (termsOf n)
+unfolding needs termsOf isLinear
+sum-size (Input name) e = refl
+sum-size (Linear c ts) e = sources-length ts
+sum-size (Bootstrap i table) e = absurd (true≢false (sym e))
+
+near-constant : (i : ℕ) (n : LutNode) → Fine i n → isLinear n ≡ true → natAbs (constantOf n) ≤ 31
+unfolding Fine constantOf isLinear
+near-constant i (Input name) f e = absurd (true≢false (sym e))
+near-constant i (Linear c ts) f e = f .1
+near-constant i (Bootstrap j table) f e = absurd (true≢false (sym e))
+
+fine-term : (i : ℕ) (n : LutNode) → Fine i n → (k : ℕ) → k < length (termsOf n) → natAbs (getD (termsOf n) k (term (pos 0) 0) .coef) ≤ 31
+unfolding Fine termsOf
+fine-term i (Input name) f k h = absurd (not-suc-le-zero h)
+fine-term i (Linear c ts) f k h = fine-at i ts k (term (pos 0) 0) (f .2) h .0
+fine-term i (Bootstrap j table) f k h = absurd (not-suc-le-zero h)
+
 -- ---- A turn of the loop that adds them.
 
-module _ (low : Bool) (v : Lin) (c : ℤ) (i : ℕ) where
-  pub sum-next : (x : ℤ) → i < v .n → x ≡ extremePart low (getD (v .coefs) i (pos 0)) → extremeSum low c (termsAt v i) ≡ extremeSum low (c +ℤ x) (termsAt v (i + 1))
-  unfolding extremeSum extremePart leastSum greatestSum
-  sum-next x h e = rw (e, terms-next v i h) (by low _ _)
-    where
-      by : (b : Bool) (t : Term) (ts : List Term) → extremeSum b c (t ∷ ts) ≡ extremeSum b (c +ℤ extremePart b (t .coef)) ts
-      by true t ts = refl
-      by false t ts = refl
+-- The terms of a node from index k on.
+unfoldable pub termsLeft : LutNode → ℕ → List Term
+termsLeft n k = drop k (termsOf n)
 
-  pub sum-end : v .n ≤ i → extremeSum low c (termsAt v i) ≡ c
-  unfolding extremeSum leastSum greatestSum
-  sum-end h = rw (terms-end v i h) (by low)
+extreme-cons : (low : Bool) (c : ℤ) (t : Term) (ts : List Term) → extremeSum low c (t ∷ ts) ≡ extremeSum low (c +ℤ extremePart low (t .coef)) ts
+unfolding extremeSum extremePart leastSum greatestSum
+extreme-cons true c t ts = refl
+extreme-cons false c t ts = refl
+
+extreme-nil : (low : Bool) (c : ℤ) → extremeSum low c [] ≡ c
+unfolding extremeSum leastSum greatestSum
+extreme-nil true c = refl
+extreme-nil false c = refl
+
+module _ (low : Bool) (n : LutNode) where
+  sum-start : isLinear n ≡ true → extremeOf low n ≡ extremeSum low (constantOf n) (termsLeft n 0)
+  unfolding extremeOf extremeSum leastOf greatestOf isLinear constantOf termsLeft termsOf
+  sum-start = by low n
     where
-      by : (b : Bool) → extremeSum b c [] ≡ c
-      by true = refl
-      by false = refl
+      by : (b : Bool) (x : LutNode) → isLinear x ≡ true → extremeOf b x ≡ extremeSum b (constantOf x) (termsLeft x 0)
+      by b (Input name) e = absurd (true≢false (sym e))
+      by true (Linear c ts) e = refl
+      by false (Linear c ts) e = refl
+      by b (Bootstrap i table) e = absurd (true≢false (sym e))
+
+  -- c is the sum of the constant and of the extremes of the first k of m terms
+  pub record Summing (m : ℕ) (c : ℤ) (k : ℕ) : Type 0 where
+    pub within : k ≤ m
+    pub size : m ≡ length (termsOf n)
+    pub few : m ≤ 11
+    pub near : natAbs c ≤ 31 + 31 * k
+    pub same : extremeOf low n ≡ extremeSum low c (termsLeft n k)
+
+  pub summing-start : (i : ℕ) {m : ℕ} {c : ℤ} → Fine i n → isLinear n ≡ true → m ≡ length (needs n) → c ≡ constantOf n → Summing m c 0
+  summing-start i f l e d =
+      let q : length (needs n) ≡ length (termsOf n) = sum-size n l in
+      let t = few-terms i n f in
+      let z : natAbs (constantOf n) ≤ 31 = near-constant i n f l in
+      record { within = omega arith; size = e ∙ q; few = omega arith; near = rw d (omega arith); same = sum-start l ∙ rw d }
+
+  module _ {m : ℕ} {c : ℤ} {k : ℕ} (s : Summing m c k) where
+    pub summing-next : (i : ℕ) {x : ℤ} → Fine i n → k < m → x ≡ extremePart low (getD (termsOf n) k (term (pos 0) 0) .coef) → Summing m (c +ℤ x) (k + 1)
+    unfolding termsLeft
+    summing-next i {x} f h e =
+        let l : k < length (termsOf n) = omega (arith, s .size) in
+        let q : natAbs x ≤ 31 = rw e (part-small low _ (fine-term i n f k l)) in
+        let t : extremeSum low c (drop k (termsOf n)) ≡ extremeSum low (c +ℤ x) (drop (k + 1) (termsOf n)) = rw (e, drop-cons (termsOf n) k (term (pos 0) 0) l, add-one k) (extreme-cons low c _ _) in
+        record { within = omega arith; size = s .size; few = s .few; near = omega (arith, abs-add c x, s .near); same = s .same ∙ t }
+
+    pub summing-done : m ≤ k → (c ≡ extremeOf low n) × (natAbs c ≤ 372)
+    unfolding termsLeft
+    summing-done h = (sym (s .same ∙ rw (drop-of-length-le (termsOf n) {i = k} (omega (arith, s .size))) (extreme-nil low c)), omega (arith, s .near, s .within, s .few))
 
 -- ---- The norm's loop.
 
@@ -134,21 +200,43 @@ unfolding plus minus
 next-nonNeg (pos a) h = tt
 next-nonNeg (negsuc a) h = absurd (omega (arith, ltZ-false (negsuc a) (pos 0) h))
 
-module _ (c : ℤ) (ts : List Term) (low high : ℤ) (e : low ≡ extremeSum true c ts) (f : high ≡ extremeSum false c ts) where
-  pub table-fit : (r : ℕ) → r ≡ fitOf low high → r ≡ tableFit c ts
-  unfolding extremeSum tableFit
-  table-fit r h = h ∙ rw (e, f)
+-- ---- A node's fit and whether it is a bit, by the code's tests.
 
-  pub bit-high : ltZ low (pos 0) ≡ false → leZ high (pos 1) ≡ bitBounds c ts
-  unfolding extremeSum bitBounds plus minus
-  bit-high h = rw (← e, ← f, true-leZ (pos 0) low (omega (arith, ltZ-false low (pos 0) h)))
+pub kind-sum : (n : LutNode) → eqb (kindOf n) 1 ≡ isLinear n
+unfolding kindOf isLinear
+kind-sum (Input name) = refl
+kind-sum (Linear c ts) = refl
+kind-sum (Bootstrap i table) = refl
 
-pub bit-low : (c : ℤ) (ts : List Term) (low : ℤ) → low ≡ extremeSum true c ts → ltZ low (pos 0) ≡ true → false ≡ bitBounds c ts
-unfolding extremeSum bitBounds plus minus
-bit-low c ts low e h = rw (← e, false-leZ (pos 0) low (omega (arith, ltZ-true low (pos 0) h)))
+module _ (n : LutNode) where
+  pub other-fit : isLinear n ≡ false → 2 ≡ nodeFit n
+  unfolding nodeFit fitOf leastOf greatestOf isLinear
+  other-fit = by n
+    where
+      by : (x : LutNode) → isLinear x ≡ false → 2 ≡ nodeFit x
+      by (Input name) e = refl
+      by (Linear c ts) e = absurd (true≢false e)
+      by (Bootstrap i table) e = refl
 
-pub turn-size : (low : Bool) (v : Lin) (c x : ℤ) (i : ℕ) → Small v → natAbs c ≤ 31 + 31 * i → x ≡ extremePart low (getD (v .coefs) i (pos 0))
-    → natAbs (c +ℤ x) ≤ 31 + 31 * (i + 1)
-turn-size low v c x i s h e =
-    let k : natAbs x ≤ 31 = rw e (part-small low (getD (v .coefs) i (pos 0)) (s .coefs i)) in
-    omega (arith, abs-add c x)
+  pub other-bit : isLinear n ≡ false → true ≡ isBit n
+  unfolding isBit leastOf greatestOf isLinear
+  other-bit = by n
+    where
+      by : (x : LutNode) → isLinear x ≡ false → true ≡ isBit x
+      by (Input name) e = refl
+      by (Linear c ts) e = absurd (true≢false e)
+      by (Bootstrap i table) e = refl
+
+  module _ (low : ℤ) (e : low ≡ extremeOf true n) where
+    pub bit-low : ltZ low (pos 0) ≡ true → false ≡ isBit n
+    unfolding extremeOf isBit plus minus
+    bit-low h = rw (← e, false-leZ (pos 0) low (omega (arith, ltZ-true low (pos 0) h)))
+
+    module _ (high : ℤ) (f : high ≡ extremeOf false n) where
+      pub sum-fit : (r : ℕ) → r ≡ fitOf low high → r ≡ nodeFit n
+      unfolding extremeOf nodeFit
+      sum-fit r h = h ∙ rw (e, f)
+
+      pub bit-high : ltZ low (pos 0) ≡ false → leZ high (pos 1) ≡ isBit n
+      unfolding extremeOf isBit plus minus
+      bit-high h = rw (← e, ← f, true-leZ (pos 0) low (omega (arith, ltZ-false low (pos 0) h)))

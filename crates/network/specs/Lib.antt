@@ -1,13 +1,9 @@
--- What the code keeps of a network's lines, and how that stands for the definitions of crates/rules.
+-- How a network that was read stands for the definitions of crates/rules, and what the code does on the way.
+pub mod View
 pub mod Bounds
-pub mod Tally
-pub mod Count
 pub mod Table
-pub mod Work
-pub mod Ran
-pub mod Seen
+pub mod Conditions
 pub mod Verdict
-pub mod Stands
+pub mod Put
+pub mod Numbers
 pub mod Step
-pub mod Running
-pub mod Run

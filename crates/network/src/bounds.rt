@@ -1,9 +1,14 @@
 // Bounds and norm of a sum.
 ghost use mathlib.Core.Path.{_≡_};
+ghost use mathlib.Core.Bool.{true};
 ghost use Prim.Native.Nat.{_*_, _≤_};
 ghost use lib.IntN.{natAbs};
+ghost use Rattle.rules.specs.Network.{isLinear};
+ghost use Rattle.rules.specs.NetworkText.{isBit};
+ghost use Rattle.lut.specs.View.{nodeOf, IsNode};
 ghost use Rattle.network_text.specs.Terms.{Small, termsOf};
-ghost use Rattle.network.specs.Bounds.{extremePart, extremeSum, fitOf, coefNorm, tableFit, bitBounds};
+ghost use Rattle.network.specs.Bounds.{extremePart, extremeOf, fitOf, coefNorm, nodeFit};
+use lut::node::{LINEAR, coef_of, constant_of, kind_of, size_of};
 use network_text::Lin;
 
 // What a term adds to the least sum, or to the greatest.
@@ -17,16 +22,24 @@ fn extreme_part(low: bool, coef: i64) -> i64
     }
 }
 
-// The least or the greatest sum.
-fn extreme_sum(low: bool, lin: Lin) -> i64
-    requires { ⌜ Small lin ⌝ }
-    ensures { λ r. ⌜ (r ≡ extremeSum low (lin .constant) (termsOf lin)) × (natAbs r ≤ 372) ⌝ }
+pub fn is_sum(nodes: &[u8; 25536], i: usize) -> bool
+    requires { ⌜ IsNode (now nodes) i ⌝ }
+    ensures { λ r. ⌜ r ≡ isLinear (nodeOf (now (nodes .entry)) i) ⌝ }
 {
-    let mut sum = lin.constant;
-    let mut i = 0;
-    while i < lin.n {
-        sum = sum + extreme_part(low, lin.coefs[i]);
-        i += 1;
+    kind_of(nodes, i) == LINEAR
+}
+
+// The least or the greatest that a sum can be.
+fn extreme_sum(low: bool, nodes: &[u8; 25536], i: usize) -> i64
+    requires { ⌜ IsNode (now nodes) i × (isLinear (nodeOf (now nodes) i) ≡ true) ⌝ }
+    ensures { λ r. ⌜ (r ≡ extremeOf low (nodeOf (now (nodes .entry)) i)) × (natAbs r ≤ 372) ⌝ }
+{
+    let n = size_of(nodes, i);
+    let mut sum = constant_of(nodes, i);
+    let mut k = 0;
+    while k < n {
+        sum = sum + extreme_part(low, coef_of(nodes, i, k));
+        k += 1;
     }
     sum
 }
@@ -66,20 +79,27 @@ fn fit(low: i64, high: i64) -> usize
     (high + 1) as usize
 }
 
-pub fn table_fit(lin: Lin) -> usize
-    requires { ⌜ Small lin ⌝ }
-    ensures { λ r. ⌜ r ≡ tableFit (lin .constant) (termsOf lin) ⌝ }
+// The length of the tables that a node's bounds fit.
+pub fn node_fit(nodes: &[u8; 25536], i: usize) -> usize
+    requires { ⌜ IsNode (now nodes) i ⌝ }
+    ensures { λ r. ⌜ r ≡ nodeFit (nodeOf (now (nodes .entry)) i) ⌝ }
 {
-    fit(extreme_sum(true, lin), extreme_sum(false, lin))
+    if !is_sum(nodes, i) {
+        return 2;
+    }
+    fit(extreme_sum(true, nodes, i), extreme_sum(false, nodes, i))
 }
 
-// The bounds are within 0..1.
-pub fn is_bit(lin: Lin) -> bool
-    requires { ⌜ Small lin ⌝ }
-    ensures { λ r. ⌜ r ≡ bitBounds (lin .constant) (termsOf lin) ⌝ }
+// A node's bounds are within 0..1.
+pub fn is_bit(nodes: &[u8; 25536], i: usize) -> bool
+    requires { ⌜ IsNode (now nodes) i ⌝ }
+    ensures { λ r. ⌜ r ≡ isBit (nodeOf (now (nodes .entry)) i) ⌝ }
 {
-    if extreme_sum(true, lin) < 0 {
+    if !is_sum(nodes, i) {
+        return true;
+    }
+    if extreme_sum(true, nodes, i) < 0 {
         return false;
     }
-    extreme_sum(false, lin) <= 1
+    extreme_sum(false, nodes, i) <= 1
 }

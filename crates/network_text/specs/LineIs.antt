@@ -1,5 +1,5 @@
 -- The line that each reading function's answer is, by the tests of the code.
-use mathlib.Core.Path.{_≡_, refl, sym, ap, ap₂, subst, _∙_}
+use mathlib.Core.Path.{_≡_, refl, sym, ap, ap₂, _∙_}
 use mathlib.Core.Bool.{Bool, true, false, _&&_}
 use mathlib.Core.List.{List}
 use mathlib.Core.Option.{Option, none, some}
@@ -19,9 +19,8 @@ use Rattle.rules.specs.Network.{LutNode, Input, Linear, Bootstrap}
 use Rattle.rules.specs.NetworkText.{Net, NetworkLine, NetLine, NodeLine, OutLine, netLine, bootLine, networkLine}
 use Rattle.text.specs.Cap.{cap-table}
 use Rattle.text.specs.Capped.{capped, exact-some}
-use Rattle.text.specs.Forms.{Named, nameFrom, nameTo, capOutput}
+use Rattle.text.specs.Forms.{Named, capOutput}
 use Rattle.text.specs.Name.{bits-length}
-use Rattle.text.specs.declared.NameRead.{NameRead}
 use Rattle.network_text.specs.LineRead.{capNet, capBoot, BitsAt, plainRead, ended, line-net, line-in, line-lin, line-boot, line-out, line-none}
 use Rattle.network_text.specs.Lines.{goodForm, goodLine, lineIn, lineOf, LineRead}
 use Rattle.network_text.specs.Sum.{SumRead, sumOf}
@@ -62,6 +61,7 @@ pub record OutIs (l : List ℕ) (a e : ℕ) (w : Wire) (end : ℕ) : Type 0 wher
   pub no-lin : exactly (bytes "(lin ") l ≡ none
   pub no-boot : bootLine l ≡ none
   pub piece : capped capOutput (outLine l) ≡ some (record { value = record { name = take (e - a) (drop a l); wire = w }; rest = drop end l })
+  pub named : Named (length l) a e
   pub inside : end ≤ length l
 
 -- ---- The end of the line.
@@ -221,14 +221,10 @@ module _ {l : List ℕ} {a e : ℕ} {w : Wire} {end : ℕ} (h : OutIs l a e w en
         same = ap (λ o. some (OutLine o)) (x .2)
             ∙ sym (ap goodLine (line-out l (h .no-net) (h .no-in) (h .no-lin) (h .no-boot) (x .1) ∙ whole-line l (OutLine (x .0)) end (h .inside) k));
         small = small-none (pos 0) (omega arith);
-        within = tt;
+        within = h .named;
       })
 
 -- ---- None of them.
 
 pub none-is : {l : List ℕ} {r : Read} → netLine l ≡ none → inLine l ≡ none → exactly (bytes "(lin ") l ≡ none → bootLine l ≡ none → outLine l ≡ none → r ≡ plainRead Bad → LineRead l r
 none-is {l} a b c d e q = bad-line l q (no-line l (line-none l a b c d e) refl)
-
--- Where the name stands, once the answer is taken apart.
-pub name-of : {n a e z : ℕ} {r : NameRead} → Named n (nameFrom r) (nameTo r) → r ≡ NameRead.At a e z → Named n a e
-name-of {n} h k = subst (λ x. Named n (nameFrom x) (nameTo x)) k h

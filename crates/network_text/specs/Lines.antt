@@ -66,7 +66,7 @@ Within l (NetRead p m n) = Unit {0}
 Within l (In a e) = Named (length l) a e
 Within l Sum = Unit {0}
 Within l (Boot i a e) = TablePlace l a e
-Within l (Out a e w) = Unit {0}
+Within l (Out a e w) = Named (length l) a e
 
 -- The good line that the bytes are.
 pub record LineRead (l : List ℕ) (r : Read) : Type 0 where

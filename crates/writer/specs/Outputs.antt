@@ -18,19 +18,14 @@ use Rattle.rules.specs.Circuit.{Output}
 use Rattle.rules.specs.Network.{member}
 use Rattle.rules.specs.Store.{renumberedWire, renumberedOutput}
 use Rattle.rules.specs.Writing.{outputText, outputsText}
+use Rattle.lut.specs.Ports.{signalWire, outputAt, portOutput}
 use Rattle.writer.specs.Lines.{outText}
 use Rattle.writer.specs.Put.{Put, Room, Left, left-step, left-room, left-none}
 use Rattle.writer.specs.Live.{newNumber}
 use Rattle.writer.specs.Kept.{Numbered, kept-number, new-kept}
 
-unfoldable pub signalWire : ℕ → Wire
-signalWire n = if ltb n 1000 then Node n else Const (n - 1000)
-
 unfoldable pub newWire : List ℕ → ℕ → Wire
 newWire live n = if ltb n 1000 then Node (newNumber live n) else Const (n - 1000)
-
-unfoldable pub outputAt : List ℕ → ℕ → ℕ → Wire → Output
-outputAt s a e wire = record { name = take (e - a) (drop a s); wire = wire }
 
 -- the output's line
 unfoldable pub newOutput : List ℕ → List ℕ → ℕ → ℕ → ℕ → List ℕ
@@ -72,17 +67,13 @@ module _ (kept live : List ℕ) (count : ℕ) (m : Numbered kept live count) (n 
         node = λ g. let p = k g in let e = kept-number kept live count m n (p .0) (p .1) in (omega (arith, p .0), omega arith);
       }
 
--- ---- Outputs kept as numbers: three from 64 on for each, its name's start and end and its signal.
+-- ---- Outputs among the ports, with their new numbers.
 
 unfoldable pub liveOutput : List ℕ → List ℕ → List ℕ → ℕ → Output
 liveOutput live s ps i = outputAt s (getD ps (64 + 3 * i) 0) (getD ps (64 + 3 * i + 1) 0) (newWire live (getD ps (64 + 3 * i + 2) 0))
 
 unfoldable pub liveOutputs : List ℕ → List ℕ → List ℕ → ℕ → List Output
 liveOutputs live s ps n = tabulate n (liveOutput live s ps)
-
--- before pruning
-unfoldable pub portOutput : List ℕ → List ℕ → ℕ → Output
-portOutput s ps i = outputAt s (getD ps (64 + 3 * i) 0) (getD ps (64 + 3 * i + 1) 0) (signalWire (getD ps (64 + 3 * i + 2) 0))
 
 -- what the writer asks of them: names within the text of k bytes, signals that are live
 pub record Ported (live ps : List ℕ) (k n : ℕ) : Type 0 where

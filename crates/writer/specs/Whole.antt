@@ -7,6 +7,7 @@ use lib.ListN.{getD}
 use Rattle.laws.specs.Tabulate.{tabulate}
 use Rattle.rules.specs.Circuit.{Output}
 use Rattle.rules.specs.Store.{keptFrom, renumberedOutput}
+use Rattle.lut.specs.Ports.{portOutput}
 use Rattle.lut.specs.View.{storeOf, IsStore}
 use Rattle.rules.specs.Network as R
 use Rattle.rules.specs.Writing.{nodesText, outputsText, networkText}
@@ -14,7 +15,7 @@ use Rattle.writer.specs.declared.Network.{Network}
 use Rattle.writer.specs.Lines.{netText}
 use Rattle.writer.specs.Live.{liveNodes}
 use Rattle.writer.specs.Kept.{Numbered, Closed, kept-nodes}
-use Rattle.writer.specs.Outputs.{liveOutputs, portOutput, kept-outputs}
+use Rattle.writer.specs.Outputs.{liveOutputs, kept-outputs}
 
 unfoldable pub networkOf : Network → List ℕ → List ℕ → List ℕ → List ℕ → R.Network
 networkOf n s ps nodes live =

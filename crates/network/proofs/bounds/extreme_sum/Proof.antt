@@ -3,71 +3,68 @@ use mir.Val.{SFits, toZ}
 use lib.ListN.{getD}
 use lib.IntN.{pos, natAbs, _+ℤ_}
 use mir.Facts.{toZ-ofZ}
-use mathlib.Core.Path.{_≡_, sym, _∙_}
-use Prim.Native.Nat.{_+_, _*_, _-_, _≤_}
+use mathlib.Core.Path.{_≡_, ap, _∙_}
+use Prim.Native.Nat.{_+_, _*_, _-_, _<_}
 use borrow.Author.Needs.{needs}
 use native.Mathlib.Omega.{arith}
 use mir.Syntax.{w64}
-use Rattle.network_text.specs.Terms.{termsOf, termsAt}
-use Rattle.network.specs.Bounds.{extremeSum, extremePart, sum-next, sum-end, turn-size}
+use Rattle.rules.specs.Store.{termsOf}
+use Rattle.lut.specs.View.{nodeOf, term}
+use Rattle.network.specs.Bounds.{extremePart, Summing, summing-start, summing-next, summing-done}
 use Rattle.network.proofs.bounds.extreme_sum.Statement.{statement}
 use Rattle.network.proofs.bounds.extreme_sum.Tie as tie
 
 abbrev Inv-loop : tie.InvT-loop
-Inv-loop low lin sum₀ i₀ sum i = (i ≤ lin .n) × (natAbs (toZ w64 sum) ≤ 31 + 31 * i) × (extremeSum low (lin .constant) (termsOf lin) ≡ extremeSum low (toZ w64 sum) (termsAt lin i))
+Inv-loop low nodes i n sum₀ k₀ sum k = Summing low (nodeOf nodes i) n (toZ w64 sum) k
 
 abbrev μ-loop : tie.MeasureT-loop
-μ-loop low lin sum₀ i₀ sum i = lin .n - i
+μ-loop low nodes i n sum₀ k₀ sum k = n - k
 
-part : (c : tie.After-extreme-part Inv-loop μ-loop) → c .extreme-part .result ≡ extremePart (c .before .before .before .before .before .args .low) (getD (c .before .before .before .before .before .args .t2 .coefs) (c .before .before .before .loop .i) (pos 0))
-part c = simp (read-back (getD (c .before .before .before .before .before .args .t2 .coefs) (c .before .before .before .loop .i) (pos 0)) (c .before .extreme-part-arg .given)) at (c .extreme-part .ensures)
+part : (c : tie.After-extreme-part Inv-loop μ-loop)
+    → c .extreme-part .result
+    ≡ extremePart (c .before .before .before .before .before .before .args .low) (getD (termsOf (nodeOf (c .before .before .before .before .before .before .args .nodes .now) (c .before .before .before .before .before .before .args .i))) (c .before .before .before .loop .k) (term (pos 0) 0) .coef)
+part c =
+    let e : c .extreme-part .result ≡ extremePart (c .before .before .before .before .before .before .args .low) (c .before .coef-of .result) = simp (read-back (c .before .coef-of .result) (c .before .coef-of .ok)) at (c .extreme-part .ensures) in
+    e ∙ ap (extremePart (c .before .before .before .before .before .before .args .low)) (c .before .coef-of .ensures)
 
-size : (c : tie.After-extreme-part Inv-loop μ-loop) → natAbs (toZ w64 (c .before .before .before .loop .sum) +ℤ c .extreme-part .result) ≤ 31 + 31 * (c .before .before .before .loop .i + 1)
-size c = turn-size _ _ (toZ w64 (c .before .before .before .loop .sum)) _ _ (c .before .before .before .before .before .pre) (c .before .before .before .loop .inv .1) (part c)
+next : (c : tie.After-extreme-part Inv-loop μ-loop)
+    → Summing (c .before .before .before .before .before .before .args .low) (nodeOf (c .before .before .before .before .before .before .args .nodes .now) (c .before .before .before .before .before .before .args .i)) (c .before .before .before .before .before .size-of .result) (toZ w64 (c .before .before .before .loop .sum) +ℤ c .extreme-part .result) (c .before .before .before .loop .k + 1)
+next c = summing-next _ _ (c .before .before .before .loop .inv) _ (c .before .before .before .before .before .before .pre .0 .fine) (c .before .before .loop-test .taken) (part c)
 
 fits : (c : tie.After-extreme-part Inv-loop μ-loop) → SFits w64 (toZ w64 (c .before .before .before .loop .sum) +ℤ c .extreme-part .result)
-fits c = fits-abs _ (omega (arith, size c, c .before .before .before .before .before .pre .few))
+fits c = let s = next c in fits-abs _ (omega (arith, s .near, s .within, s .few))
 
--- src/bounds.rt:28:5
+size-of-requires : tie.Need-size-of-requires Inv-loop μ-loop
+size-of-requires c κs = search needs
+
+constant-of-requires : tie.Need-constant-of-requires Inv-loop μ-loop
+constant-of-requires c κs = search needs
+
 loop-holds : tie.Need-loop-holds Inv-loop μ-loop
-unfolding termsOf
-loop-holds c = search needs
+loop-holds c =
+    let p = c .before .before .pre in
+    simp (read-back (c .constant-of .result) (c .constant-of .ok)) (summing-start _ _ _ (p .0 .fine) (p .1) (c .before .size-of .ensures) (c .constant-of .ensures))
 
--- src/bounds.rt:29:39
-mul-extreme-part : tie.Need-mul-extreme-part Inv-loop μ-loop
-mul-extreme-part c = search needs
+coef-of-requires : tie.Need-coef-of-requires Inv-loop μ-loop
+coef-of-requires c κs = (c .before .before .before .before .pre .0, omega (arith, c .loop-test .taken, c .before .loop .inv .size))
 
--- src/bounds.rt:29:39
-element-copy-out-extreme-part : tie.Need-element-copy-out-extreme-part Inv-loop μ-loop
-element-copy-out-extreme-part c = search needs
-
--- src/bounds.rt:29:21
 extreme-part-requires : tie.Need-extreme-part-requires Inv-loop μ-loop
 extreme-part-requires c κs = search needs
 
--- src/bounds.rt:29:15
 add-sum : tie.Need-add-sum Inv-loop μ-loop
 add-sum c = simp (read-back (c .extreme-part .result) (c .extreme-part .ok)) (fits c)
 
--- src/bounds.rt:30:9
-add-i : tie.Need-add-i Inv-loop μ-loop
-add-i c = search needs
+add-k : tie.Need-add-k Inv-loop μ-loop
+add-k c = search needs
 
--- src/bounds.rt:28:5
 loop-less : tie.Need-loop-less Inv-loop μ-loop
 loop-less c = search needs
 
--- src/bounds.rt:28:5
 loop-again : tie.Need-loop-again Inv-loop μ-loop
-loop-again c =
-    let v = c .before .before .before .before .before .args .t2 in
-    let l = c .before .before .before .loop in
-    simp (read-back (c .extreme-part .result) (c .extreme-part .ok), toZ-ofZ (fits c))
-    (search needs, size c, l .inv .2 ∙ sum-next _ v (toZ w64 (l .sum)) (l .i) _ (search needs) (part c))
+loop-again c = simp (read-back (c .extreme-part .result) (c .extreme-part .ok), toZ-ofZ (fits c)) (next c)
 
--- src/bounds.rt:22:1
 returns : tie.Need-returns Inv-loop μ-loop
-returns c = (sym (c .before .loop .inv .2 ∙ sum-end _ _ _ _ (search needs)), omega (arith, c .before .loop .inv .1, c .before .before .before .pre .few))
+returns c = summing-done _ _ (c .before .loop .inv) (c .loop-test .left)
 
 pub extreme-sum-spec : {M : Type 1} → statement M
 extreme-sum-spec =
@@ -75,12 +72,13 @@ extreme-sum-spec =
     (tie.spec
     Inv-loop
     μ-loop
+    size-of-requires
+    constant-of-requires
     loop-holds
-    mul-extreme-part
-    element-copy-out-extreme-part
+    coef-of-requires
     extreme-part-requires
     add-sum
-    add-i
+    add-k
     loop-less
     loop-again
     returns)

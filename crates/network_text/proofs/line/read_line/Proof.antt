@@ -1,8 +1,8 @@
 use Rattle.text.specs.Reads.{passed, endOf, found, ends}
-use Rattle.text.specs.Forms.{capOutput, nameTaken, nameEnd, outTaken, outEnd}
+use Rattle.text.specs.Forms.{capOutput, nameTaken, nameEnd, nameFrom, nameTo, outTaken, outEnd, outFrom, outTo, named-at}
 use Rattle.text.specs.Capped.{exact-none}
 use mathlib.Core.Path.{subst}
-use Rattle.network_text.specs.LineIs.{none-is, name-of}
+use Rattle.network_text.specs.LineIs.{none-is}
 use Rattle.network_text.specs.LineRead.{ReadsNet, capNet, netTaken, netEnd, capBoot, bootTaken, bootEnd, BootBits}
 use borrow.Author.Needs.{needs}
 use Rattle.network_text.proofs.line.read_line.Statement.{statement}
@@ -49,7 +49,7 @@ in-line-requires c κs =
     record {
       no-net = exact-none capNet _ (found (netTaken _) (u1 .before .before .read-net .ensures) (u1 .enum-told .given .1));
       piece = found (nameTaken _) (r .reads) g;
-      named = name-of (r .named) g;
+      named = named-at nameFrom nameTo (r .named) g;
       inside = ends nameEnd (r .reads) g;
     }
 
@@ -146,6 +146,7 @@ out-line-requires c κs =
       no-lin = found (passed _) (u3 .before .before .read-word .ensures) (u3 .enum-told3 .given .1);
       no-boot = exact-none capBoot _ (found (bootTaken _) (u4 .before .before .read-boot .ensures .reads) (u4 .enum-told4 .given .1));
       piece = found (outTaken _) (r .reads) g;
+      named = named-at outFrom outTo (r .named) g;
       inside = ends outEnd (r .reads) g;
     }
 

@@ -1,0 +1,189 @@
+// A line with no fault put behind those before it.
+ghost use mathlib.Core.Path.{_≡_};
+ghost use Prim.Native.Nat.{_+_, _-_, _<_, _≤_};
+ghost use lib.ListN.{length, take, drop};
+ghost use Rattle.rules.specs.Form.{bitsFrom};
+ghost use Rattle.rules.specs.Network.{Input, Linear, Bootstrap};
+ghost use Rattle.text.specs.Forms.{Named};
+ghost use Rattle.text.specs.Line.{LineEnd};
+ghost use Rattle.theorems.specs.LineBits.{WireBit};
+ghost use Rattle.lut.specs.View.{FineTerms, termsIn, IsStore};
+ghost use Rattle.network_text.specs.Lines.{TablePlace, Within};
+ghost use Rattle.network_text.specs.Terms.{Small, termsOf};
+ghost use Rattle.network.specs.View.{Holds};
+ghost use Rattle.network.specs.Put.{Adds, sumTerms, signalOf, withPort, withNode, withInput, withOutput, Ready, Follows};
+ghost use Rattle.network.specs.Step.{Stepped};
+use crate::Header;
+use network_text::Lin;
+use network_text::Line;
+use network_text::Read;
+use rules::Limit;
+use rules::Wire;
+
+// One node more.
+fn with_node(h: Header) -> Header
+    requires { ⌜ h .count < 672 ⌝ }
+    ensures { λ r. ⌜ r ≡ withNode h ⌝ }
+{
+    let mut r = h;
+    r.count = h.count + 1;
+    r
+}
+
+// One input more.
+fn with_input(h: Header) -> Header
+    requires { ⌜ (h .count < 672) × (h .inputs ≤ 32) ⌝ }
+    ensures { λ r. ⌜ r ≡ withInput h ⌝ }
+{
+    let mut r = h;
+    r.count = h.count + 1;
+    r.inputs = h.inputs + 1;
+    r
+}
+
+// One output more.
+fn with_output(h: Header) -> Header
+    requires { ⌜ h .outputs < 32 ⌝ }
+    ensures { λ r. ⌜ r ≡ withOutput h ⌝ }
+{
+    let mut r = h;
+    r.outputs = h.outputs + 1;
+    r
+}
+
+fn terms_of(lin: Lin) -> lut::Terms
+    requires { ⌜ Small lin ⌝ }
+    ensures { λ r. ⌜ r ≡ sumTerms lin ⌝ }
+{
+    let coefs = lin.coefs;
+    let sources = lin.sources;
+    lut::Terms {
+        n: lin.n,
+        constant: lin.constant,
+        coefs,
+        sources,
+    }
+}
+
+fn put_sum(nodes: &mut [u8; 25536], count: usize, lin: Lin)
+    requires { ⌜ IsStore (now nodes) count × (count < 672) × Small lin × FineTerms count (termsOf lin) ⌝ }
+    ensures { λ _. ⌜ Adds (Linear (lin .constant) (termsOf lin)) (now (nodes .entry)) count (now (nodes .exit)) ⌝ }
+{
+    let bytes = lut::record::sum(terms_of(lin));
+    lut::store::put_record(nodes, count, &bytes);
+}
+
+fn put_boot(nodes: &mut [u8; 25536], count: usize, source: usize, l: &[u8], a: usize, e: usize)
+    requires { ⌜ IsStore (now nodes) count × (count < 672) × (source < count) × TablePlace (now l) a e ⌝ }
+    ensures { λ _. ⌜ Adds (Bootstrap source (bitsFrom (take (e - a) (drop a (now (l .entry)))))) (now (nodes .entry)) count (now (nodes .exit)) ⌝ }
+{
+    let table = crate::table::table_of(l, a, e);
+    let t = &table[..];
+    let bytes = lut::record::boot(source, &t[0..e - a]);
+    lut::store::put_record(nodes, count, &bytes);
+}
+
+fn put_in(nodes: &mut [u8; 25536], count: usize, l: &[u8], a: usize, e: usize)
+    requires { ⌜ IsStore (now nodes) count × (count < 672) × Named (length (now l)) a e ⌝ }
+    ensures { λ _. ⌜ Adds (Input (take (e - a) (drop a (now (l .entry))))) (now (nodes .entry)) count (now (nodes .exit)) ⌝ }
+{
+    lut::store::put_input(nodes, count, &l[a..e]);
+}
+
+fn wide(b: u8) -> usize
+    ensures { λ r. ⌜ (r ≡ b) × (r < 256) ⌝ }
+{
+    b as usize
+}
+
+// A node's number, or 1000 and 1001 for the constants.
+fn signal_of(w: Wire) -> usize
+    ensures { λ r. ⌜ r ≡ signalOf w ⌝ }
+{
+    match w {
+        Wire::Const(b) => 1000 + wide(b),
+        Wire::Node(id) => id,
+    }
+}
+
+// Output i: its name from a to e, and its signal.
+fn put_port(ports: &mut [usize; 160], i: usize, a: usize, e: usize, signal: usize)
+    requires { ⌜ (length (now ports) ≡ 160) × (i < 32) ⌝ }
+    ensures { λ _. ⌜ now (ports .exit) ≡ withPort (now (ports .entry)) i a e signal ⌝ }
+{
+    ports[64 + 3 * i] = a;
+    ports[64 + 3 * i + 1] = e;
+    ports[64 + 3 * i + 2] = signal;
+}
+
+// The line l, which stands from `at` on in its text.
+fn put_line(
+    h: Header,
+    at: usize,
+    l: &[u8],
+    r: Read,
+    nodes: &mut [u8; 25536],
+    ports: &mut [usize; 160],
+) -> Header
+    requires { ⌜ Ready h at (now l) (r .line) (r .lin) (now nodes) (now ports) ⌝ }
+    ensures { λ s. ⌜ Follows h at (now (l .entry)) (r .line) (r .lin) (now (nodes .entry)) (now (ports .entry)) s (now (nodes .exit)) (now (ports .exit)) ⌝ }
+{
+    let line = r.line;
+    let lin = r.lin;
+    match line {
+        Line::Bad => h,
+        Line::Net(p, m, norm) => Header {
+            p,
+            m,
+            norm,
+            count: h.count,
+            inputs: h.inputs,
+            outputs: h.outputs,
+        },
+        Line::In(a, e) => {
+            put_in(nodes, h.count, l, a, e);
+            with_input(h)
+        }
+        Line::Lin => {
+            put_sum(nodes, h.count, lin);
+            with_node(h)
+        }
+        Line::Boot(source, a, e) => {
+            put_boot(nodes, h.count, source, l, a, e);
+            with_node(h)
+        }
+        Line::Out(a, e, w) => {
+            put_port(ports, h.outputs, at + a, at + e, signal_of(w));
+            with_output(h)
+        }
+    }
+}
+
+// The lines so far with one more, or the number that it is refused with.
+pub struct Step {
+    pub number: usize,
+    pub header: Header,
+}
+
+// The line from `at` to `end`.
+pub fn take_line(
+    judge: bool,
+    h: Header,
+    text: &[u8],
+    at: usize,
+    end: usize,
+    nodes: &mut [u8; 25536],
+    ports: &mut [usize; 160],
+) -> Step
+    requires { ⌜ Holds (now text) (now nodes) (now ports) h × LineEnd (now text) at end ⌝ }
+    ensures { λ r. ⌜ Stepped judge (now (text .entry)) at end h (now (nodes .entry)) (now (ports .entry)) r (now (nodes .exit)) (now (ports .exit)) ⌝ }
+{
+    let l = &text[at..end];
+    let r = network_text::read_line(l);
+    let number = crate::judge::line_number(judge, h, nodes, l, r);
+    if number != 0 {
+        return Step { number, header: h };
+    }
+    let header = put_line(h, at, l, r, nodes, ports);
+    Step { number: 0, header }
+}
