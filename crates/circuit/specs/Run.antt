@@ -1,14 +1,14 @@
 -- The run, as the code has it: the gates in turn, and the outputs.
 use mathlib.Core.Path.{_≡_, refl, sym, ap, ap₂, _∙_}
-use mathlib.Core.Bool.{Bool, true, false}
+use mathlib.Core.Bool.{true}
 use mathlib.Core.List.{List, [], _∷_, _++_, map}
 use Prim.Native.Nat.{ℕ, suc, _+_, _*_, _<_, _≤_}
 use native.Mathlib.Numerals.{add-one}
 use native.Mathlib.Omega.{arith}
-use borrow.Author.Tests.{le-leb, lt-leb, eq-eqb, ne-eqb}
+use borrow.Author.Tests.{le-leb}
 use lib.Dec.{eqb, eqb→eq}
-use lib.ListN.{length, getD, take, drop, set, replicate, length-replicate, length-append, length-take, drop-of-length-le}
-use lib.Seq.{getD-take, take-all, take-suc, drop-cons}
+use lib.ListN.{length, getD, take, set, replicate, length-replicate, length-append, length-take}
+use lib.Seq.{getD-take, take-all, take-suc}
 use Rattle.laws.specs.Front.{front, front-step, Filling, filling-step}
 use Rattle.laws.specs.Tabulate.{tabulate, tabulate-length, tabulate-at, map-tabulate}
 use Rattle.laws.specs.Over.{over, front-over}

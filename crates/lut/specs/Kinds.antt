@@ -1,6 +1,6 @@
 -- A node's kind, by the code's tests.
-use mathlib.Core.Path.{_≡_, refl, sym}
-use mathlib.Core.Bool.{true, false, true≢false}
+use mathlib.Core.Path.{_≡_, refl}
+use mathlib.Core.Bool.{true, false}
 use native.Mathlib.Omega.{arith}
 use Rattle.rules.specs.Network.{LutNode, Input, Linear, Bootstrap, isLinear}
 use Rattle.lut.specs.Nodes.{kindOf}
@@ -10,12 +10,6 @@ unfolding kindOf isLinear
 sum-kind (Input name) h = absurd (omega arith)
 sum-kind (Linear c ts) h = refl
 sum-kind (Bootstrap j table) h = absurd (omega arith)
-
-pub linear-kind : (n : LutNode) → isLinear n ≡ true → kindOf n ≡ 1
-unfolding kindOf isLinear
-linear-kind (Input name) h = absurd (true≢false (sym h))
-linear-kind (Linear c ts) h = refl
-linear-kind (Bootstrap j table) h = absurd (true≢false (sym h))
 
 pub boot-kind : (n : LutNode) → kindOf n ≡ 2 → isLinear n ≡ false
 unfolding kindOf isLinear

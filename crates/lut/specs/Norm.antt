@@ -11,8 +11,7 @@ use Rattle.rules.specs.Network.{Term, LutNode, Input, Linear, Bootstrap, nodeNo
 use Rattle.rules.specs.Scale.{norm}
 use Rattle.rules.specs.Store.{termsOf}
 use Rattle.lut.specs.Nodes.{kindOf}
-use Rattle.lut.specs.Sums.{fine-at}
-use Rattle.lut.specs.View.{term, Fine}
+use Rattle.lut.specs.View.{term}
 use Rattle.scale.specs.Limits.{Within}
 
 unfoldable pub squareOf : Term → ℕ
@@ -49,12 +48,6 @@ norm-sum (Bootstrap i table) h = absurd (omega arith)
 
 pub norm-done : (n : LutNode) (k sum : ℕ) → kindOf n ≡ 1 → k ≤ 0 → sum ≡ squaresFrom (termsOf n) k → sum ≡ nodeNorm n
 norm-done n k sum h z e = let q : k ≡ 0 = omega arith in e ∙ ap (squaresFrom (termsOf n)) q ∙ norm-sum n h
-
-pub term-near : (i : ℕ) (n : LutNode) (k : ℕ) → Fine i n → k < length (termsOf n) → natAbs (getD (termsOf n) k (term (pos 0) 0) .coef) ≤ 31
-unfolding Fine termsOf
-term-near i (Input name) k f h = absurd (omega arith)
-term-near i (Linear c ts) k f h = fine-at i ts k (term (pos 0) 0) (f .2) h .0
-term-near i (Bootstrap j table) k f h = absurd (omega arith)
 
 pub one-within : (x y : ℤ) → x ≡ y → natAbs y ≤ 31 → Within 1984 (x ∷ [])
 one-within x y e h zero = let q = ap natAbs e in omega arith

@@ -2,17 +2,17 @@
 use mathlib.Core.Path.{_≡_, refl, sym, ap, ap₂, subst, _∙_}
 use mathlib.Core.Bool.{Bool, true, false, _||_, not}
 use mathlib.Core.List.{List, [], _∷_}
-use mathlib.Core.Option.{Option, none, some, Option·map}
+use mathlib.Core.Option.{Option·map}
 use Prim.Native.Nat.{ℕ, zero, suc, _+_, _*_, _<_, _≤_}
 use native.Mathlib.Nat.{not-suc-le-zero, le-of-suc-le-suc}
 use native.Mathlib.Omega.{arith}
 use borrow.Author.Tests.{lt-ltb, le-ltb, leb-false, not-false}
 use lib.Dec.{leb}
 use lib.IntN.{ℤ, pos}
-use lib.ListN.{length, getD, take}
+use lib.ListN.{length, getD}
 use Rattle.laws.specs.Over.{over}
 use Rattle.laws.specs.Tabulate.{tabulate-length}
-use Rattle.laws.specs.Test.{if_then_else_, neither-left, neither-right}
+use Rattle.laws.specs.Test.{neither-left, neither-right}
 use Rattle.rules.specs.Form as F
 use Rattle.rules.specs.Network.{Term, LutNode, Input, Linear, Bootstrap, isInput, isLinear, count, nodeValues, outputValues, networkRun}
 use Rattle.rules.specs.NetworkText.{nodeAt, sources, unknown, anyBadSource, readNetwork}

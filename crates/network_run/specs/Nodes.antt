@@ -4,22 +4,21 @@ use mathlib.Core.Bool.{Bool, true, false, _&&_, true≢false}
 use mathlib.Core.List.{List, [], _∷_, _++_}
 use mathlib.Core.Logic.{⊎-elim}
 use mathlib.Core.Option.{Option, none, some}
-use Prim.Native.Nat.{ℕ, zero, suc, _+_, _*_, _<_, _≤_}
+use Prim.Native.Nat.{ℕ, suc, _+_, _<_, _≤_}
 use native.Mathlib.Numerals.{add-one}
 use native.Mathlib.Omega.{arith}
 use lib.IntN.{ℤ, pos, natAbs}
 use lib.ListN.{length, getD, set, take, drop, length-set, drop-of-length-le}
 use lib.Seq.{drop-cons, take-suc-set, getD-set-same, getD-set-other}
 use Rattle.laws.specs.Select.{all, all-at}
-use Rattle.laws.specs.Test.{if_then_else_, eq-or-ne, lt-or-le}
+use Rattle.laws.specs.Test.{eq-or-ne}
 use Rattle.rules.specs.Network.{LutNode, Input, isLinear, nodeValue, nodeValues, withValue}
 use Rattle.rules.specs.NetworkText.{nodeAt}
 use Rattle.rules.specs.Store.{termsOf}
 use Rattle.lut.specs.Forms.{terms-need}
 use Rattle.lut.specs.Nodes.{source-before}
 use Rattle.lut.specs.View.{nodeOf, storeOf, term, IsStore, is-node, at-store, store-length}
-use Rattle.network_run.specs.Value.{SmallValue, turns, valueAt, value-is, value-none, Before, Valued}
-use Rattle.network_run.specs.declared.value.Value.{Value}
+use Rattle.network_run.specs.Value.{turns, valueAt, value-is, value-none, Before}
 
 -- No `lin` on a `lin`.
 pub record Flat (ns : List LutNode) : Type 0 where

@@ -168,12 +168,6 @@ sum-size c x k h l = omega (arith, abs-add c x)
 
 -- ---- laws: each kind of node
 
-pub near-constant : (i : ℕ) (n : LutNode) → Fine i n → natAbs (constantOf n) ≤ 31
-unfolding Fine constantOf
-near-constant i (Input name) f = omega arith
-near-constant i (Linear c ts) f = f .1
-near-constant i (Bootstrap j table) f = omega arith
-
 module _ (bits : List ℕ) (values : List ℤ) (i : ℕ) where
   pub input-value : (n : LutNode) (x : ℤ) → kindOf n ≡ 0 → x ≡ pos (getD bits i 0) → some x ≡ valueAt bits values i n
   unfolding kindOf valueAt

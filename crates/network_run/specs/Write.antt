@@ -1,6 +1,6 @@
 -- The outputs' values, by their signals.
-use mathlib.Core.Path.{_≡_, refl, sym, ap, _∙_}
-use mathlib.Core.List.{List, map}
+use mathlib.Core.Path.{_≡_, sym, _∙_}
+use mathlib.Core.List.{List}
 use mathlib.Core.Logic.{⊎-elim}
 use Prim.Native.Nat.{ℕ, _+_, _*_, _-_, _<_, _≤_}
 use native.Mathlib.Omega.{arith}
@@ -14,7 +14,7 @@ use Rattle.laws.specs.Front.{front, front-step}
 use Rattle.laws.specs.Integer.{read-back}
 use Rattle.laws.specs.Over.{over, front-over}
 use Rattle.laws.specs.Tabulate.{tabulate, tabulate-length, tabulate-at, tabulate-same, map-tabulate}
-use Rattle.laws.specs.Test.{if_then_else_, lt-or-le}
+use Rattle.laws.specs.Test.{lt-or-le}
 use Rattle.rules.specs.Circuit.{Output}
 use Rattle.rules.specs.Network.{wireValue, outputValues}
 use Rattle.lut.specs.Ports.{signalWire, outputAt, portOutput}

@@ -1,5 +1,5 @@
 -- `network_run::nodes::is_rotatable` meets its contract.
-use mathlib.Core.Path.{_≡_, sym, ap, _∙_}
+use mathlib.Core.Path.{sym, ap, _∙_}
 use borrow.Author.Needs.{needs}
 use Rattle.rules.specs.Rotation.{rotatable}
 use Rattle.lut.specs.Kinds.{boot-kind}

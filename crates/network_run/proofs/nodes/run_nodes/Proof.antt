@@ -1,5 +1,5 @@
 -- `network_run::nodes::run_nodes` meets its contract.
-use mathlib.Core.Path.{_≡_, sym, _∙_}
+use mathlib.Core.Path.{sym, _∙_}
 use borrow.Author.Needs.{needs}
 use borrow.Author.Tests.{not-true, not-false}
 use Rattle.lut.specs.View.{storeOf}

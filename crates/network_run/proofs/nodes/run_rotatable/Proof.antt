@@ -1,7 +1,6 @@
 -- `network_run::nodes::run_rotatable` meets its contract.
-use mathlib.Core.Path.{_≡_, sym, ap, subst, _∙_}
-use Prim.Native.Nat.{_-_, _≤_}
-use native.Mathlib.Omega.{arith}
+use mathlib.Core.Path.{ap, subst}
+use Prim.Native.Nat.{_-_}
 use mir.Facts.{toZ-ofZ}
 use mir.Syntax.{w64}
 use mir.Val.{SFits}

@@ -11,12 +11,10 @@ use lib.ListN.{length, getD}
 use Rattle.laws.specs.Integer.{read-back, fits-abs}
 use Rattle.rules.specs.Network.{sumFrom}
 use Rattle.rules.specs.Store.{termsOf}
-use Rattle.lut.specs.Forms.{terms-all, terms-need}
-use Rattle.lut.specs.Kinds.{linear-kind}
-use Rattle.lut.specs.Nodes.{constantOf, few-terms, source-before}
-use Rattle.lut.specs.Norm.{term-near}
+use Rattle.lut.specs.Forms.{terms-need}
+use Rattle.lut.specs.Nodes.{constantOf, few-terms, source-before, as-many, constant-small, coefficient-small}
 use Rattle.lut.specs.View.{term, nodeOf}
-use Rattle.network_run.specs.Value.{sumAt, sum-start, sum-next, sum-end, sum-size, term-is, near-constant}
+use Rattle.network_run.specs.Value.{sumAt, sum-start, sum-next, sum-end, sum-size, term-is}
 use Rattle.network_run.proofs.value.sum_of.Statement.{statement}
 use Rattle.network_run.proofs.value.sum_of.Tie as tie
 
@@ -40,10 +38,10 @@ loop-holds : tie.Need-loop-holds Inv-loop μ-loop
 loop-holds c =
     let s = c .before .before in
     let n = nodeOf (s .args .nodes .now) (s .args .i) in
-    let near = near-constant (s .args .i) n (s .pre .0 .node .fine) in
+    let near = constant-small (s .args .i) n (s .pre .0 .node .fine) (s .pre .1) in
     simp (read-back (c .constant-of .result) (c .constant-of .ok))
     (omega arith,
-    c .before .size-of .ensures ∙ terms-all n (linear-kind n (s .pre .1)),
+    c .before .size-of .ensures ∙ as-many n (s .pre .1),
     omega (arith, near, ap natAbs (c .constant-of .ensures)),
     ap (λ x. sumFrom (s .args .values .now) x (termsOf n)) (sym (c .constant-of .ensures)) ∙ sum-start (s .args .values .now) (c .constant-of .result) (termsOf n))
 
@@ -79,7 +77,7 @@ term-value-requires c κs =
     let b = below (c .before .before .before) in
     let e = c .before .before .source-of .ensures ∙ terms-need n k b .1 in
     simp (read-back (c .before .coef-of .result) (c .before .coef-of .ok), read-back (getD (s .args .values .now) (c .before .before .source-of .result) (pos 0)) (c .term-value-arg .given))
-    (omega (arith, term-near (s .args .i) n k (s .pre .0 .node .fine) b, ap natAbs (c .before .coef-of .ensures)), omega (arith, s .pre .0 .small k b, ap (λ j. natAbs (getD (s .args .values .now) j (pos 0))) e))
+    (omega (arith, coefficient-small (s .args .i) n (s .pre .0 .node .fine) k b, ap natAbs (c .before .coef-of .ensures)), omega (arith, s .pre .0 .small k b, ap (λ j. natAbs (getD (s .args .values .now) j (pos 0))) e))
 
 value : (c : tie.After-term-value Inv-loop μ-loop)
     → c .term-value .result

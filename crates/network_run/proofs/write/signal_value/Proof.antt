@@ -1,5 +1,4 @@
 -- `network_run::write::signal_value` meets its contract.
-use native.Mathlib.Omega.{arith}
 use borrow.Author.Needs.{needs}
 use lib.IntN.{pos}
 use lib.ListN.{getD}
