@@ -1,14 +1,14 @@
 -- The run, as the code has it: the gates in turn, and the outputs.
 use mathlib.Core.Path.{_≡_, refl, sym, ap, ap₂, _∙_}
-use mathlib.Core.Bool.{Bool, true, false}
+use mathlib.Core.Bool.{true}
 use mathlib.Core.List.{List, [], _∷_, _++_, map}
 use Prim.Native.Nat.{ℕ, suc, _+_, _*_, _<_, _≤_}
 use native.Mathlib.Numerals.{add-one}
 use native.Mathlib.Omega.{arith}
-use borrow.Author.Tests.{le-leb, lt-leb, eq-eqb, ne-eqb}
+use borrow.Author.Tests.{le-leb}
 use lib.Dec.{eqb, eqb→eq}
-use lib.ListN.{length, getD, take, drop, set, replicate, length-replicate, length-append, length-take, drop-of-length-le}
-use lib.Seq.{getD-take, take-all, take-suc, drop-cons}
+use lib.ListN.{length, getD, take, set, replicate, length-replicate, length-append, length-take}
+use lib.Seq.{getD-take, take-all, take-suc}
 use Rattle.laws.specs.Front.{front, front-step, Filling, filling-step}
 use Rattle.laws.specs.Tabulate.{tabulate, tabulate-length, tabulate-at, map-tabulate}
 use Rattle.laws.specs.Over.{over, front-over}
@@ -63,33 +63,6 @@ values-bits values [] d h e = e
 values-bits values (g ∷ gs) d h e =
     values-bits (values ++ (gateBit values g ∷ [])) gs d (λ i l. h (suc i) (omega arith))
     (bits-append values _ e (rw (le-leb (gateBit values g) 1 (bit-at (g .bits) (position 0 values (g .wires)) (is-T _ (h 0 (omega arith)))))))
-
--- ---- Whether there is a bit for each input.
-
-unfoldable pub restBits : List ℕ → ℕ → Bool
-restBits l i = allBits (drop i l)
-
-module _ (n : ℕ) (l : List ℕ) where
-  pub bits-start : length l ≡ n → bitsFor n l ≡ restBits l 0
-  unfolding bitsFor restBits
-  bits-start e = rw (eq-eqb (length l) n e)
-
-  pub bits-count : (length l ≡ n → ⊥) → bitsFor n l ≡ false
-  unfolding bitsFor
-  bits-count e = rw (ne-eqb (length l) n e)
-
-module _ (l : List ℕ) (i : ℕ) where
-  pub rest-next : i < length l → getD l i 0 ≤ 1 → restBits l i ≡ restBits l (i + 1)
-  unfolding restBits allBits
-  rest-next h k = rw (drop-cons l i 0 h, le-leb (getD l i 0) 1 k, add-one i)
-
-  pub rest-bad : i < length l → 1 < getD l i 0 → restBits l i ≡ false
-  unfolding restBits allBits
-  rest-bad h k = rw (drop-cons l i 0 h, lt-leb (getD l i 0) 1 k)
-
-  pub rest-done : length l ≤ i → restBits l i ≡ true
-  unfolding restBits allBits
-  rest-done h = rw (drop-of-length-le l {i = i} h)
 
 -- ---- The inputs' bits, put in one by one.
 

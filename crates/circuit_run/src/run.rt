@@ -8,7 +8,7 @@ ghost use lib.ListN.{length, getD};
 ghost use Rattle.laws.specs.Over.{over};
 ghost use Rattle.rules.specs.Circuit.{wireBit, gateBit, gateValues, circuitRun};
 ghost use Rattle.rules.specs.CircuitText.{noNode};
-ghost use Rattle.rules.specs.Runs.{runReply, allBits, bitsFor, ran, runOn};
+ghost use Rattle.rules.specs.Runs.{runReply, allBits, ran, runOn};
 ghost use Rattle.circuit_run.specs.Run.{Runs, RunsOn, portBits};
 ghost use Rattle.circuit_run.specs.RunGate.{padded, GoodPort, SlotsFit};
 ghost use Rattle.circuit.specs.View.{gateIn, gatesIn, circuitOf};
@@ -75,23 +75,6 @@ fn gate_values(n: usize, count: usize, gates: &[u8; 576], bits: &[u8]) -> [u8; 1
     values
 }
 
-// Whether there is a bit for each of n inputs.
-fn are_bits_for(n: usize, bits: &[u8]) -> bool
-    ensures { λ r. ⌜ r ≡ bitsFor n (now (bits .entry)) ⌝ }
-{
-    if bits.len() != n {
-        return false;
-    }
-    let mut i = 0;
-    while i < bits.len() {
-        if 1 < bits[i] {
-            return false;
-        }
-        i += 1;
-    }
-    true
-}
-
 // The bits of n outputs.
 fn put_outputs(ports: &[usize; 160], n: usize, values: &[u8; 128], out: &mut [u8])
     requires { ⌜ (length (now ports) ≡ 160) × ((n ≤ 32) × (n ≤ length (now out))) ⌝ }
@@ -118,7 +101,7 @@ pub fn run_read(
     ensures { λ r. ⌜ ((s : List ℕ) → ran (runReply r) (now (values .exit)) ≡ runOn (c .inputs) (c .outs) (now (bits .entry)) (now (values .entry)) (some (circuitRun (circuitOf s (now (gates .entry)) (now (ports .entry)) c) (now (bits .entry))))) ⌝ }
 {
     let n = c.outs;
-    if !are_bits_for(c.inputs, bits) {
+    if !bits::are_bits_for(c.inputs, bits) {
         return RunReply::BadBits;
     }
     if values.len() < n {

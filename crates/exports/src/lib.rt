@@ -50,7 +50,7 @@ pub extern "C" fn fbs_map(text: &[u8], out: &mut [u8]) -> FbsReply
 pub extern "C" fn fbs_admit(text: &[u8]) -> FbsAdmission
     ensures { λ r. ⌜ r ≡ admissionNumbers (admission (now (text .entry))) ⌝ }
 {
-    let r = network::admit(text);
+    let r = admission::admit(text);
     admission_numbers(r)
 }
 
@@ -74,7 +74,7 @@ pub extern "C" fn fbs_build_table(
 pub extern "C" fn fbs_run_circuit(text: &[u8], bits: &[u8], values: &mut [u8]) -> FbsReply
     ensures { λ r. ⌜ ran (Numbered (answer r)) (now (values .exit)) ≡ numbered (runCircuit (now (text .entry)) (now (bits .entry)) (now (values .entry))) ⌝ }
 {
-    let r = circuit::run_circuit(text, bits, values);
+    let r = circuit_run::run_circuit(text, bits, values);
     run_numbers(r)
 }
 
@@ -83,6 +83,6 @@ pub extern "C" fn fbs_run_circuit(text: &[u8], bits: &[u8], values: &mut [u8]) -
 pub extern "C" fn fbs_run_network(text: &[u8], bits: &[u8], values: &mut [i64]) -> FbsReply
     ensures { λ r. ⌜ ran (Numbered (answer r)) (now (values .exit)) ≡ numbered (runNetwork (now (text .entry)) (now (bits .entry)) (now (values .entry))) ⌝ }
 {
-    let r = network::run_network(text, bits, values);
+    let r = network_run::run_network(text, bits, values);
     run_numbers(r)
 }

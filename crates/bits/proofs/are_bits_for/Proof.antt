@@ -1,11 +1,12 @@
+-- `bits::are_bits_for` meets its contract: those from i on are left.
 use mathlib.Core.Path.{_≡_, sym, _∙_}
 use Prim.Native.Nat.{_-_, _≤_}
 use borrow.Author.Needs.{needs}
 use lib.ListN.{length}
 use Rattle.rules.specs.Runs.{bitsFor}
-use Rattle.circuit_run.specs.Run.{restBits, bits-start, bits-count, rest-next, rest-bad, rest-done}
-use Rattle.circuit_run.proofs.run.are_bits_for.Statement.{statement}
-use Rattle.circuit_run.proofs.run.are_bits_for.Tie as tie
+use Rattle.bits.specs.Bits.{restBits, bits-start, bits-count, rest-next, rest-bad, rest-done}
+use Rattle.bits.proofs.are_bits_for.Statement.{statement}
+use Rattle.bits.proofs.are_bits_for.Tie as tie
 
 abbrev Inv-loop : tie.InvT-loop
 Inv-loop n bits i₀ i = (i ≤ length bits) × (bitsFor n bits ≡ restBits bits i)

@@ -4,12 +4,12 @@ use native.Mathlib.Omega.{arith}
 use lib.ListN.{length}
 use borrow.Author.Needs.{needs}
 use Rattle.rules.specs.Store.{termsOf}
 use Rattle.lut.specs.Nodes.{few-terms}
 use Rattle.lut.specs.View.{nodeOf}
 use Rattle.lut.specs.Forms.{terms-all}
-use Rattle.mapper.specs.Norm.{squaresFrom, squares-none, squares-more, norm-other, norm-done}
-use Rattle.mapper.proofs.norm.node_norm.Statement.{statement}
-use Rattle.mapper.proofs.norm.node_norm.Tie as tie
+use Rattle.lut.specs.Norm.{squaresFrom, squares-none, squares-more, norm-other, norm-done}
+use Rattle.lut.proofs.norm.node_norm.Statement.{statement}
+use Rattle.lut.proofs.norm.node_norm.Tie as tie
 
 abbrev Inv-loop : tie.InvT-loop
 Inv-loop nodes i sum₀ k₀ sum k =

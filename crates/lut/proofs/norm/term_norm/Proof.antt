@@ -6,11 +6,12 @@ use lib.IntN.{pos}
 use lib.ListN.{getD}
 use Rattle.laws.specs.Integer.{read-back}
 use Rattle.rules.specs.Store.{termsOf}
 use Rattle.lut.specs.View.{term, nodeOf}
-use Rattle.mapper.specs.Norm.{term-near, one-within, one-square}
+use Rattle.lut.specs.Nodes.{coefficient-small}
+use Rattle.lut.specs.Norm.{one-within, one-square}
 use borrow.Author.Needs.{needs}
-use Rattle.mapper.proofs.norm.term_norm.Statement.{statement}
-use Rattle.mapper.proofs.norm.term_norm.Tie as tie
+use Rattle.lut.proofs.norm.term_norm.Statement.{statement}
+use Rattle.lut.proofs.norm.term_norm.Tie as tie
 
 -- the coefficient as it is read
 is : (c : tie.After-coef-of) → let s = c .before in
@@ -29,11 +30,11 @@ slice-aggregate-coefficients-norm2 c = search needs
 coefficients-norm2-requires : tie.Need-coefficients-norm2-requires
 coefficients-norm2-requires c κs =
     let s = c .before .before in
-    (omega arith, one-within _ _ (is (c .before)) (term-near _ _ _ (s .pre .0 .fine) (s .pre .1)))
+    (omega arith, one-within _ _ (is (c .before)) (coefficient-small _ _ (s .pre .0 .fine) _ (s .pre .1)))
 
 -- src/norm.rt:21:1
 returns : tie.Need-returns
-returns c = let s = c .before .before .before in one-square _ _ _ (is (c .before .before)) (term-near _ _ _ (s .pre .0 .fine) (s .pre .1)) (c .coefficients-norm2 .ensures)
+returns c = let s = c .before .before .before in one-square _ _ _ (is (c .before .before)) (coefficient-small _ _ (s .pre .0 .fine) _ (s .pre .1)) (c .coefficients-norm2 .ensures)
 
 pub term-norm-spec : {M : Type 1} → statement M
 term-norm-spec =
