@@ -16,7 +16,6 @@ use crate::Header;
 use network_text::Lin;
 use network_text::Line;
 use network_text::Read;
-use rules::Limit;
 use rules::Wire;
 
 // One node more.
