@@ -33,9 +33,16 @@ use std::process::ExitCode;
 /// The answer buffer of the service.
 const BUFFER: usize = 65_536;
 
+/// 0 and the count of bytes written, or the number and the line of the refusal.
+#[repr(C)]
+struct FbsReply {
+    number: usize,
+    line: usize,
+    count: usize,
+}
+
 unsafe extern "C" {
-    /// Number, line and count of the answer, and its bytes in the buffer.
-    fn fbs_map(text: *const u8, length: usize, out: *mut u8, room: usize, reply: *mut u64);
+    fn fbs_map(text: *const u8, length: usize, out: *mut u8, room: usize) -> FbsReply;
     fn clock_gettime(clock: i32, time: *mut [i64; 2]) -> i32;
 }
 
@@ -51,17 +58,15 @@ fn rust(job: &[u8]) -> String {
     answer::answer_text(&answer::map(job), job)
 }
 
-fn proved(job: &[u8], out: &mut [u8]) -> [u64; 3] {
-    let mut reply = [0u64; 3];
-    unsafe { fbs_map(job.as_ptr(), job.len(), out.as_mut_ptr(), out.len(), reply.as_mut_ptr()) };
-    reply
+fn proved(job: &[u8], out: &mut [u8]) -> FbsReply {
+    unsafe { fbs_map(job.as_ptr(), job.len(), out.as_mut_ptr(), out.len()) }
 }
 
-fn proved_text(reply: [u64; 3], out: &[u8]) -> Vec<u8> {
-    match reply {
-        [0, 0, count] => out[..count as usize].to_vec(),
-        [number, line, _] => format!("(no {number} {line})\n").into_bytes(),
+fn proved_text(reply: FbsReply, out: &[u8]) -> Vec<u8> {
+    if reply.number == 0 {
+        return out[..reply.count].to_vec();
     }
+    format!("(no {} {})\n", reply.number, reply.line).into_bytes()
 }
 
 /// The least time of nothing at all, which every measured time holds.
