@@ -26,7 +26,7 @@ use Rattle.rules.specs.Scale.{divisor, quotients, normalised, isScalePair}
 use Rattle.theorems.specs.ConeValues.{linearTable-length}
 use Rattle.theorems.specs.Normalised.{normalised-length}
 use Rattle.theorems.specs.Rows.{Consistent}
-use Rattle.mapped.specs.ConeFound.{fits-consistent}
+use Rattle.theorems.specs.FittingCones.{fits-consistent}
 use Rattle.scale.specs.Divisor.{divisor-not-zero}
 use Rattle.compose.specs.Basis.{coefficientsOver}
 use Rattle.search.specs.MergedIntegers.{add-mul, quot-of}
