@@ -39,11 +39,12 @@ loop-holds c =
     let s = c .before .before in
     let n = nodeOf (s .args .nodes .now) (s .args .i) in
     let near = constant-small (s .args .i) n (s .pre .0 .node .fine) (s .pre .1) in
-    simp (read-back (c .constant-of .result) (c .constant-of .ok))
-    (omega arith,
-    c .before .size-of .ensures ∙ as-many n (s .pre .1),
-    omega (arith, near, ap natAbs (c .constant-of .ensures)),
-    ap (λ x. sumFrom (s .args .values .now) x (termsOf n)) (sym (c .constant-of .ensures)) ∙ sum-start (s .args .values .now) (c .constant-of .result) (termsOf n))
+    simp (read-back (c .constant-of .result) (c .constant-of .ok)) (
+      omega arith,
+      c .before .size-of .ensures ∙ as-many n (s .pre .1),
+      omega (arith, near, ap natAbs (c .constant-of .ensures)),
+      ap (λ x. sumFrom (s .args .values .now) x (termsOf n)) (sym (c .constant-of .ensures)) ∙ sum-start (s .args .values .now) (c .constant-of .result) (termsOf n),
+    )
 
 below : (c : tie.In-loop Inv-loop μ-loop) → c .before .loop .k < length (termsOf (nodeOf (c .before .before .before .before .args .nodes .now) (c .before .before .before .before .args .i)))
 below c = omega (arith, c .before .loop .inv .1, c .loop-test .taken)
