@@ -1,10 +1,10 @@
 -- Two cones that have the same coefficients over their sources: all scale pairs give the same sum, or 0 at every row, so the first of them, (0, 1), is the best.
 use mathlib.Core.Path.{_≡_, refl, sym, ap, ap₂, subst, _∙_}
 use mathlib.Core.Bool.{Bool, true, false, _&&_, _||_, true≢false, false≢true}
-use mathlib.Core.List.{List, [], _∷_, map, zipWith, flatMap}
+use mathlib.Core.List.{List, [], _∷_, zipWith, flatMap}
 use mathlib.Core.Logic.{⊎-elim}
 use mathlib.Core.Option.{Option, none, some}
-use Prim.Native.Nat.{ℕ, zero, suc, _+_, _*_, _-_, _≤_, _<_, _^_}
+use Prim.Native.Nat.{ℕ, zero, suc, _+_, _*_, _≤_, _<_, _^_}
 use native.Mathlib.Omega.{arith}
 use native.Mathlib.Numerals.{add-one}
 use borrow.Author.Tests.{eq-eqb, ne-eqb, eqb-true, le-ltb}
@@ -15,7 +15,6 @@ use lib.Seq.{drop-cons}
 use lib.Signed.{ltZ}
 use Rattle.laws.specs.Gcd.{gcd, gcdWithin}
 use Rattle.laws.specs.Integer.{ints, plus, minus, sub-parts, abs-parts, one-part-zero, false-ltZ}
-use Rattle.laws.specs.Select.{all}
 use Rattle.laws.specs.Test.{if_then_else_, eq-or-ne, decide, both-left, both-right}
 use Rattle.rules.specs.declared.Settings.{Settings}
 use Rattle.rules.specs.Cone.{Cone, Candidate, linearTable, values, fits, less, better, bestFrom, best}
@@ -25,7 +24,7 @@ use Rattle.rules.specs.Store.{terms, coefficientOf}
 use Rattle.rules.specs.Scale.{divisor, quotients, normalised, isScalePair}
 use Rattle.theorems.specs.ConeValues.{linearTable-length}
 use Rattle.theorems.specs.Normalised.{normalised-length}
-use Rattle.theorems.specs.Rows.{Consistent}
+use Rattle.theorems.specs.Truths.{allEqual-true}
 use Rattle.theorems.specs.FittingCones.{fits-consistent}
 use Rattle.scale.specs.Divisor.{divisor-not-zero}
 use Rattle.compose.specs.Basis.{coefficientsOver}
@@ -35,7 +34,7 @@ use Rattle.search.specs.Pairs.{tried, triedAt, pairs-walked}
 use Rattle.search.specs.Score.{less-same, less-differ-number}
 use Rattle.search.specs.Search.{coneBy}
 use Rattle.search.specs.Walk.{walkRow, walk}
-use Rattle.search.specs.Factor.{normalised-same}
+use Rattle.search.specs.Factor.{positive-of, normalised-same}
 
 -- Whether two rows of coefficients are the same.
 unfoldable pub sameRow : List ℤ → List ℤ → Bool
@@ -61,22 +60,12 @@ zero-value cs i =
     ap (λ l. getD l i (pos 0)) (table-divided (times (pos 0) cs) ∙ ap (quotients (divisor (times (pos 0) cs))) (table-times (pos 0) cs))
     ∙ zero-entry (divisor (times (pos 0) cs)) (divisor-not-zero (times (pos 0) cs)) (linearTable cs) i
 
-all-same : (t : ℕ) (ts : List ℕ) → ((i : ℕ) → i < length ts → getD ts i 0 ≡ t) → all (eqb t) ts ≡ true
-unfolding all
-all-same t [] h = refl
-all-same t (x ∷ ts) h = rw (eq-eqb t x (sym (h 0 (omega arith)))) (all-same t ts (λ i l. h (suc i) (omega arith)))
-
-one-truth : (ts : List ℕ) → ((i j : ℕ) → i < length ts → j < length ts → getD ts i 0 ≡ getD ts j 0) → allEqual ts ≡ true
-unfolding allEqual
-one-truth [] h = refl
-one-truth (t ∷ ts) h = all-same t ts (λ i l. h (suc i) 0 (omega arith) (omega arith))
-
 no-table : (s : Settings) (U : List ℕ) (cs : List ℤ) (truth : List ℕ) → length cs ≡ length U → length truth ≡ 2 ^ length U → allEqual truth ≡ false
     → fits s (coneBy U (normalised (times (pos 0) cs)) truth) ≡ false
 unfolding coneBy values times
 no-table s U cs truth e long mixed =
     ⊎-elim
-    (λ (f : fits s (coneBy U (normalised (times (pos 0) cs)) truth) ≡ true). absurd (true≢false (sym (one-truth truth (agree f)) ∙ mixed)))
+    (λ (f : fits s (coneBy U (normalised (times (pos 0) cs)) truth) ≡ true). absurd (true≢false (sym (allEqual-true truth (λ i h. agree f i 0 h (omega arith))) ∙ mixed)))
     (λ (f : fits s (coneBy U (normalised (times (pos 0) cs)) truth) ≡ false). f)
     (decide (fits s (coneBy U (normalised (times (pos 0) cs)) truth)))
   where
@@ -133,10 +122,6 @@ zero-abs : (z : ℤ) → natAbs z ≡ 0 → z ≡ pos 0
 zero-abs (pos zero) e = refl
 zero-abs (pos (suc n)) e = absurd (omega arith)
 zero-abs (negsuc n) e = absurd (omega arith)
-
-positive-of : (n : ℕ) → (n ≡ 0 → ⊥) → 0 < n
-positive-of zero f = absurd (f refl)
-positive-of (suc n) f = omega arith
 
 module _ (s : Settings) (nodes : List LutNode) (U : List ℕ) (left right : Cone) (truth : List ℕ) (same : coefficientsOver U left ≡ coefficientsOver U right)
     (rows : length truth ≡ 2 ^ length U) (mixed : allEqual truth ≡ false) where

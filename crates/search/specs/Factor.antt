@@ -1,9 +1,9 @@
 -- Coefficients that all have a factor are normalised to the same.
 use mathlib.Core.Path.{_≡_, refl, sym, ap, ap₂, subst, _∙_}
 use mathlib.Core.Bool.{Bool, true, false, not}
-use mathlib.Core.List.{List, [], _∷_, map}
+use mathlib.Core.List.{List, [], _∷_}
 use mathlib.Core.Logic.{⊎-elim}
-use Prim.Native.Nat.{ℕ, zero, suc, _+_, _*_, _/_, _<_, _∣_, max}
+use Prim.Native.Nat.{ℕ, zero, suc, _*_, _/_, _<_, _∣_, max}
 use native.Mathlib.Nat.{dvd-mul-left, div-mul-cancel, dvd-of-mul-dvd-mul-right, mul-dvd-mul-right, dvd-antisymm, eq-zero-of-zero-dvd, zero-mul}
 use native.Mathlib.Omega.{arith}
 use lib.IntN.{ℤ, pos, negsuc, negℤ, natAbs, _*ℤ_, zero-*ℤ}
@@ -121,6 +121,10 @@ abs-positive d k h g = rw (abs-mul d k) (product (natAbs d) (natAbs k) h g)
     product (suc m) zero h g = absurd (omega arith)
     product (suc m) (suc n) h g = omega arith
 
+pub positive-of : (n : ℕ) → (n ≡ 0 → ⊥) → 0 < n
+positive-of zero f = absurd (f refl)
+positive-of (suc n) f = omega arith
+
 pub normalised-same : (k : ℤ) (cs : List ℤ) → 0 < natAbs k → normalised (times k cs) ≡ normalised cs
 normalised-same k cs h =
     ⊎-elim
@@ -128,10 +132,6 @@ normalised-same k cs h =
     (λ (e : gcdFrom 0 cs ≡ 0 → ⊥). divided (positive-of (gcdFrom 0 cs) e))
     (eq-or-ne (gcdFrom 0 cs) 0)
   where
-    positive-of : (n : ℕ) → (n ≡ 0 → ⊥) → 0 < n
-    positive-of zero f = absurd (f refl)
-    positive-of (suc n) f = omega arith
-
     divided : 0 < gcdFrom 0 cs → normalised (times k cs) ≡ normalised cs
     divided g =
         let D = divisor cs in

@@ -118,27 +118,18 @@ fn main() -> ExitCode {
     };
     let cost = clock_cost();
     let mut out = vec![0u8; BUFFER];
-    let mut differs = false;
     let mut output = io::stdout().lock();
     let done = service::jobs(io::stdin().lock(), |job| {
         let Job::Text(job) = job else {
             return Ok(());
         };
-        if differs {
-            return Ok(());
-        }
-        match measure(job, calls, cost, &mut out) {
-            Some(line) => {
-                writeln!(output, "{line}")?;
-                output.flush()
-            }
-            None => {
-                differs = true;
-                Ok(())
-            }
-        }
+        let Some(line) = measure(job, calls, cost, &mut out) else {
+            return Err(io::Error::other("the answers differ"));
+        };
+        writeln!(output, "{line}")?;
+        output.flush()
     });
-    if differs || done.is_err() {
+    if done.is_err() {
         return ExitCode::FAILURE;
     }
     ExitCode::SUCCESS
