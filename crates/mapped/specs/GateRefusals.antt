@@ -20,6 +20,7 @@ use Rattle.rules.specs.Network.{LutNode}
 use Rattle.rules.specs.Store.{realigned, bootstrapped, bootstrapCone}
 use Rattle.rules.specs.declared.Wire.{Wire}
 use Rattle.theorems.specs.Readings.{refused-same}
+use Rattle.theorems.specs.Results.{good-same, good-then}
 
 -- A refusal, if it is one, is 8, 9 or 10.
 unfoldable pub Late : {A : Type 0} → Result A → Type 0
@@ -176,3 +177,12 @@ gates-refused s outputs st (g ∷ gs) k line e = by (mapNext s outputs st g) ref
     by (err j) q next f =
         let z = refused-same j (g .line) k line f in
         record { before = []; gate = g; after = gs; state = st; are = refl; reached = refl; refuses = q ∙ ap err (z .0); at = z .1 }
+
+-- and a gate that is refused, after those before it, refuses them all
+pub gates-refuse : (s : Settings) (outputs : List Output) (st reached : State) (before after : List Gate) (g : Gate) (k : ℕ) → mapGates s outputs st before ≡ Good reached
+    → mapNext s outputs reached g ≡ err k → mapGates s outputs st (before ++ (g ∷ after)) ≡ Refused k (g .line)
+unfolding mapGates atLine andThen
+gates-refuse s outputs st reached [] after g k e q = rw (good-same st reached e, q)
+gates-refuse s outputs st reached (x ∷ before) after g k e q =
+    let p = good-then (x .line) (mapNext s outputs st x) (λ r. mapGates s outputs r before) reached e in
+    rw (p .1) (gates-refuse s outputs (p .0) reached before after g k (p .2) q)

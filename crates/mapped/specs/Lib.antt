@@ -31,5 +31,6 @@ pub mod TextReadBack
 pub mod TextLength
 pub mod Whole
 pub mod Cap
+pub mod TwoSources
 pub mod Agrees
 pub mod Proved

@@ -150,7 +150,7 @@ module _ (text buffer : List ℕ) where
       (λ (l : length (networkText w) ≤ length buffer). is-written w e l (rw (e, le-ltb (length buffer) (length (networkText w)) l) refl))
       (lt-or-le (length buffer) (length (networkText w)))
 
-  refusal : (k line : ℕ) → andThen (readCircuit text) mapCircuit ≡ Refused k line → mapper text buffer ≡ outcome (refused k line) buffer
+  pub refusal : (k line : ℕ) → andThen (readCircuit text) mapCircuit ≡ Refused k line → mapper text buffer ≡ outcome (refused k line) buffer
   unfolding mapper answerWith
   refusal k line e = rw e refl
 
