@@ -31,6 +31,7 @@ pub mod TextReadBack
 pub mod TextLength
 pub mod Whole
 pub mod Cap
+pub mod TwoSourceCones
 pub mod TwoSources
 pub mod Agrees
 pub mod Proved
