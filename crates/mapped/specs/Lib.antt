@@ -35,3 +35,4 @@ pub mod TwoSourceCones
 pub mod TwoSources
 pub mod Agrees
 pub mod Proved
+pub mod TwoSourcesMet
