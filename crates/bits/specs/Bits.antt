@@ -1,13 +1,14 @@
--- Bits tested one by one.
-use mathlib.Core.Path.{_≡_}
-use mathlib.Core.Bool.{Bool, true, false}
+-- Bits tested one by one, and what a run makes of the test.
+use mathlib.Core.Path.{_≡_, sym, ap, _∙_}
+use mathlib.Core.Bool.{Bool, true, false, not}
 use mathlib.Core.List.{List}
+use mathlib.Core.Option.{Option}
 use Prim.Native.Nat.{ℕ, _+_, _<_, _≤_}
 use native.Mathlib.Numerals.{add-one}
-use borrow.Author.Tests.{le-leb, lt-leb, eq-eqb, ne-eqb}
+use borrow.Author.Tests.{le-leb, lt-leb, lt-ltb, eq-eqb, ne-eqb, not-false}
 use lib.ListN.{length, getD, drop, drop-of-length-le}
 use lib.Seq.{drop-cons}
-use Rattle.rules.specs.Runs.{allBits, bitsFor}
+use Rattle.rules.specs.Runs.{NotBits, NoRoom, ran, allBits, bitsFor, runOn}
 
 -- those from i on
 unfoldable pub restBits : List ℕ → ℕ → Bool
@@ -34,3 +35,13 @@ module _ (l : List ℕ) (i : ℕ) where
   pub rest-done : length l ≤ i → restBits l i ≡ true
   unfolding restBits allBits
   rest-done h = rw (drop-of-length-le l {i = i} h)
+
+-- ---- a run over them, whatever gives its values
+module _ {A : Type 0} (n k : ℕ) (bits : List ℕ) (buffer : List A) (values : Option (List A)) {b : Bool} (e : b ≡ bitsFor n bits) where
+  pub bad-bits : not b ≡ true → ran NotBits buffer ≡ runOn n k bits buffer values
+  unfolding runOn
+  bad-bits h = sym (rw (ap not (sym e) ∙ h))
+
+  pub short-buffer : not b ≡ false → length buffer < k → ran NoRoom buffer ≡ runOn n k bits buffer values
+  unfolding runOn
+  short-buffer h l = sym (rw (sym e ∙ not-false b h, lt-ltb (length buffer) k l))

@@ -3,17 +3,16 @@ use mathlib.Core.Path.{_≡_, refl, sym, ap, _∙_}
 use mathlib.Core.Bool.{Bool, true, false, _&&_, true≢false}
 use mathlib.Core.List.{List, [], _∷_, map}
 use mathlib.Core.Option.{Option, none, some}
-use Prim.Native.Nat.{ℕ, zero, suc, _*_, _≤_, _<_, _^_}
+use Prim.Native.Nat.{ℕ, zero, suc, _≤_, _<_, _^_}
 use native.Mathlib.Omega.{arith}
-use borrow.Author.Tests.{lt-leb, leb-true}
+use borrow.Author.Tests.{lt-leb}
 use lib.Dec.{leb, eqb}
 use lib.IntN.{ℤ, natAbs}
 use lib.ListN.{length, take}
 use lib.Seq.{ext-getD, getD-take, length-take-le}
-use Rattle.laws.specs.Test.{if_then_else_, if-both, both-left, both-right}
+use Rattle.laws.specs.Test.{if_then_else_, if-both}
 use Rattle.rules.specs.declared.Settings.{Settings}
-use Rattle.rules.specs.Builder.{knownEntries, tableLimits}
-use Rattle.rules.specs.CircuitText.{inLimits}
+use Rattle.rules.specs.Builder.{knownEntries}
 use Rattle.rules.specs.Cone as C
 use Rattle.rules.specs.Cone.{Candidate, linearTable, values, coneSpan, completed, bootstrapTable, isLutValid, withinNorm, norm2, fits, better, best}
 use Rattle.rules.specs.Network.{Term, LutNode, Input, Linear, Bootstrap}

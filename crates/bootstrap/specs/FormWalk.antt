@@ -1,13 +1,11 @@
 -- The walk over the nodes for the best form: the best so far, and what the nodes to come give.
 use mathlib.Core.Path.{_≡_, refl, sym, ap, subst, _∙_}
 use mathlib.Core.Bool.{Bool, true, false}
-use mathlib.Core.List.{List, [], _∷_, map}
+use mathlib.Core.List.{List, _∷_, map}
 use mathlib.Core.Option.{Option, none, some}
-use Prim.Native.Nat.{ℕ, suc, _+_, _≤_, _<_}
+use Prim.Native.Nat.{ℕ, _+_, _≤_, _<_}
 use native.Mathlib.Omega.{arith}
 use lib.ListN.{drop, drop-of-length-le}
-use lib.Seq.{drop-cons}
-use native.Mathlib.Numerals.{add-one}
 use Rattle.laws.specs.Select.{select}
 use Rattle.laws.specs.Test.{if_then_else_}
 use Rattle.rules.specs.declared.Settings.{Settings}
@@ -19,7 +17,7 @@ use Rattle.rules.specs.Store.{termsOf, sameSources, bootstrapInputs, bootstrapF
 use Rattle.cone.specs.declared.Cone.{Cone}
 use Rattle.cone.specs.View.{coneOf, IsCone}
 use Rattle.lut.specs.Forms.{formTerms}
-use Rattle.lut.specs.View.{nodeOf, storeOf, store-length, at-store, Fine, IsStore}
+use Rattle.lut.specs.View.{nodeOf, storeOf, store-from, store-length, at-store, Fine, IsStore}
 use Rattle.bootstrap.specs.declared.form.Form.{Form}
 use Rattle.bootstrap.specs.View.{Stands}
 use Rattle.bootstrap.specs.Form.{candidateIn, Kept, fitting, betterOf, turned}
@@ -71,12 +69,6 @@ module _ (s : Settings) (bytes : List ℕ) (count : ℕ) (store : IsStore bytes 
     unfolding Fine
     source-at h j table e = let g = subst (Fine i) e (store .fine i h) in at-store bytes j count (omega (arith, g .0))
 
-    dropped : i < count → drop i (storeOf bytes count) ≡ nodeOf bytes i ∷ drop (i + 1) (storeOf bytes count)
-    unfolding nodeAt
-    dropped h =
-        rw add-one (drop-cons (storeOf bytes count) i (Input []) (rw (store-length bytes count) h)
-        ∙ ap (λ (n : LutNode). n ∷ drop (suc i) (storeOf bytes count)) (at-store bytes i count h))
-
     pub walk-on : i < count → (g : Form) → candidateIn g ≡ turned s (coneOf c) (candidateIn f) (formTerms bytes (nodeOf bytes i)) → Kept c g → Walked s (storeOf bytes count) c (i + 1) g
     walk-on h g e k =
         let nodes = storeOf bytes count in
@@ -84,7 +76,7 @@ module _ (s : Settings) (bytes : List ℕ) (count : ℕ) (store : IsStore bytes 
           kept = k;
           rest = ap (λ (d : Option Candidate). bestFrom d (candidatesFrom s nodes (coneOf c) (drop (i + 1) nodes))) e
               ∙ node-turn s nodes (coneOf c) (candidateIn f) bytes (nodeOf bytes i) (drop (i + 1) nodes) (source-at h)
-              ∙ ap (λ (l : List LutNode). bestFrom (candidateIn f) (candidatesFrom s nodes (coneOf c) l)) (sym (dropped h))
+              ∙ ap (λ (l : List LutNode). bestFrom (candidateIn f) (candidatesFrom s nodes (coneOf c) l)) (sym (store-from bytes count i h))
               ∙ w .rest;
         }
 

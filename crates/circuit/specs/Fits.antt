@@ -6,7 +6,7 @@ use mathlib.Core.List.{List, [], _∷_}
 use Prim.Native.Nat.{ℕ, zero, suc, _+_, _*_, _-_, _<_, _≤_}
 use native.Mathlib.Nat.{not-suc-le-zero, le-of-suc-le-suc}
 use native.Mathlib.Omega.{arith}
-use borrow.Author.Tests.{leb-false, leb-true, ltb-false, ltb-true, eqb-true}
+use borrow.Author.Tests.{leb-false, leb-true, le-leb, ltb-false, ltb-true, eqb-true, eqb-false}
 use lib.Dec.{T, leb, ltb, eqb, leb→le}
 use lib.ListN.{length, getD, take, drop, length-take, length-drop}
 use Rattle.laws.specs.Tabulate.{tabulate-length, tabulate-at}
@@ -33,6 +33,17 @@ pub record GateFits (gs : List ℕ) (n i : ℕ) : Type 0 where
   pub answer1 : getD gs (6 * i + 3) 0 ≤ 1
   pub answer2 : (getD gs (6 * i + 1) 0 ≡ 255 → ⊥) → getD gs (6 * i + 4) 0 ≤ 1
   pub answer3 : (getD gs (6 * i + 1) 0 ≡ 255 → ⊥) → getD gs (6 * i + 5) 0 ≤ 1
+
+pub answer-bits : (gs : List ℕ) (n i : ℕ) → GateFits gs n i → allBits (answersIn gs i) ≡ true
+unfolding answersIn allBits
+answer-bits gs n i f = by (eqb (getD gs (6 * i + 1) 0) 255) refl
+  where
+    by : (t : Bool) → eqb (getD gs (6 * i + 1) 0) 255 ≡ t
+        → allBits (if t then getD gs (6 * i + 2) 0 ∷ getD gs (6 * i + 3) 0 ∷ [] else getD gs (6 * i + 2) 0 ∷ getD gs (6 * i + 3) 0 ∷ getD gs (6 * i + 4) 0 ∷ getD gs (6 * i + 5) 0 ∷ []) ≡ true
+    by true e = rw (le-leb (getD gs (6 * i + 2) 0) 1 (f .answer0), le-leb (getD gs (6 * i + 3) 0) 1 (f .answer1))
+    by false e =
+        let two = eqb-false (getD gs (6 * i + 1) 0) 255 e in
+        rw (le-leb (getD gs (6 * i + 2) 0) 1 (f .answer0), le-leb (getD gs (6 * i + 3) 0) 1 (f .answer1), le-leb (getD gs (6 * i + 4) 0) 1 (f .answer2 two), le-leb (getD gs (6 * i + 5) 0) 1 (f .answer3 two))
 
 -- The name at j: 1 to 16 bytes of s.
 pub record NameFits (s ps : List ℕ) (j : ℕ) : Type 0 where

@@ -3,9 +3,9 @@ use mathlib.Core.Path.{_≡_, refl, sym, ap, ap₂, subst, _∙_}
 use mathlib.Core.Bool.{Bool, true, false, not}
 use mathlib.Core.List.{List}
 use mathlib.Core.Option.{some}
-use Prim.Native.Nat.{ℕ, _<_, _≤_}
+use Prim.Native.Nat.{ℕ, _≤_}
 use native.Mathlib.Omega.{arith}
-use borrow.Author.Tests.{lt-ltb, le-ltb, not-false}
+use borrow.Author.Tests.{le-ltb, not-false}
 use lib.ListN.{length}
 use Rattle.laws.specs.Over.{over}
 use Rattle.laws.specs.Tabulate.{tabulate-length}
@@ -13,7 +13,7 @@ use Rattle.rules.specs.Circuit as C
 use Rattle.rules.specs.CircuitText.{readCircuit}
 use Rattle.rules.specs.Form as F
 use Rattle.rules.specs.Outcome.{written, refused}
-use Rattle.rules.specs.Runs.{RunOutcome, Numbered, NotBits, NoRoom, ran, bitsFor, runOn, withValues, runCircuit, runCircuitOn}
+use Rattle.rules.specs.Runs.{RunOutcome, Numbered, ran, bitsFor, runOn, withValues, runCircuit, runCircuitOn}
 use Rattle.circuit.specs.declared.Circuit.{Circuit}
 use Rattle.circuit.specs.declared.Reading.{Reading}
 use Rattle.circuit.specs.declared.Reading.the-variants.{Good, Refused}
@@ -29,17 +29,9 @@ module _ (gs ps : List ℕ) (c : Circuit) (bits buffer : List ℕ) where
   answer s = runOn (c .inputs) (c .outs) bits buffer (some (C.circuitRun (circuitOf s gs ps c) bits))
 
   module _ (s : List ℕ) (b : Bool) (f : b ≡ bitsFor (c .inputs) bits) where
-    pub run-bad-bits : not b ≡ true → ran NotBits buffer ≡ answer s
-    unfolding runOn
-    run-bad-bits k = sym (rw (ap not (sym f) ∙ k))
-
     module _ (k : not b ≡ false) where
       given : bitsFor (c .inputs) bits ≡ true
       given = sym f ∙ not-false b k
-
-      pub run-short : length buffer < c .outs → ran NoRoom buffer ≡ answer s
-      unfolding runOn
-      run-short l = sym (rw (given, lt-ltb (length buffer) (c .outs) l))
 
       pub run-ready : RunsOn gs ps c → Runs (c .inputs) (c .gates) gs bits
       run-ready y = record { long = y .gatesLong; inputs = y .inputs; gates = y .gates; sound = y .sound; given = given }

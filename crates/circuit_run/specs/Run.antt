@@ -18,8 +18,8 @@ use Rattle.rules.specs.Circuit.{wireBit, position, gateBit, gateValues}
 use Rattle.rules.specs.Runs.{allBits, bitsFor}
 use Rattle.theorems.specs.Bits.{bit-at}
 use Rattle.circuit.specs.declared.Circuit.{Circuit}
-use Rattle.circuit.specs.Fits.{GateFits}
-use Rattle.circuit_run.specs.RunGate.{padded, GoodPort, SlotsFit, answer-bits, bits-append, padded-wire, padded-gate, padded-bits, padded-set}
+use Rattle.circuit.specs.Fits.{GateFits, answer-bits}
+use Rattle.circuit_run.specs.RunGate.{padded, GoodPort, SlotsFit, bits-append, padded-wire, padded-gate, padded-bits, padded-set}
 use Rattle.circuit.specs.View.{portWire, gateIn, gatesIn, outputIn, outputsIn}
 
 -- What a run needs of n inputs, the gates and the bits.

@@ -6,10 +6,11 @@ use Prim.Native.Nat.{ℕ, zero, suc, _+_, _*_, _-_, _<_, _≤_}
 use native.Mathlib.Nat.{zero-add}
 use native.Mathlib.Numerals.{add-one}
 use native.Mathlib.Omega.{arith}
-use borrow.Author.Tests.{leb-false, ltb-true, le-leb, lt-leb, ne-eqb, eqb-false}
-use lib.Dec.{leb, ltb, eqb}
+use borrow.Author.Tests.{leb-false, ltb-true, lt-leb, ne-eqb}
+use lib.Dec.{leb, ltb}
 use lib.ListN.{length, getD, drop, set, replicate, length-replicate, length-append}
 use lib.Seq.{getD-drop, drop-cons, set-at}
+use Rattle.laws.specs.Lists.{zeros-at}
 use Rattle.laws.specs.Over.{over}
 use Rattle.laws.specs.Test.{if_then_else_, is-T, T-is, and-left, and-right, and-both}
 use Rattle.rules.specs.declared.Wire.{Wire}
@@ -20,7 +21,6 @@ use Rattle.rules.specs.CircuitText.{noNode}
 use Rattle.rules.specs.Runs.{allBits}
 use Rattle.theorems.specs.Bits.{bit-at}
 use Rattle.theorems.specs.LineBits.{WireBit}
-use Rattle.circuit.specs.Fits.{GateFits}
 use Rattle.circuit.specs.View.{wireIn, slotWire, portWire, wiresIn, answersIn, gateIn}
 
 unfoldable pub padded : List ℕ → List ℕ
@@ -96,23 +96,7 @@ module _ (values gs : List ℕ) (i : ℕ) {l : ℕ} (e : l ≡ wireBit values (s
 abbrev pub SlotsFit : List ℕ → ℕ → Type 0
 SlotsFit gs i = (getD gs (6 * i) 0 ≤ 129) × ((getD gs (6 * i + 1) 0 ≡ 255 → ⊥) → getD gs (6 * i + 1) 0 ≤ 129)
 
-pub answer-bits : (gs : List ℕ) (n i : ℕ) → GateFits gs n i → allBits (answersIn gs i) ≡ true
-unfolding answersIn allBits
-answer-bits gs n i f = by (eqb (getD gs (6 * i + 1) 0) 255) refl
-  where
-    by : (t : Bool) → eqb (getD gs (6 * i + 1) 0) 255 ≡ t
-        → allBits (if t then getD gs (6 * i + 2) 0 ∷ getD gs (6 * i + 3) 0 ∷ [] else getD gs (6 * i + 2) 0 ∷ getD gs (6 * i + 3) 0 ∷ getD gs (6 * i + 4) 0 ∷ getD gs (6 * i + 5) 0 ∷ []) ≡ true
-    by true e = rw (le-leb (getD gs (6 * i + 2) 0) 1 (f .answer0), le-leb (getD gs (6 * i + 3) 0) 1 (f .answer1))
-    by false e =
-        let two = eqb-false (getD gs (6 * i + 1) 0) 255 e in
-        rw (le-leb (getD gs (6 * i + 2) 0) 1 (f .answer0), le-leb (getD gs (6 * i + 3) 0) 1 (f .answer1), le-leb (getD gs (6 * i + 4) 0) 1 (f .answer2 two), le-leb (getD gs (6 * i + 5) 0) 1 (f .answer3 two))
-
 -- ---- The array: zeros behind the bits change nothing.
-
-zeros-get : (n i : ℕ) → _≡_ {A = ℕ} (getD (replicate n 0) i 0) 0
-zeros-get zero i = refl
-zeros-get (suc n) zero = refl
-zeros-get (suc n) (suc i) = zeros-get n i
 
 get-append : (l z : List ℕ) → ((i : ℕ) → getD z i 0 ≡ 0) → (i : ℕ) → getD (l ++ z) i 0 ≡ getD l i 0
 get-append [] z h i = h i
@@ -121,7 +105,7 @@ get-append (x ∷ l) z h (suc i) = get-append l z h i
 
 padded-get : (l : List ℕ) (i : ℕ) → getD (padded l) i 0 ≡ getD l i 0
 unfolding padded over
-padded-get l i = get-append l _ (λ k. getD-drop (length l) (replicate 128 0) k 0 ∙ zeros-get 128 (length l + k)) i
+padded-get l i = get-append l _ (λ k. getD-drop (length l) (replicate 128 0) k 0 ∙ zeros-at 128 (length l + k)) i
 
 pub padded-wire : (l : List ℕ) (w : Wire) → wireBit (padded l) w ≡ wireBit l w
 unfolding wireBit

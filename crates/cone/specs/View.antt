@@ -20,9 +20,9 @@ use Rattle.rules.specs.Mapper.{isConstant, constantValue}
 use Rattle.rules.specs.NetworkText.{allDifferent}
 use Rattle.rules.specs.Span.{least, span}
 use Rattle.scale.specs.Limits.{Within}
-use Rattle.theorems.specs.KnownRows.{hits, known-fine, known-bit, known-unhit, known-held}
+use Rattle.theorems.specs.KnownRows.{hits, known-fine, known-unhit, known-held}
 use Rattle.laws.specs.Lists.{map-at}
-use Rattle.theorems.specs.Rows.{offset}
+use Rattle.theorems.specs.Rows.{offset, known-exact}
 use Rattle.theorems.specs.Spans.{offset-lt}
 use Rattle.cone.specs.declared.Cone.{Cone}
 use Rattle.cone.specs.declared.Constant.{Constant}
@@ -119,7 +119,7 @@ module _ (c : Cone) (is : IsCone c) where
 
   -- each truth is a bit, and the entries of the span are known ones, 2 where no row is
   pub row-bit : (i : ℕ) → i < length (rules.values (coneOf c)) → getD (coneOf c .truth) i 0 ≤ 1
-  row-bit i h = known-bit (rules.values (coneOf c)) (coneOf c .truth) (truth-length c) _ (is .held) i h
+  row-bit i h = known-exact (rules.values (coneOf c)) (coneOf c .truth) (truth-length c) .0 (_, is .held) .bits i h
 
   pub truth-bit : (i : ℕ) → getD (coneOf c .truth) i 0 < 2
   truth-bit i =

@@ -1,6 +1,6 @@
 -- What is proved of the framing. The program hands each byte to `feed_byte`, prints what `said` makes of the event, and `closing` at the input's end (Feeding).
 -- Its array has 32,768 bytes, whatever they are at first; `answer` is what the mapper answers to a job.
-use mathlib.Core.Path.{_≡_, refl, sym, ap, _∙_}
+use mathlib.Core.Path.{_≡_, sym, ap, _∙_}
 use mathlib.Core.List.{List, [], _∷_, _++_, append-nil, append-eq-nil-iff, flatten}
 use Prim.Native.Nat.{ℕ, min}
 use native.Mathlib.Omega.{arith}

@@ -123,18 +123,15 @@ module _ (s : Settings) (count : ℕ) (c : Cone) where
         store = λ z. boots .grown z .store;
         stands = λ z. boots .stands z;
         least = λ z. boots .grown z .least;
-        most = most;
+        most = λ z.
+            let l = boots .grown z .most in
+            let one = room-none (coneOf (b .cone)) (moves s nodes (coneOf c) _ h (made z)) in
+            let two = room-two (coneOf c) h in
+            omega arith;
       }
     where
       made : b .number ≡ 0 → ok (record { nodes = storeOf bytes (b .count); cone = coneOf (b .cone) }) ≡ bootstrapCone s nodes (coneOf c)
       made z = rw (eq-eqb (b .number) 0 z) at e
-
-      most : b .number ≡ 0 → b .count + room (coneOf (b .cone)) ≤ count + room (coneOf c)
-      most z =
-          let l = boots .grown z .most in
-          let one = room-none (coneOf (b .cone)) (moves s nodes (coneOf c) _ h (made z)) in
-          let two = room-two (coneOf c) h in
-          omega arith
 
 -- Both sides with the bootstrapped one.
 abbrev pub leftBooted : Booted → Sides → Limited

@@ -1,16 +1,14 @@
 -- An attempt to merge two cones under a gate.
 use mathlib.Core.Path.{_≡_}
-use mathlib.Core.Bool.{true, false, _&&_}
+use mathlib.Core.Bool.{true, false}
 use mathlib.Core.List.{List}
 use mathlib.Core.Option.{Option, none, some, Option·map}
 use Prim.Native.Nat.{ℕ, _+_, _≤_, _<_, _^_}
-use borrow.Author.Tests.{lt-ltb, le-ltb, leb-true}
-use lib.Dec.{leb}
+use borrow.Author.Tests.{lt-ltb, le-ltb}
 use lib.IntN.{ℤ}
 use lib.ListN.{length, getD, take}
-use Rattle.laws.specs.Test.{if_then_else_, both-left, both-right}
+use Rattle.laws.specs.Test.{if_then_else_}
 use Rattle.rules.specs.declared.Settings.{Settings}
-use Rattle.rules.specs.Builder.{tableLimits}
 use Rattle.rules.specs.CircuitText.{inLimits}
 use Rattle.rules.specs.Cone as C
 use Rattle.rules.specs.Cone.{Result, ok, constant, linearTable}

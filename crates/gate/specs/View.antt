@@ -8,7 +8,6 @@ use Rattle.laws.specs.Test.{if_then_else_}
 use Rattle.rules.specs.Cone as C
 use Rattle.rules.specs.Cone.{Result, ok, err}
 use Rattle.rules.specs.Mapper as M
-use Rattle.cone.specs.declared.order.Side.{Side}
 use Rattle.cone.specs.declared.order.Sides.{Sides}
 use Rattle.cone.specs.View.{coneOf}
 use Rattle.cone.specs.Order.{sideOf, sidesOf}

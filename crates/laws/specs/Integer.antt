@@ -184,6 +184,18 @@ pub eqZ-of : (x y : ℤ) → x ≡ y → eqZ x y ≡ true
 unfolding eqZ
 eqZ-of x y e = rw (true-leZ x y (omega (arith, ints)), true-leZ y x (omega (arith, ints)))
 
+pub le-same : (a b x y : ℤ) → a ≡ x → b ≡ y → x ≤ℤ y → a ≤ℤ b
+le-same a b x y e f h = rw (e, f) h
+
+-- what is not negative, as a cast to an unsigned type asks
+pub not-negative : (z : ℤ) → minus z ≡ 0 → T (nonNeg z)
+unfolding minus
+not-negative (pos n) e = tt
+not-negative (negsuc n) e = absurd (omega arith)
+
+pub not-below : (v l : ℤ) → l ≤ℤ v → T (nonNeg (v -ℤ l))
+not-below v l h = not-negative (v -ℤ l) (omega (arith, ints, sub-parts v l, one-part-zero (v -ℤ l)))
+
 -- absolute values: what a bound is stated by, since `omega` reads it
 pub abs-mul : (x y : ℤ) → natAbs (x *ℤ y) ≡ natAbs x * natAbs y
 abs-mul x y = abs-parts (x *ℤ y) ∙ simp (plus-mul, minus-mul, abs-parts) (omega arith)
@@ -255,3 +267,6 @@ quot-exact (negsuc a) (negsuc b) h k = ap (λ i. negℤ (pos i)) (N.div-mul-canc
 pub square-nonNeg : (x : ℤ) → T (nonNeg (x *ℤ x))
 square-nonNeg (pos a) = tt
 square-nonNeg (negsuc a) = tt
+
+pub square-fits : (x : ℤ) → natAbs x < 2 ^ 31 → SFits w64 (x *ℤ x)
+square-fits x h = fits-abs (x *ℤ x) (omega (arith, abs-mul-le x x {a = 2 ^ 31} {b = 2 ^ 31} (omega arith) (omega arith)))

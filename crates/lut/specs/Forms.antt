@@ -1,6 +1,6 @@
 -- A sum's coefficients over a support.
-use mathlib.Core.Path.{_≡_, refl, sym, ap, subst, _∙_}
-use mathlib.Core.Bool.{Bool, true, false, _&&_, _||_, true≢false}
+use mathlib.Core.Path.{_≡_, refl, sym, ap, _∙_}
+use mathlib.Core.Bool.{Bool, true, false, _&&_, true≢false}
 use mathlib.Core.List.{List, [], _∷_, map}
 use mathlib.Core.Logic.{⊎-elim}
 use mathlib.Core.Option.{Option, none, some}
@@ -15,7 +15,7 @@ use lib.ListN.{length, getD, take, drop, set, length-set, drop-of-length-le, len
 use lib.Seq.{drop-cons}
 use Rattle.laws.specs.Front.{taken-step, taken-all}
 use Rattle.laws.specs.Select.{all}
-use Rattle.laws.specs.Test.{if_then_else_, if-both, eq-or-ne, zero≢one}
+use Rattle.laws.specs.Test.{if_then_else_, if-both, eq-or-ne}
 use Rattle.rules.specs.Network.{Term, LutNode, Input, Linear, Bootstrap, member}
 use Rattle.rules.specs.NetworkText.{sources}
 use Rattle.rules.specs.Store.{needs, termsOf, coefficientOf, sameSources}

@@ -1,20 +1,19 @@
 -- What a node's bytes say of it.
-use mathlib.Core.Path.{_≡_, refl, sym, ap, ap₂, subst, _∙_}
-use mathlib.Core.Bool.{Bool, true, false, true≢false}
+use mathlib.Core.Path.{_≡_, refl, sym, ap, _∙_}
+use mathlib.Core.Bool.{true, false, true≢false}
 use mathlib.Core.List.{List, [], _∷_, _++_}
 use Prim.Native.Nat.{ℕ, zero, suc, _+_, _*_, _/_, _%_, _<_, _≤_}
 use native.Mathlib.Nat.{add-zero, not-suc-le-zero, le-of-suc-le-suc}
-use native.Mathlib.Numerals.{add-one}
 use native.Mathlib.Omega.{arith}
 use lib.IntN.{ℤ, pos, natAbs}
-use lib.ListN.{length, getD, take, drop, length-append, length-drop}
+use lib.ListN.{length, getD, take, drop}
 use lib.Seq.{getD-drop, drop-cons, drop-drop, take-at, take-take}
 use Rattle.laws.specs.Over.{over}
 use Rattle.rules.specs.Network.{Term, LutNode, Input, Linear, Bootstrap, isLinear}
 use Rattle.rules.specs.NetworkText.{sources}
 use Rattle.rules.specs.Store.{needs, termsOf}
 use Rattle.lut.specs.Sums.{fine-at}
-use Rattle.lut.specs.View.{biased, unbiased, biased-back, biased-small, packed, padded, bytesOf, recordOf, recordAt, nodeOf, term, Fine, IsNode, byte-at, part-drop}
+use Rattle.lut.specs.View.{biased, unbiased, biased-back, packed, padded, bytesOf, recordOf, recordAt, nodeOf, term, Fine, IsNode, byte-at, part-drop}
 use Rattle.theorems.specs.Terms.{sources-length}
 
 -- 0 an input, 1 a sum, 2 a bootstrap

@@ -1,14 +1,14 @@
 -- A record written byte by byte.
-use mathlib.Core.Path.{_≡_, refl, sym, ap, ap₂, _∙_}
+use mathlib.Core.Path.{_≡_, refl, sym, ap, _∙_}
 use mathlib.Core.List.{List, [], _∷_, _++_, append-assoc}
-use Prim.Native.Nat.{ℕ, zero, suc, _+_, _*_, _/_, _%_, _<_, _≤_}
+use Prim.Native.Nat.{ℕ, suc, _+_, _*_, _/_, _%_, _<_, _≤_}
 use native.Mathlib.Numerals.{add-one}
 use native.Mathlib.Omega.{arith}
 use lib.IntN.{ℤ, pos}
-use lib.ListN.{length, getD, take, drop, set, replicate, length-append, length-replicate, take-append-drop, drop-of-length-le, length-take}
-use lib.Seq.{paste, paste-suc, drop-cons, set-at, take-at, take-all, take-length, drop-append-add, drop-drop, take-suc, length-take-le}
+use lib.ListN.{length, getD, take, drop, set, replicate, length-append, length-replicate}
+use lib.Seq.{paste, paste-suc, drop-cons, set-at, take-at, take-all, take-length, drop-append-add, drop-drop, length-take-le}
 use Rattle.laws.specs.Over.{over}
-use Rattle.rules.specs.Network.{Term, LutNode, Input, Linear, Bootstrap}
+use Rattle.rules.specs.Network.{Term, Input, Linear, Bootstrap}
 use Rattle.lut.specs.declared.Terms.{Terms}
 use Rattle.lut.specs.Sums.{in-length, in-take}
 use Rattle.lut.specs.View.{GoodTerms, termsIn, biased, packed, padded, bytesOf, recordOf, term, packed-length, padded-length}

@@ -1,22 +1,20 @@
 -- What is bootstrapped already, by its record.
-use mathlib.Core.Path.{_≡_, refl, sym, ap, _∙_}
+use mathlib.Core.Path.{_≡_, refl, _∙_}
 use mathlib.Core.Bool.{Bool, true, false, _||_}
-use mathlib.Core.List.{List, [], _∷_, _++_, map}
+use mathlib.Core.List.{List, [], _∷_, map}
 use Prim.Native.Nat.{ℕ, suc, _+_, _≤_, _<_}
-use native.Mathlib.Nat.{not-suc-le-zero, le-of-suc-le-suc}
 use native.Mathlib.Numerals.{add-one}
 use native.Mathlib.Omega.{arith}
 use lib.ListN.{length, getD, drop, drop-of-length-le}
 use lib.Seq.{drop-cons}
 use Rattle.laws.specs.Select.{any}
-use Rattle.laws.specs.Test.{zero≢one}
 use Rattle.rules.specs.CircuitText.{sameName}
 use Rattle.rules.specs.Network.{LutNode, Input, Linear, Bootstrap, bootSources}
 use Rattle.rules.specs.NetworkText.{nodeAt}
 use Rattle.rules.specs.Store.{sameNode, needs, bootstrapInputs, hasBootstrap}
 use Rattle.lut.specs.Nodes.{kindOf}
 use Rattle.lut.specs.Store.{IsRecord, same-here}
-use Rattle.lut.specs.View.{Fine, IsStore, nodeIn, nodeOf, recordAt, storeOf, at-store, store-length}
+use Rattle.lut.specs.View.{Fine, IsStore, nodeIn, nodeOf, recordAt, storeOf, at-store}
 
 -- a bootstrap of a node with this record
 unfoldable pub takesRecord : List ℕ → List ℕ → LutNode → Bool

@@ -8,17 +8,16 @@ use Prim.Native.Nat.{ℕ, suc, _+_, _≤_, _<_}
 use native.Mathlib.Omega.{arith}
 use borrow.Author.Tests.{lt-ltb, le-ltb}
 use lib.IntN.{natAbs}
-use lib.ListN.{length, getD, drop, List·getD-eq-default}
+use lib.ListN.{length, drop, List·getD-eq-default}
 use Rattle.laws.specs.Test.{if_then_else_, lt-or-le}
 use Rattle.rules.specs.Builder.{Entries, completion}
 use Rattle.rules.specs.CircuitText.{sameName}
-use Rattle.rules.specs.Network.{LutNode, Input, Linear, Bootstrap}
+use Rattle.rules.specs.Network.{LutNode, Linear, Bootstrap}
 use Rattle.rules.specs.NetworkText.{nodeAt}
 use Rattle.rules.specs.Store.{sameNode, numberOf, intern, linearTerms}
-use Rattle.theorems.specs.Interned.{number-here, number-on, number-end, number-new, node-self, node-is}
+use Rattle.theorems.specs.Interned.{number-here, number-on, number-end, number-new}
 use Rattle.theorems.specs.Completions.{completion-is}
 use Rattle.lut.specs.declared.Linked.{Linked}
-use Rattle.lut.specs.declared.Signal.{Signal}
 use Rattle.lut.specs.declared.Signal.the-variants as Signals
 use Rattle.lut.specs.declared.Terms.{Terms}
 use Rattle.lut.specs.Order.{Arranged}

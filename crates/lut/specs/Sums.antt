@@ -1,21 +1,21 @@
 -- The terms of a sum: as two arrays, as bytes, and in the order of their nodes.
 use mathlib.Core.Path.{_≡_, refl, sym, ap, ap₂, _∙_}
 use mathlib.Core.Bool.{Bool, true, false}
-use mathlib.Core.List.{List, [], _∷_, _++_, zipWith, append-assoc}
-use Prim.Native.Nat.{ℕ, zero, suc, _+_, _*_, _<_, _≤_}
+use mathlib.Core.List.{List, [], _∷_, _++_, zipWith}
+use Prim.Native.Nat.{ℕ, zero, suc, _+_, _<_, _≤_}
 use native.Mathlib.Nat.{not-suc-le-zero, le-of-suc-le-suc}
 use native.Mathlib.Numerals.{add-one}
 use native.Mathlib.Omega.{arith}
 use lib.Dec.{leb}
 use lib.IntN.{ℤ, pos, natAbs}
-use lib.ListN.{length, getD, take, drop, set, length-take, length-append, drop-of-length-le}
-use lib.Seq.{take-suc, take-take, take-suc-set, take-set-le, drop-cons, length-take-le, getD-take, getD-drop}
+use lib.ListN.{length, getD, take, drop, set}
+use lib.Seq.{take-suc, take-take, take-suc-set, drop-cons, length-take-le, getD-take}
 use mir.Facts.{toZ-ofZ}
 use mir.Syntax.{w64}
 use mir.Val.{toZ, ofZ}
 use Rattle.laws.specs.Integer.{fits-abs}
 use Rattle.laws.specs.Select.{select}
-use Rattle.laws.specs.Test.{if_then_else_, if-both}
+use Rattle.laws.specs.Test.{if_then_else_}
 use Rattle.rules.specs.Network.{Term}
 use Rattle.rules.specs.Store.{insert, sorted, isUsed, linearTerms}
 use Rattle.lut.specs.declared.Terms.{Terms}
@@ -91,11 +91,6 @@ unfolding FineTerms
 fine-at count [] i z f h = absurd (not-suc-le-zero h)
 fine-at count (t ∷ ts) zero z f h = (f .0, f .1)
 fine-at count (t ∷ ts) (suc i) z f h = fine-at count ts i z (f .2) (le-of-suc-le-suc h)
-
-pub fine-terms : (count : ℕ) (ts : List Term) (z : Term) → ((i : ℕ) → i < length ts → (natAbs (getD ts i z .coef) ≤ 31) × (getD ts i z .node < count)) → FineTerms count ts
-unfolding FineTerms
-fine-terms count [] z h = tt
-fine-terms count (t ∷ ts) z h = (h 0 (omega arith) .0, h 0 (omega arith) .1, fine-terms count ts z (λ i l. h (suc i) (omega arith)))
 
 -- ---- of the code's terms
 

@@ -1,16 +1,16 @@
 -- The node store's bytes, seen as the definition's nodes.
 use mathlib.Core.Path.{_≡_, refl, sym, ap, ap₂, subst, _∙_}
-use mathlib.Core.Bool.{Bool, true, false}
+use mathlib.Core.Bool.{true, false}
 use mathlib.Core.List.{List, [], _∷_, _++_, zipWith, append-assoc}
 use mathlib.Core.Logic.{⊎-elim}
 use Prim.Native.Nat.{ℕ, zero, suc, _+_, _*_, _/_, _%_, _<_, _≤_}
-use native.Mathlib.Nat.{not-suc-le-zero, le-of-suc-le-suc, suc-add, zero-add}
+use native.Mathlib.Nat.{suc-add, zero-add}
 use native.Mathlib.Numerals.{add-one}
 use native.Mathlib.Omega.{arith}
 use lib.Dec.{eqb}
 use lib.IntN.{ℤ, pos, natAbs, _+ℤ_, _-ℤ_}
-use lib.ListN.{length, getD, take, drop, replicate, length-take, length-drop, length-append, length-replicate}
-use lib.Seq.{paste, take-at, take-paste, drop-paste, length-paste, take-all, take-nil, take-take, take-append-le, drop-drop, length-take-le, drop-at, getD-take, getD-drop}
+use lib.ListN.{length, getD, take, drop, replicate}
+use lib.Seq.{paste, take-at, length-paste, take-all, take-nil, take-take, take-append-le, drop-cons, length-take-le, drop-at, getD-take, getD-drop}
 use Rattle.laws.specs.Integer.{ints, plus, minus, abs-parts, one-part-zero, add-parts, sub-parts}
 use Rattle.laws.specs.Over.{over, over-length}
 use Rattle.laws.specs.Tabulate.{tabulate, tabulate-length, tabulate-at, tabulate-same, tabulate-snoc}
@@ -198,6 +198,14 @@ module _ (bytes : List ℕ) (i : ℕ) where
 pub store-length : (bytes : List ℕ) (count : ℕ) → length (storeOf bytes count) ≡ count
 unfolding storeOf
 store-length bytes count = tabulate-length count (nodeOf bytes)
+
+pub store-from : (bytes : List ℕ) (count i : ℕ) → i < count → drop i (storeOf bytes count) ≡ nodeOf bytes i ∷ drop (i + 1) (storeOf bytes count)
+unfolding nodeAt
+store-from bytes count i h =
+    let l = store-length bytes count in
+    drop-cons (storeOf bytes count) i (Input []) (omega arith)
+    ∙ ap (λ n. n ∷ drop (suc i) (storeOf bytes count)) (at-store bytes i count h)
+    ∙ ap (λ k. nodeOf bytes i ∷ drop k (storeOf bytes count)) (sym (add-one i))
 
 pub is-node : (bytes : List ℕ) (count i : ℕ) → IsStore bytes count → i < count → IsNode bytes i
 is-node bytes count i s h = record { long = s .long; inside = omega (arith, s .most); fine = s .fine i h; kept = s .kept i h }

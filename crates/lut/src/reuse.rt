@@ -1,7 +1,7 @@
 // BootstrapLookup: whether a sum is bootstrapped already.
 ghost use mathlib.Core.Path.{_≡_};
 ghost use mathlib.Core.Bool.{true};
-ghost use Prim.Native.Nat.{_≤_, _<_};
+ghost use Prim.Native.Nat.{_<_};
 ghost use lib.ListN.{length};
 ghost use Rattle.rules.specs.Network.{Linear};
 ghost use Rattle.rules.specs.Store.{linearTerms, hasBootstrap};

@@ -2,17 +2,16 @@
 use mathlib.Core.Path.{_≡_, refl, sym, ap, subst, _∙_}
 use mathlib.Core.Bool.{Bool, true, false, _&&_, not}
 use mathlib.Core.List.{List, [], _∷_, _++_, map, append-nil}
-use mathlib.Core.Logic.{⊎-elim, inl, inr}
+use mathlib.Core.Logic.{inl, inr}
 use Prim.Native.Nat.{ℕ, zero, suc, _+_, _*_, _≤_, _<_}
 use native.Mathlib.Nat.{le-of-suc-le-suc}
 use native.Mathlib.Omega.{arith}
 use borrow.Author.Tests.{lt-ltb, le-ltb}
-use lib.ListN.{length, getD, take, drop, replicate, getD-replicate, length-replicate, drop-of-length-le, List·getD-eq-default}
+use lib.ListN.{length, getD, take, drop, drop-of-length-le}
 use lib.Seq.{length-take-le}
 use Rattle.laws.specs.Laid.{laid, laid-over}
 use Rattle.laws.specs.Over.{over, over-length}
 use Rattle.laws.specs.Tabulate.{tabulate, tabulate-length, tabulate-at}
-use Rattle.laws.specs.Test.{lt-or-le}
 use Rattle.rules.specs.declared.MapReply.the-variants as Reply
 use Rattle.rules.specs.declared.Policy.{Policy}
 use Rattle.rules.specs.declared.Settings.{Settings}
@@ -99,14 +98,6 @@ basic-over s b r n m e t q o = rw (sym e ∙ t) (o ∙ ap (limit.over (s .norm))
     twice : (c : Bool) → c ≡ not (not c)
     twice true = refl
     twice false = refl
-
--- ---- laws: nothing is marked at first
-
-pub zeros : (n i : ℕ) → _≡_ {A = ℕ} (getD (replicate n 0) i 0) 0
-zeros n i =
-    ⊎-elim (λ (h : i < n). getD-replicate {A = ℕ} n i 0 0 h)
-    (λ (h : n ≤ i). List·getD-eq-default {A = ℕ} (replicate n 0) 0 {n = i} (rw length-replicate h))
-    (lt-or-le i n)
 
 -- ---- laws: what an output names is kept
 

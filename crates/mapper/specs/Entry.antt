@@ -6,7 +6,7 @@ use mathlib.Core.Logic.{⊎-elim, inl, inr}
 use Prim.Native.Nat.{ℕ, _+_, _*_, _≤_, _<_}
 use native.Mathlib.Omega.{arith}
 use lib.ListN.{length, getD}
-use borrow.Author.Tests.{eq-eqb, ne-eqb, le-leb}
+use borrow.Author.Tests.{eq-eqb, ne-eqb}
 use Rattle.laws.specs.Tabulate.{tabulate, tabulate-length}
 use Rattle.laws.specs.Test.{lt-or-le, eq-or-ne}
 use Rattle.rules.specs.declared.MapReply.the-variants as Reply
@@ -18,20 +18,19 @@ use Rattle.rules.specs.Form as F
 use Rattle.rules.specs.Mapper.{Outputs, usedSettings, andThen, pruned, checked, start, finish, mapWith, mapCircuit, mapReply, answerWith, mapper}
 use Rattle.rules.specs.Network.{Network, Input}
 use Rattle.rules.specs.Outcome.{outcome}
-use Rattle.rules.specs.Runs.{allBits}
 use Rattle.mapped.specs.Proved.{mapped-fits}
 use Rattle.mapped.specs.Whole.{used-limits}
 use Rattle.circuit.specs.declared.Circuit.{Circuit}
 use Rattle.circuit.specs.declared.Reading.{Reading}
 use Rattle.circuit.specs.declared.Reading.the-variants.{Good, Refused}
-use Rattle.circuit.specs.Fits.{Fits, GateFits, read-fits}
-use Rattle.circuit.specs.View.{answersIn, gatesIn, inputName, inputNames, outputsIn, circuitOf, readingOf, Held}
+use Rattle.circuit.specs.Fits.{Fits, answer-bits, read-fits}
+use Rattle.circuit.specs.View.{gatesIn, inputName, inputNames, outputsIn, circuitOf, readingOf, Held}
 use Rattle.mapper.specs.declared.gates.Work.{Work}
 use Rattle.mapper.specs.Wired.{SlotIn, stateOf}
 use Rattle.mapper.specs.Gates.{GoodGates}
-use Rattle.mapper.specs.Outputs.{PortIn, GoodPorts}
+use Rattle.mapper.specs.Outputs.{PortIn, GoodPorts, Done}
 use Rattle.mapper.specs.Start.{Inputs, Started}
-use Rattle.mapper.specs.Once.{outputsAfter, mapOnce, doneRead, Done}
+use Rattle.mapper.specs.Once.{outputsAfter, mapOnce, doneRead}
 use Rattle.mapper.specs.Conclude.{concluded, Finishable}
 
 -- The arrays and the counts are what the text says.
@@ -49,14 +48,6 @@ slot-in n slot h k = ⊎-elim (λ (l : slot < 128). inl (k l)) (λ (l : 128 ≤ 
 
 port-in : (n wire : ℕ) → wire ≤ 1001 → (wire < 1000 → wire < n) → PortIn n wire
 port-in n wire h k = ⊎-elim (λ (l : wire < 1000). inl (k l)) (λ (l : 1000 ≤ wire). inr (l, h)) (lt-or-le wire 1000)
-
-answers-bits : (gs : List ℕ) (n i : ℕ) → GateFits gs n i → allBits (answersIn gs i) ≡ true
-unfolding answersIn allBits
-answers-bits gs n i f =
-    ⊎-elim (λ (e : getD gs (6 * i + 1) 0 ≡ 255). rw (eq-eqb (getD gs (6 * i + 1) 0) 255 e, le-leb _ 1 (f .answer0), le-leb _ 1 (f .answer1)) refl)
-    (λ (e : getD gs (6 * i + 1) 0 ≡ 255 → ⊥).
-    rw (ne-eqb (getD gs (6 * i + 1) 0) 255 e, le-leb _ 1 (f .answer0), le-leb _ 1 (f .answer1), le-leb _ 1 (f .answer2 e), le-leb _ 1 (f .answer3 e)) refl)
-    (eq-or-ne (getD gs (6 * i + 1) 0) 255)
 
 module _ (s gs ps : List ℕ) (c : Circuit) (r : Read s gs ps c) where
   fits : Fits s gs ps c
@@ -82,7 +73,7 @@ module _ (s gs ps : List ℕ) (c : Circuit) (r : Read s gs ps c) where
               few = omega arith;
               first = slot-in (c .inputs + i) _ (g .first) (g .firstEarlier);
               second = ⊎-elim (λ (e : getD gs (6 * i + 1) 0 ≡ 255). inl e) (λ (e : getD gs (6 * i + 1) 0 ≡ 255 → ⊥). inr (slot-in (c .inputs + i) _ (g .second e) (g .secondEarlier))) (eq-or-ne (getD gs (6 * i + 1) 0) 255);
-              bits = answers-bits gs (c .inputs) i g;
+              bits = answer-bits gs (c .inputs) i g;
             };
       }
 

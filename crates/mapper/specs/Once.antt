@@ -1,11 +1,10 @@
 -- The gates, then the outputs: what is left in the store and in the ports.
 use mathlib.Core.Path.{_≡_, refl, sym, ap, _∙_}
 use mathlib.Core.List.{List, []}
-use mathlib.Core.Logic.{⊎-elim, _≢_}
-use Prim.Native.Nat.{ℕ, _+_, _*_, _≤_, _<_}
+use mathlib.Core.Logic.{⊎-elim}
+use Prim.Native.Nat.{ℕ, _+_, _*_, _≤_}
 use native.Mathlib.Omega.{arith}
 use lib.Dec.{eqb}
-use lib.ListN.{getD}
 use borrow.Author.Tests.{eq-eqb, ne-eqb}
 use Rattle.laws.specs.Test.{if_then_else_, eq-or-ne}
 use Rattle.rules.specs.declared.Settings.{Settings}
@@ -13,12 +12,12 @@ use Rattle.rules.specs.Circuit.{Gate, Output}
 use Rattle.rules.specs.Form.{Reading, Good, Refused}
 use Rattle.rules.specs.Mapper.{State, Outputs, atLine, andThen, mapGates, mapOutputs}
 use Rattle.circuit.specs.View.{outputsIn}
-use Rattle.lut.specs.View.{storeOf, IsStore}
+use Rattle.lut.specs.View.{storeOf}
 use Rattle.mapper.specs.declared.gates.Work.{Work}
 use Rattle.mapper.specs.View.{conesIn}
 use Rattle.mapper.specs.Wired.{stateOf}
 use Rattle.mapper.specs.Gates.{stateRead, read-ok, read-err}
-use Rattle.mapper.specs.Outputs.{GoodPorts, started, outputsRead, Outs}
+use Rattle.mapper.specs.Outputs.{started, outputsRead, Done}
 
 -- The outputs in turn, after the gates.
 unfoldable pub outputsAfter : Settings → List Output → State → Reading Outputs
@@ -30,12 +29,6 @@ mapOnce s outputs st gates = andThen (mapGates s outputs st gates) (outputsAfter
 unfoldable pub doneRead : List ℕ → List ℕ → List ℕ → ℕ → Work → Reading Outputs
 doneRead text nodes ports outs w =
     if eqb (w .number) 0 then Good (record { nodes = storeOf nodes (w .count); outputs = outputsIn text ports outs }) else Refused (w .number) (w .line)
-
--- Only the outputs' wires have changed, and they are nodes or constants.
-pub record Done (before : List ℕ) (outs : ℕ) (nodes ports : List ℕ) (w : Work) : Type 0 where
-  pub store : w .number ≡ 0 → IsStore nodes (w .count)
-  pub good : w .number ≡ 0 → GoodPorts ports (w .count) outs
-  pub kept : (j : ℕ) → ((i : ℕ) → i < outs → j ≢ 64 + 3 * i + 2) → getD ports j 0 ≡ getD before j 0
 
 -- ---- laws
 
@@ -67,9 +60,6 @@ module _ (s : Settings) (outputs : List Output) (st : State) (gates : List Gate)
 -- a gate's refusal leaves the ports
 pub done-none : (ports : List ℕ) (outs : ℕ) (nodes : List ℕ) (w : Work) → (w .number ≡ 0 → ⊥) → Done ports outs nodes ports w
 done-none ports outs nodes w e = record { store = λ z. absurd (e z); good = λ z. absurd (e z); kept = λ j never. refl }
-
-pub done-by : (before : List ℕ) (count outs : ℕ) (nodes ports : List ℕ) (w : Work) → Outs before count outs nodes ports w → Done before outs nodes ports w
-done-by before count outs nodes ports w o = record { store = o .store; good = o .good; kept = o .kept }
 
 -- six nodes a gate and two an output are no more than the store's room
 pub room-left : (inputs n count outs : ℕ) → inputs ≤ 32 → n ≤ 96 → outs ≤ 32 → count ≤ inputs + 6 * n → count + 2 * outs ≤ 672

@@ -70,14 +70,18 @@ unfoldable pub outputsRead : List ℕ → List ℕ → List ℕ → ℕ → Work
 outputsRead text nodes ports outs w =
     if eqb (w .number) 0 then ok (record { nodes = storeOf nodes (w .count); outputs = outputsIn text ports outs }) else err (w .number)
 
--- Only the outputs' wires have changed, and they are nodes or constants; a refusal has line 0.
-pub record Outs (before : List ℕ) (count outs : ℕ) (nodes ports : List ℕ) (w : Work) : Type 0 where
+-- Only the outputs' wires have changed, and they are nodes or constants.
+pub record Done (before : List ℕ) (outs : ℕ) (nodes ports : List ℕ) (w : Work) : Type 0 where
   pub store : w .number ≡ 0 → IsStore nodes (w .count)
+  pub good : w .number ≡ 0 → GoodPorts ports (w .count) outs
+  pub kept : (j : ℕ) → ((i : ℕ) → i < outs → j ≢ 64 + 3 * i + 2) → getD ports j 0 ≡ getD before j 0
+
+-- The same with at most two nodes more an output; a refusal has line 0.
+pub record Outs (before : List ℕ) (count outs : ℕ) (nodes ports : List ℕ) (w : Work) : Type 0 where
+  pub done : Done before outs nodes ports w
   pub least : w .number ≡ 0 → count ≤ w .count
   pub most : w .number ≡ 0 → w .count ≤ count + 2 * outs
-  pub good : w .number ≡ 0 → GoodPorts ports (w .count) outs
   pub line : w .line ≡ 0
-  pub kept : (j : ℕ) → ((i : ℕ) → i < outs → j ≢ 64 + 3 * i + 2) → getD ports j 0 ≡ getD before j 0
 
 -- The sum of one term: 1 less the node.
 pub record Negated (node : ℕ) (t : Terms) : Type 0 where

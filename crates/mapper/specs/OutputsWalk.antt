@@ -176,22 +176,22 @@ pub outs-none : (before : List ℕ) (count outs k i : ℕ) (nodes ports : List �
     → v .line ≡ 0 → Outs before count outs nodes ports v
 outs-none before count outs k i nodes ports v w h e no-line =
     record {
-      store = λ z. absurd (e z);
+      done = record { store = λ z. absurd (e z); good = λ z. absurd (e z); kept = λ j never. w .others j (λ m l. never m (omega arith)) };
       least = λ z. absurd (e z);
       most = λ z. absurd (e z);
-      good = λ z. absurd (e z);
       line = no-line;
-      kept = λ j never. w .others j (λ m l. never m (omega arith));
     }
 
 pub outs-done : (before : List ℕ) (count outs k i : ℕ) (nodes ports : List ℕ) (v : Work) → Written before k i ports → outs ≤ i → i ≤ outs → outs ≤ 32 → IsStore nodes k → count ≤ k
     → k ≤ count + 2 * i → v .count ≡ k → v .line ≡ 0 → Outs before count outs nodes ports v
 outs-done before count outs k i nodes ports v w a b few is least most q no-line =
     record {
-      store = λ z. subst (IsStore nodes) (sym q) is;
+      done = record {
+        store = λ z. subst (IsStore nodes) (sym q) is;
+        good = λ z. subst (λ n. GoodPorts ports n outs) (sym q) (record { long = w .long; few = few; wires = λ j l. w .done j (omega arith) });
+        kept = λ j never. w .others j (λ m l. never m (omega arith));
+      };
       least = λ z. omega arith;
       most = λ z. omega arith;
-      good = λ z. subst (λ n. GoodPorts ports n outs) (sym q) (record { long = w .long; few = few; wires = λ j l. w .done j (omega arith) });
       line = no-line;
-      kept = λ j never. w .others j (λ m l. never m (omega arith));
     }

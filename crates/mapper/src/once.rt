@@ -11,8 +11,8 @@ ghost use Rattle.rules.specs.CircuitText.{inLimits};
 ghost use Rattle.circuit.specs.View.{gatesIn, outputsIn};
 ghost use Rattle.mapper.specs.Wired.{Wired, stateOf};
 ghost use Rattle.mapper.specs.Gates.{GoodGates};
-ghost use Rattle.mapper.specs.Outputs.{GoodPorts};
-ghost use Rattle.mapper.specs.Once.{mapOnce, doneRead, Done};
+ghost use Rattle.mapper.specs.Outputs.{GoodPorts, Done};
+ghost use Rattle.mapper.specs.Once.{mapOnce, doneRead};
 
 // Asks that the inputs are the first nodes, each in its slot.
 pub fn map_once(

@@ -6,7 +6,7 @@ use mathlib.Core.Option.{Option·map}
 use Prim.Native.Nat.{ℕ, zero, suc, _+_, _*_, _<_, _≤_}
 use native.Mathlib.Nat.{not-suc-le-zero, le-of-suc-le-suc}
 use native.Mathlib.Omega.{arith}
-use borrow.Author.Tests.{lt-ltb, le-ltb, leb-false, not-false}
+use borrow.Author.Tests.{le-ltb, leb-false, not-false}
 use lib.Dec.{leb}
 use lib.IntN.{ℤ, pos}
 use lib.ListN.{length, getD}
@@ -19,6 +19,7 @@ use Rattle.rules.specs.NetworkText.{nodeAt, sources, unknown, anyBadSource, rea
 use Rattle.rules.specs.Outcome.{written, refused}
 use Rattle.rules.specs.Runs.{RunOutcome, Numbered, NotBits, NoRoom, BreakOff, ran, bitsFor, withValues, runOn, runNetworkOn, runNetwork}
 use Rattle.rules.specs.Store.{termsOf}
+use Rattle.bits.specs.Bits.{bad-bits, short-buffer}
 use Rattle.lut.specs.View.{nodeOf, storeOf, term, at-store, store-length, IsStore}
 use Rattle.network.specs.View.{outputsOf, networkOf, readingOf, Sound, IsSignal, Holds, Held}
 use Rattle.network.specs.declared.Header.{Header}
@@ -101,16 +102,14 @@ module _ (nodes ports : List ℕ) (h : Header) (bits : List ℕ) (buffer : List 
 
   module _ (s : List ℕ) (b : Bool) (f : b ≡ bitsFor (h .inputs) bits) where
     pub run-bad-bits : not b ≡ true → ran NotBits buffer ≡ answer s
-    unfolding runOn
-    run-bad-bits k = sym (opened s ∙ rw (ap not (sym f) ∙ k))
+    run-bad-bits k = bad-bits _ _ bits buffer _ f k ∙ sym (opened s)
 
     module _ (k : not b ≡ false) where
       given : bitsFor (h .inputs) bits ≡ true
       given = sym f ∙ not-false b k
 
       pub run-short : length buffer < h .outputs → ran NoRoom buffer ≡ answer s
-      unfolding runOn
-      run-short l = sym (opened s ∙ rw (given, lt-ltb (length buffer) (h .outputs) l))
+      run-short l = short-buffer _ _ bits buffer _ f k l ∙ sym (opened s)
 
       module _ (l : h .outputs ≤ length buffer) (o : Bool) (found : List ℤ) (e : valuesIn o found (h .count) ≡ nodeValues (h .p) bits [] (storeOf nodes (h .count))) where
         pub run-broken : o ≡ false → ran BreakOff buffer ≡ answer s

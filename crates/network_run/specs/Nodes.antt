@@ -4,12 +4,12 @@ use mathlib.Core.Bool.{Bool, true, false, _&&_, true≢false}
 use mathlib.Core.List.{List, [], _∷_, _++_}
 use mathlib.Core.Logic.{⊎-elim}
 use mathlib.Core.Option.{Option, none, some}
-use Prim.Native.Nat.{ℕ, suc, _+_, _<_, _≤_}
+use Prim.Native.Nat.{ℕ, _+_, _<_, _≤_}
 use native.Mathlib.Numerals.{add-one}
 use native.Mathlib.Omega.{arith}
 use lib.IntN.{ℤ, pos, natAbs}
 use lib.ListN.{length, getD, set, take, drop, length-set, drop-of-length-le}
-use lib.Seq.{drop-cons, take-suc-set, getD-set-same, getD-set-other}
+use lib.Seq.{take-suc-set, getD-set-same, getD-set-other}
 use Rattle.laws.specs.Select.{all, all-at}
 use Rattle.laws.specs.Test.{eq-or-ne}
 use Rattle.rules.specs.Network.{LutNode, Input, isLinear, nodeValue, nodeValues, withValue}
@@ -17,7 +17,7 @@ use Rattle.rules.specs.NetworkText.{nodeAt}
 use Rattle.rules.specs.Store.{termsOf}
 use Rattle.lut.specs.Forms.{terms-need}
 use Rattle.lut.specs.Nodes.{source-before}
-use Rattle.lut.specs.View.{nodeOf, storeOf, term, IsStore, is-node, at-store, store-length}
+use Rattle.lut.specs.View.{nodeOf, storeOf, term, IsStore, is-node, at-store, store-length, store-from}
 use Rattle.network_run.specs.Value.{turns, valueAt, value-is, value-none, Before}
 
 -- No `lin` on a `lin`.
@@ -50,21 +50,13 @@ unfolding turnsFrom
 turns-start P ns = refl
 
 module _ (P : ℕ) (bytes : List ℕ) (count i : ℕ) where
-  store-from : i < count → drop i (storeOf bytes count) ≡ nodeOf bytes i ∷ drop (i + 1) (storeOf bytes count)
-  unfolding nodeAt
-  store-from h =
-      let l = store-length bytes count in
-      drop-cons (storeOf bytes count) i (Input []) (omega arith)
-      ∙ ap (λ n. n ∷ drop (suc i) (storeOf bytes count)) (at-store bytes i count h)
-      ∙ ap (λ k. nodeOf bytes i ∷ drop k (storeOf bytes count)) (sym (add-one i))
-
   pub turns-next : i < count → turns P (nodeOf bytes i) ≡ true → turnsFrom P (storeOf bytes count) i ≡ turnsFrom P (storeOf bytes count) (i + 1)
   unfolding turnsFrom all
-  turns-next h e = rw (store-from h, e)
+  turns-next h e = rw (store-from bytes count i h, e)
 
   pub turns-not : i < count → turns P (nodeOf bytes i) ≡ false → turnsFrom P (storeOf bytes count) i ≡ false
   unfolding turnsFrom all
-  turns-not h e = rw (store-from h, e)
+  turns-not h e = rw (store-from bytes count i h, e)
 
   pub turns-end : count ≤ i → turnsFrom P (storeOf bytes count) i ≡ true
   unfolding turnsFrom all
@@ -117,7 +109,7 @@ module _ {bits bytes : List ℕ} {count : ℕ} {values : List ℤ} {i : ℕ} (s 
         let l = s .most in
         let m = r .long in
         let q : turns P (nodeOf bytes i) ≡ true = ap (turns P) (sym (at-store bytes i count h)) ∙ all-at (turns P) (storeOf bytes count) (Input []) t i (omega (arith, store-length bytes count)) in
-        r .same P t ∙ ap (nodeValues P bits (take i values)) (store-from P bytes count i h)
+        r .same P t ∙ ap (nodeValues P bits (take i values)) (store-from bytes count i h)
         ∙ ap (λ x. withValue x (λ v. nodeValues P bits (take i values ++ (v ∷ [])) (drop (i + 1) (storeOf bytes count)))) (value-is P bits values i (nodeOf bytes i) q (s .fine i h) (omega arith) ∙ sym e)
 
     pub running-broken : (vs : List ℤ) → o ≡ none → (P : ℕ) → all (turns P) (storeOf bytes count) ≡ true → valuesIn false vs count ≡ nodeValues P bits [] (storeOf bytes count)

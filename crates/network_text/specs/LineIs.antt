@@ -85,6 +85,10 @@ no-line : (l : List ℕ) {o : Option NetworkLine} → networkLine l ≡ o → o 
 unfolding goodLine
 no-line l e f = sym (ap goodLine (e ∙ f))
 
+-- nor one that goes on behind a form
+pub open-is : {l : List ℕ} (v : NetworkLine) {end : ℕ} {r : Read} → networkLine l ≡ ended v (drop end l) → end ≤ length l → (end ≡ length l → ⊥) → r ≡ plainRead Bad → LineRead l r
+open-is {l} v {end} e h k q = bad-line l q (no-line l e (open-line l v end h k))
+
 -- ---- `net`
 
 -- Within the limits P and M are read as they are.
@@ -100,8 +104,11 @@ same-net w t =
     ap₂ (λ (a b : ℕ). record { p = a; m = b; norm = w .norm }) x y
 
 module _ {l : List ℕ} {p m : ℕ} {n : Limit} {end : ℕ} (h : NetIs l p m n end) where
-  net : (w : Net) × (netLine l ≡ some (record { value = w; rest = drop end l })) × (record { p = p; m = m; norm = n } ≡ capNet w)
+  pub net : (w : Net) × (netLine l ≡ some (record { value = w; rest = drop end l })) × (record { p = p; m = m; norm = n } ≡ capNet w)
   net = exact-some capNet (netLine l) (h .piece)
+
+  pub net-line : networkLine l ≡ ended (NetLine (net .0)) (drop end l)
+  net-line = line-net l (net .1)
 
   limits : tableLimits p m ≡ tableLimits (net .0 .p) (net .0 .m)
   unfolding capNet
@@ -109,15 +116,12 @@ module _ {l : List ℕ} {p m : ℕ} {n : Limit} {end : ℕ} (h : NetIs l p m n e
       let x = net in
       ap₂ tableLimits (ap (λ (w : Net). w .p) (x .2)) (ap (λ (w : Net). w .m) (x .2)) ∙ cap-table (x .0 .p) (x .0 .m)
 
-  pub net-open : {r : Read} → (end ≡ length l → ⊥) → r ≡ plainRead Bad → LineRead l r
-  net-open k e = let x = net in bad-line l e (no-line l (line-net l (x .1)) (open-line l (NetLine (x .0)) end (h .inside) k))
-
   pub net-outside : {r : Read} {b : Bool} → end ≡ length l → b ≡ tableLimits p m → b ≡ false → r ≡ plainRead Bad → LineRead l r
   unfolding goodLine goodForm
   net-outside k t f e =
       let x = net in
       let q : tableLimits (x .0 .p) (x .0 .m) ≡ false = sym (t ∙ limits) ∙ f in
-      bad-line l e (sym (ap goodLine (line-net l (x .1) ∙ whole-line l (NetLine (x .0)) end (h .inside) k) ∙ rw q))
+      bad-line l e (sym (ap goodLine (net-line ∙ whole-line l (NetLine (x .0)) end (h .inside) k) ∙ rw q))
 
   pub net-is : {r : Read} {b : Bool} → end ≡ length l → b ≡ tableLimits p m → b ≡ true → r ≡ plainRead (NetRead p m n) → LineRead l r
   unfolding goodLine goodForm plainRead lineOf lineIn
@@ -127,7 +131,7 @@ module _ {l : List ℕ} {p m : ℕ} {n : Limit} {end : ℕ} (h : NetIs l p m n e
       let o : x .0 ≡ record { p = p; m = m; norm = n } = same-net (x .0) q ∙ sym (x .2) in
       rw e
       (record {
-        same = ap (λ w. some (NetLine w)) (sym o) ∙ sym (ap goodLine (line-net l (x .1) ∙ whole-line l (NetLine (x .0)) end (h .inside) k) ∙ rw q);
+        same = ap (λ w. some (NetLine w)) (sym o) ∙ sym (ap goodLine (net-line ∙ whole-line l (NetLine (x .0)) end (h .inside) k) ∙ rw q);
         small = small-none (pos 0) (omega arith);
         within = tt;
       })
@@ -135,15 +139,15 @@ module _ {l : List ℕ} {p m : ℕ} {n : Limit} {end : ℕ} (h : NetIs l p m n e
 -- ---- `in`
 
 module _ {l : List ℕ} {a e end : ℕ} (h : InIs l a e end) where
-  pub in-open : {r : Read} → (end ≡ length l → ⊥) → r ≡ plainRead Bad → LineRead l r
-  in-open k q = bad-line l q (no-line l (line-in l (h .no-net) (h .piece)) (open-line l (NodeLine (Input (take (e - a) (drop a l)))) end (h .inside) k))
+  pub in-line : networkLine l ≡ ended (NodeLine (Input (take (e - a) (drop a l)))) (drop end l)
+  in-line = line-in l (h .no-net) (h .piece)
 
   pub in-is : {r : Read} → end ≡ length l → r ≡ plainRead (In a e) → LineRead l r
   unfolding goodLine goodForm plainRead lineOf lineIn
   in-is k q =
       rw q
       (record {
-        same = sym (ap goodLine (line-in l (h .no-net) (h .piece) ∙ whole-line l (NodeLine (Input (take (e - a) (drop a l)))) end (h .inside) k));
+        same = sym (ap goodLine (in-line ∙ whole-line l (NodeLine (Input (take (e - a) (drop a l)))) end (h .inside) k));
         small = small-none (pos 0) (omega arith);
         within = h .named;
       })
@@ -175,11 +179,11 @@ good-boot (Bootstrap j b) i table k e f =
     rw (← e, ← x, f)
 
 module _ {l : List ℕ} {i a e end : ℕ} (h : BootIs l i a e end) where
-  boot : (w : LutNode) × (bootLine l ≡ some (record { value = w; rest = drop end l })) × (Bootstrap i (bitsFrom (take (e - a) (drop a l))) ≡ capBoot w)
+  pub boot : (w : LutNode) × (bootLine l ≡ some (record { value = w; rest = drop end l })) × (Bootstrap i (bitsFrom (take (e - a) (drop a l))) ≡ capBoot w)
   boot = exact-some capBoot (bootLine l) (h .piece)
 
-  pub boot-open : {r : Read} → (end ≡ length l → ⊥) → r ≡ plainRead Bad → LineRead l r
-  boot-open k q = let x = boot in bad-line l q (no-line l (line-boot l (h .no-net) (h .no-in) (h .no-lin) (x .1)) (open-line l (NodeLine (x .0)) end (h .inside) k))
+  pub boot-line : networkLine l ≡ ended (NodeLine (boot .0)) (drop end l)
+  boot-line = line-boot l (h .no-net) (h .no-in) (h .no-lin) (boot .1)
 
   -- the node that is meant, with the same bits
   meant : goodForm (NodeLine (boot .0)) ≡ (if leb (e - a) 32 then some (NodeLine (Bootstrap i (bitsFrom (take (e - a) (drop a l))))) else none)
@@ -187,7 +191,7 @@ module _ {l : List ℕ} {i a e end : ℕ} (h : BootIs l i a e end) where
 
   known : end ≡ length l → goodLine (networkLine l) ≡ (if leb (e - a) 32 then some (NodeLine (Bootstrap i (bitsFrom (take (e - a) (drop a l))))) else none)
   unfolding goodLine
-  known k = let x = boot in ap goodLine (line-boot l (h .no-net) (h .no-in) (h .no-lin) (x .1) ∙ whole-line l (NodeLine (x .0)) end (h .inside) k) ∙ meant
+  known k = ap goodLine (boot-line ∙ whole-line l (NodeLine (boot .0)) end (h .inside) k) ∙ meant
 
   pub boot-long : {r : Read} → end ≡ length l → 32 < e - a → r ≡ plainRead Bad → LineRead l r
   boot-long k f q = bad-line l q (sym (known k ∙ rw (lt-leb (e - a) 32 f)))
@@ -206,12 +210,11 @@ module _ {l : List ℕ} {i a e end : ℕ} (h : BootIs l i a e end) where
 -- ---- `out`
 
 module _ {l : List ℕ} {a e : ℕ} {w : Wire} {end : ℕ} (h : OutIs l a e w end) where
-  out : (o : Output) × (outLine l ≡ some (record { value = o; rest = drop end l })) × (record { name = take (e - a) (drop a l); wire = w } ≡ capOutput o)
+  pub out : (o : Output) × (outLine l ≡ some (record { value = o; rest = drop end l })) × (record { name = take (e - a) (drop a l); wire = w } ≡ capOutput o)
   out = exact-some capOutput (outLine l) (h .piece)
 
-  pub out-open : {r : Read} → (end ≡ length l → ⊥) → r ≡ plainRead Bad → LineRead l r
-  out-open k q =
-      let x = out in bad-line l q (no-line l (line-out l (h .no-net) (h .no-in) (h .no-lin) (h .no-boot) (x .1)) (open-line l (OutLine (x .0)) end (h .inside) k))
+  pub out-line : networkLine l ≡ ended (OutLine (out .0)) (drop end l)
+  out-line = line-out l (h .no-net) (h .no-in) (h .no-lin) (h .no-boot) (out .1)
 
   pub out-is : {r : Read} → end ≡ length l → r ≡ plainRead (Out a e w) → LineRead l r
   unfolding goodLine goodForm plainRead lineOf lineIn
@@ -220,7 +223,7 @@ module _ {l : List ℕ} {a e : ℕ} {w : Wire} {end : ℕ} (h : OutIs l a e w en
       rw q
       (record {
         same = ap (λ o. some (OutLine o)) (x .2)
-            ∙ sym (ap goodLine (line-out l (h .no-net) (h .no-in) (h .no-lin) (h .no-boot) (x .1) ∙ whole-line l (OutLine (x .0)) end (h .inside) k));
+            ∙ sym (ap goodLine (out-line ∙ whole-line l (OutLine (x .0)) end (h .inside) k));
         small = small-none (pos 0) (omega arith);
         within = h .named;
       })

@@ -1,10 +1,10 @@
 -- A `lin` line behind its first word: the sum that it is, if it is a good one.
 use mathlib.Core.Path.{_≡_, refl, sym, ap, ap₂, subst, _∙_}
-use mathlib.Core.Bool.{Bool, true, false, _&&_, not, and-false, true≢false}
+use mathlib.Core.Bool.{Bool, true, false, _&&_, and-false, true≢false}
 use mathlib.Core.List.{List, [], _∷_, _++_}
 use mathlib.Core.Logic.{⊎-elim}
-use mathlib.Core.Option.{Option, none, some, Option·some-injective, Option·none-ne-some}
-use Prim.Native.Nat.{ℕ, zero, suc, _+_, _-_, _<_, _≤_, min}
+use mathlib.Core.Option.{Option, none, some, Option·some-injective}
+use Prim.Native.Nat.{ℕ, _+_, _-_, _<_, _≤_, min}
 use native.Mathlib.Omega.{arith}
 use borrow.Author.Tests.{eq-eqb, ne-eqb, le-leb, lt-leb}
 use lib.Dec.{leb, eqb, leb→le}
@@ -16,7 +16,7 @@ use Rattle.laws.specs.Test.{if_then_else_, isSome, is-T, lt-or-le, eq-or-ne}
 use Rattle.rules.specs.Form.{Piece, Reader, give, onward, only, _>>=_, _>>_, word, exactly, bytes, many, signed}
 use Rattle.rules.specs.Network.{Term, LutNode, Linear}
 use Rattle.rules.specs.NetworkText.{NetworkLine, NodeLine, small, goodTerms, goodSum, sources, allDifferent}
-use Rattle.text.specs.Chain.{step, stop}
+use Rattle.text.specs.Chain.{stop}
 use Rattle.forms.specs.Signed.{capSigned, signedTaken, signedEnd, cap-abs, cap-exact, cap-back}
 use Rattle.forms.specs.declared.Signed.{Signed}
 use Rattle.forms.specs.declared.Signed.the-variants.{At as Value, Nothing}

@@ -1,9 +1,9 @@
 -- A term as it is read: a space and `(COEF ID)`.
-use mathlib.Core.Path.{_≡_, refl, sym, ap, subst, _∙_}
+use mathlib.Core.Path.{_≡_, ap}
 use mathlib.Core.Bool.{Bool, true, false}
 use mathlib.Core.List.{List}
 use mathlib.Core.Option.{Option, none, some}
-use Prim.Native.Nat.{ℕ, _+_, _-_, _<_, _≤_, min}
+use Prim.Native.Nat.{ℕ, _-_, _≤_, min}
 use native.Mathlib.Omega.{arith}
 use lib.Dec.{eqb}
 use lib.IntN.{ℤ, pos, negℤ}
@@ -11,7 +11,7 @@ use lib.ListN.{length, take, drop}
 use mir.Syntax.{w64}
 use mir.Val.{toZ, ofZ}
 use Rattle.laws.specs.Test.{if_then_else_}
-use Rattle.rules.specs.Form.{Piece, Reader, give, _>>=_, _>>_, word, number, below, signed}
+use Rattle.rules.specs.Form.{Piece, Reader, give, _>>_, word, number, below, signed}
 use Rattle.rules.specs.Network.{Term}
 use Rattle.rules.specs.NetworkText.{term}
 use Rattle.text.specs.Capped.{capped, capped-none}

@@ -1,5 +1,5 @@
 -- The energy of a scale pair by three moments of the rows (EnergyMoments in the Rust).
-use mathlib.Core.Path.{_≡_, refl, sym, ap, ap₂, subst, _∙_}
+use mathlib.Core.Path.{_≡_, refl, sym, ap, ap₂, _∙_}
 use mathlib.Core.List.{List, [], _∷_, zipWith}
 use Prim.Native.Nat.{ℕ, suc, _+_, _*_, _<_, _≤_}
 use native.Mathlib.Nat.{mul-le-mul}
@@ -12,10 +12,9 @@ use Rattle.rules.specs.Scale.{divisor, normalised}
 use Rattle.rules.specs.Cone.{linearTable, energy}
 use Rattle.scale.specs.Divisor.{divisor-not-zero}
 use Rattle.theorems.specs.ConeValues.{linearTable-length}
-use Rattle.scale.specs.Limits.{Within}
 use Rattle.search.specs.MergedIntegers.{mul-add, add-mul, quot-of}
 use Rattle.search.specs.MergedValues.{combined, times, table-combined, table-times-divisor}
-use Rattle.search.specs.RowsCompacted.{sumOver, Compacted}
+use Rattle.search.specs.RowsCompacted.{sumOver}
 
 -- What the moments add up.
 unfoldable pub xxOf : ℤ → ℤ → ℤ
@@ -133,13 +132,3 @@ sum-small f k [] ys e h = omega arith
 sum-small f k (x ∷ xs) [] e h = absurd (omega arith)
 sum-small f k (x ∷ xs) (y ∷ ys) e h =
     omega (arith, abs-add (f x y) (sumOver f xs ys), h 0 (omega arith), sum-small f k xs ys (omega arith) (λ i l. h (suc i) (omega arith)))
-
--- ---- The moments that rows with counts have.
-
-module _ (X Y : List ℤ) (T : List ℕ) (xs ys : List ℤ) (ts counts : List ℕ) (c : Compacted X Y T xs ys ts counts) where
-  -- no value is larger than the largest of all rows
-  pub compacted-left : (k : ℕ) → Within k X → (i : ℕ) → i < length xs → natAbs (getD xs i (pos 0)) ≤ k
-  compacted-left k w i h = let r = c .comes i h in subst (λ v. natAbs v ≤ k) (r .left) (w (r .at))
-
-  pub compacted-right : (k : ℕ) → Within k Y → (i : ℕ) → i < length xs → natAbs (getD ys i (pos 0)) ≤ k
-  compacted-right k w i h = let r = c .comes i h in subst (λ v. natAbs v ≤ k) (r .right) (w (r .at))

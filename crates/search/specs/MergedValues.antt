@@ -4,11 +4,11 @@ use mathlib.Core.List.{List, [], _∷_, _++_, map, zipWith}
 use Prim.Native.Nat.{ℕ, suc, _+_, _<_}
 use native.Mathlib.Omega.{arith}
 use lib.IntN.{ℤ, pos, natAbs, _+ℤ_, _*ℤ_, zero-*ℤ}
-use lib.ListN.{length, getD, length-map}
+use lib.ListN.{length, getD}
 use lib.Signed.{quotZ}
 use Rattle.laws.specs.Integer.{ints, plus, minus, add-parts, plus-mul, minus-mul}
 use Rattle.rules.specs.Scale.{divisor, quotients, normalised}
-use Rattle.rules.specs.Cone.{Cone, linearTable, values}
+use Rattle.rules.specs.Cone.{Cone, linearTable}
 use Rattle.rules.specs.Store.{terms, coefficientOf}
 use Rattle.rules.specs.Composition.{Scales, mergedCoefficients}
 use Rattle.scale.specs.Divisor.{divisor-not-zero, normalised-exact}

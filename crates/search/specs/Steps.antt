@@ -1,7 +1,7 @@
 -- A step of the search: a pair that is no candidate, one whose rows clash, and one that is considered.
 use mathlib.Core.Path.{_≡_, refl, sym, ap, ap₂, subst, _∙_}
 use mathlib.Core.Bool.{true, false, true≢false}
-use mathlib.Core.List.{List, [], _∷_, _++_, map}
+use mathlib.Core.List.{List, [], _∷_}
 use mathlib.Core.Logic.{⊎-elim}
 use mathlib.Core.Option.{none, some}
 use Prim.Native.Nat.{ℕ, zero, suc, _+_, _≤_, _<_}
@@ -9,7 +9,7 @@ use native.Mathlib.Nat.{le-of-dvd}
 use native.Mathlib.Omega.{arith}
 use borrow.Author.Tests.{leb-true}
 use lib.Dec.{leb}
-use lib.IntN.{ℤ, pos, natAbs, _+ℤ_, _-ℤ_}
+use lib.IntN.{ℤ, pos, natAbs, _-ℤ_}
 use lib.ListN.{length, getD, set, take, drop, replicate}
 use lib.Pow.{pow-pos}
 use lib.Signed.{_≤ℤ_}

@@ -3,7 +3,7 @@ use mathlib.Core.Path.{_≡_, refl, sym, ap, _∙_}
 use mathlib.Core.Bool.{Bool, true, false, true≢false, _||_}
 use mathlib.Core.List.{List, [], _∷_}
 use mathlib.Core.Logic.{⊎-elim, _≢_}
-use mathlib.Core.Option.{none, some, Option·some-injective}
+use mathlib.Core.Option.{some, Option·some-injective}
 use Prim.Native.Nat.{ℕ, zero, suc, _<_, _≤_}
 use native.Mathlib.Nat.{not-suc-le-zero, le-of-suc-le-suc}
 use native.Mathlib.Omega.{arith}
@@ -16,8 +16,7 @@ use Rattle.laws.specs.Select.{any}
 use Rattle.laws.specs.Test.{eq-or-ne, decide, neither-left, neither-right}
 use Rattle.rules.specs.Builder.{Entries, agrees, enter, knownEntries}
 use Rattle.rules.specs.Span.{least, span}
-use Rattle.theorems.specs.Rows.{agrees-is, none-not, offset, Within, Agrees, Consistent, known-exact, entered-entries, unknown-entries, within}
-use Rattle.theorems.specs.Spans.{offset-lt}
+use Rattle.theorems.specs.Rows.{agrees-is, none-not, offset, Within, Agrees, known-exact, entered-entries, unknown-entries, within}
 
 -- whether a value stands at a place, and whether some value does
 unfoldable pub isAt : ℤ → ℕ → ℤ → Bool
@@ -107,9 +106,6 @@ module _ (values : List ℤ) (truths : List ℕ) (same : length values ≡ lengt
     known-fine =
         let r = entered-entries (least values) values truths (replicate (span values) 2) k f (unknown-entries (span values)) in
         (r .0, r .1 ∙ length-replicate {A = ℕ} (span values) 2)
-
-    pub known-bit : (i : ℕ) → i < length values → getD truths i 0 ≤ 1
-    known-bit i h = known-exact values truths same .0 (k, f) .bits i h
 
     pub known-hit : (i : ℕ) → i < length values → getD k (offset (least values) values i) 0 ≡ getD truths i 0
     unfolding knownEntries

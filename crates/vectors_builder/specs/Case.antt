@@ -1,6 +1,5 @@
 -- A case of the list: P, M, the answer buffer's length, then the values and the truths, each behind their count.
 use mathlib.Core.Path.{_≡_, sym, ap, _∙_}
-use mathlib.Core.Bool.{true, false}
 use mathlib.Core.List.{List, map}
 use Prim.Native.Nat.{ℕ, _+_, _<_, _≤_, min}
 use native.Mathlib.Omega.{arith}

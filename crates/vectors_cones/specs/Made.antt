@@ -1,5 +1,5 @@
 -- A cone by its rows, and what makes it one.
-use mathlib.Core.Path.{_≡_, refl, sym, ap, _∙_}
+use mathlib.Core.Path.{_≡_, sym, ap, _∙_}
 use mathlib.Core.Bool.{Bool, true}
 use mathlib.Core.List.{List, map}
 use mathlib.Core.Option.{some, none}
@@ -19,14 +19,14 @@ use Rattle.rules.specs.Cone.{linearTable}
 use Rattle.rules.specs.NetworkText.{allDifferent}
 use Rattle.rules.specs.Span.{least, span}
 use Rattle.scale.specs.Limits.{Within}
-use Rattle.theorems.specs.KnownRows.{known-hit, known-bit, known-unhit}
-use Rattle.theorems.specs.Rows.{offset}
+use Rattle.theorems.specs.KnownRows.{known-hit, known-unhit}
+use Rattle.theorems.specs.Rows.{offset, known-exact}
 use Rattle.theorems.specs.Spans.{offset-lt}
 use Rattle.laws.specs.Lists.{map-at}
 use Rattle.cone.specs.declared.Cone.{Cone}
 use Rattle.compose.specs.declared.Basis.{Basis}
 use Rattle.compose.specs.Basis.{IsBasis, coefficientsOver, coefficientsOver-within}
-use Rattle.theorems.specs.LinearTables.{span-table, total}
+use Rattle.theorems.specs.LinearTables.{span-table}
 use Rattle.theorems.specs.ConeValues.{linearTable-length}
 use Rattle.cone.specs.View.{coneOf, entryAt, truthAt, is-cone, IsCone}
 use Rattle.vectors_cones.specs.declared.ConeRows.{ConeRows}
@@ -77,7 +77,7 @@ module _ (n : ℕ) (support : List ℕ) (coefs : List ℤ) (truth known : List �
       let values = linearTable (take n coefs) in (
         is-cone (record { n = n; support = support; coefs = coefs; known = known }) (rowsOf (record { n = n; support = support; coefs = coefs; truth = truth })) seen long
             (form .few) (form .different) (omega (arith, form .narrow, span-table (take n coefs))) (form .near)
-            (known-bit values (take (2 ^ n) truth) same (take (span values) known) one)
+            (known-exact values (take (2 ^ n) truth) same .0 (take (span values) known, one) .bits)
             (λ j l h. sym (getD-take (span values) known j 0 l) ∙ known-unhit values (take (2 ^ n) truth) same (take (span values) known) one j l h),
         seen,
       )

@@ -1,25 +1,19 @@
 -- `cone_wires::put_term` meets its contract.
 use mathlib.Core.Path.{_≡_, ap, _∙_}
-use Prim.Native.Nat.{_+_, _-_, _/_, _%_, _≤_}
+use Prim.Native.Nat.{_+_, _/_, _%_, _≤_}
 use native.Mathlib.Omega.{arith}
 use borrow.Author.Needs.{needs}
 use lib.Dec.{T}
-use lib.IntN.{ℤ, pos, negsuc, natAbs, _+ℤ_}
+use lib.IntN.{ℤ, pos, natAbs, _+ℤ_}
 use lib.Signed.{nonNeg}
 use lib.ListN.{set}
 use mir.Syntax.{w8, w64}
 use mir.Val.{toZ, ofZ, SFits, Fits}
 use mir.Facts.{toZ-ofZ}
-use Rattle.laws.specs.Integer.{plus, minus, abs-parts, add-parts, one-part-zero, abs-add, fits-abs}
+use Rattle.laws.specs.Integer.{plus, minus, not-negative, abs-parts, add-parts, one-part-zero, abs-add, fits-abs}
 use Rattle.cone_wires.specs.Wires.{withTerm}
-use borrow.Author.Needs.{needs}
 use Rattle.cone_wires.proofs.put_term.Statement.{statement}
 use Rattle.cone_wires.proofs.put_term.Tie as tie
-
-nonneg : (x : ℤ) → minus x ≡ 0 → T (nonNeg x)
-unfolding minus
-nonneg (pos a) e = tt
-nonneg (negsuc a) e = absurd (omega arith)
 
 -- a coefficient and 32 make a byte
 module _ (z : ℤ) (f : SFits w64 z) (h : natAbs z ≤ 31) where
@@ -34,7 +28,7 @@ module _ (z : ℤ) (f : SFits w64 z) (h : natAbs z ≤ 31) where
   above = omega (arith, abs-parts z, one-part-zero (z +ℤ pos 32), add-parts z (pos 32))
 
   cast-fits : T (nonNeg (toZ w64 (ofZ w64 (toZ w64 (ofZ w64 z) +ℤ pos 32)))) × Fits w8 (natAbs (toZ w64 (ofZ w64 (toZ w64 (ofZ w64 z) +ℤ pos 32))))
-  cast-fits = rw sum-is (nonneg (z +ℤ pos 32) above, record { fits = omega (arith, abs-add z (pos 32)) })
+  cast-fits = rw sum-is (not-negative (z +ℤ pos 32) above, record { fits = omega (arith, abs-add z (pos 32)) })
 
 add-wires : tie.Need-add-wires
 add-wires c = sum-fits (c .args .coef) (c .fits .coef) (c .pre .1 .1 .0)

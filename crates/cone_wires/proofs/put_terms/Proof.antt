@@ -4,7 +4,7 @@ use Prim.Native.Nat.{_+_, _-_, _*_, _≤_, _<_}
 use native.Mathlib.Omega.{arith}
 use borrow.Author.Needs.{needs}
 use lib.IntN.{pos, natAbs}
-use lib.ListN.{getD, take}
+use lib.ListN.{getD}
 use lib.Seq.{getD-take}
 use mir.Syntax.{w64}
 use mir.Val.{toZ, ofZ}

@@ -1,5 +1,5 @@
-use mathlib.Core.Path.{_≡_, sym, ap, subst, _∙_}
-use Rattle.mapper.specs.Entry.{Read, read-good, text-refused, text-mapped}
+use mathlib.Core.Path.{_∙_}
+use Rattle.mapper.specs.Entry.{read-good, text-refused, text-mapped}
 use borrow.Author.Needs.{needs}
 use Rattle.mapper.proofs.map.Statement.{statement}
 use Rattle.mapper.proofs.map.Tie as tie

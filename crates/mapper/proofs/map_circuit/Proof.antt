@@ -1,6 +1,5 @@
-use mathlib.Core.Path.{_≡_, sym, ap, subst, _∙_}
-use Rattle.rules.specs.declared.Settings.{Settings}
-use Rattle.rules.specs.Mapper.{usedSettings, answerWith}
+use mathlib.Core.Path.{ap, _∙_}
+use Rattle.rules.specs.Mapper.{answerWith}
 use Rattle.mapper.specs.Entry.{read-limits, read-inputs, read-gates, read-ports, steps-refused, steps-done, steps-finishable}
 use borrow.Author.Needs.{needs}
 use Rattle.mapper.proofs.map_circuit.Statement.{statement}

@@ -1,7 +1,6 @@
 -- The service by its definition: whole inputs and what is printed, from document 01.
 use mathlib.Core.Path.{_≡_, refl}
 use mathlib.Core.List.{List, [], _∷_, map}
-use Prim.Native.Nat.{ℕ}
 use Prim.Native.String.{String}
 use lib.ListN.{replicate}
 use Rattle.rules.specs.Computed.Computing.{computing}

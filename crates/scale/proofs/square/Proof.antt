@@ -1,24 +1,18 @@
 use native.Mathlib.Omega.{arith}
-use lib.IntN.{_*ℤ_}
-use mir.Syntax.{w64}
-use mir.Val.{SFits}
 use mir.Facts.{toZ-ofZ}
-use Rattle.laws.specs.Integer.{fits-abs, abs-mul-le, abs-mul, square-nonNeg}
+use Rattle.laws.specs.Integer.{abs-mul-le, abs-mul, square-nonNeg, square-fits}
 use Rattle.scale.proofs.square.Statement.{statement}
 use Rattle.scale.proofs.square.Tie as tie
 
-fits : (c : tie.Start) → SFits w64 (c .args .x *ℤ c .args .x)
-fits c = fits-abs _ (omega (arith, abs-mul-le (c .args .x) (c .args .x) (c .pre) (c .pre)))
-
 mul-result : tie.Need-mul-result
-mul-result c = simp (toZ-ofZ (c .fits .x)) (fits c)
+mul-result c = simp (toZ-ofZ (c .fits .x)) (square-fits (c .args .x) (omega (arith, c .pre)))
 
 cast-result : tie.Need-cast-result
 cast-result c =
-    simp (toZ-ofZ (c .fits .x), toZ-ofZ (fits c)) (square-nonNeg (c .args .x), record { fits = omega (arith, abs-mul-le (c .args .x) (c .args .x) (c .pre) (c .pre)) })
+    simp (toZ-ofZ (c .fits .x), toZ-ofZ (square-fits (c .args .x) (omega (arith, c .pre)))) (square-nonNeg (c .args .x), record { fits = omega (arith, abs-mul-le (c .args .x) (c .args .x) (c .pre) (c .pre)) })
 
 returns : tie.Need-returns
-returns c = simp (toZ-ofZ (c .fits .x), toZ-ofZ (fits c)) (abs-mul (c .args .x) (c .args .x))
+returns c = simp (toZ-ofZ (c .fits .x), toZ-ofZ (square-fits (c .args .x) (omega (arith, c .pre)))) (abs-mul (c .args .x) (c .args .x))
 
 pub square-spec : {M : Type 1} → statement M
 square-spec = tie.close (tie.spec mul-result cast-result returns)

@@ -1,9 +1,6 @@
 -- `vectors_cones::is_form` meets its contract: what the four tests say is what a form has to be.
-use mathlib.Core.Path.{_≡_}
-use native.Mathlib.Omega.{arith}
 use borrow.Author.Needs.{needs}
 use borrow.Author.Tests.{not-false}
-use lib.ListN.{length}
 use Rattle.laws.specs.Tail.{head-length}
 use Rattle.vectors_cones.specs.Tested.{never}
 use Rattle.vectors_cones.proofs.is_form.Statement.{statement}

@@ -5,13 +5,12 @@ use native.Mathlib.Omega.{arith}
 use borrow.Author.Needs.{needs}
 use lib.ListN.{length, take}
 use lib.Pow.{pow-mono, pow-pos}
-use lib.Seq.{length-take-le}
 use Rattle.laws.specs.Tail.{head-length}
 use Rattle.rules.specs.Cone.{linearTable}
 use Rattle.rules.specs.Span.{span}
 use Rattle.scale.specs.Limits.{Within}
 use Rattle.linear.specs.Span.{within-total}
-use Rattle.theorems.specs.LinearTables.{span-table, total}
+use Rattle.theorems.specs.LinearTables.{span-table}
 use Rattle.vectors_cones.specs.Made.{values-first, known-same}
 use Rattle.vectors_cones.proofs.known_of.Statement.{statement}
 use Rattle.vectors_cones.proofs.known_of.Tie as tie

@@ -4,7 +4,7 @@ use Prim.Native.Nat.{_-_}
 use native.Mathlib.Omega.{arith}
 use borrow.Author.Needs.{needs}
 use lib.IntN.{pos}
-use lib.ListN.{length, getD, length-set}
+use lib.ListN.{length, getD}
 use mir.Facts.{toZ-ofZ}
 use Rattle.laws.specs.Integer.{read-back}
 use Rattle.vectors_cones.specs.Tested.{within-same}

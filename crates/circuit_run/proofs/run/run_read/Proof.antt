@@ -1,22 +1,19 @@
 use borrow.Author.Needs.{needs}
-use Rattle.circuit_run.specs.Entry.{run-bad-bits, run-short, run-ready, run-ran}
+use Rattle.bits.specs.Bits.{bad-bits, short-buffer}
+use Rattle.circuit_run.specs.Entry.{run-ready, run-ran}
 use Rattle.circuit_run.proofs.run.run_read.Statement.{statement}
 use Rattle.circuit_run.proofs.run.run_read.Tie as tie
 
 returns : tie.Need-returns
 returns c =
     let b = c .before in
-    let s0 = b .before .before .before in
-    let A = s0 .args in
-    λ s. run-bad-bits (A .gates .now) (A .ports .now) (A .c) (A .bits .now) (A .values .now) s _ (b .are-bits-for .ensures) (c .if1 .taken)
+    λ s. bad-bits _ _ _ _ _ (b .are-bits-for .ensures) (c .if1 .taken)
 
 returns-2 : tie.Need-returns-2
 returns-2 c =
     let e = c .before in
     let b = e .before in
-    let s0 = b .before .before .before in
-    let A = s0 .args in
-    λ s. run-short (A .gates .now) (A .ports .now) (A .c) (A .bits .now) (A .values .now) s _ (b .are-bits-for .ensures) (e .if1 .left) (c .if2 .taken)
+    λ s. short-buffer _ _ _ _ _ (b .are-bits-for .ensures) (e .if1 .left) (c .if2 .taken)
 
 gate-values-requires : tie.Need-gate-values-requires
 gate-values-requires c κs =

@@ -1,8 +1,6 @@
 -- `lut::prune::mark_live` meets its contract: the nodes below i are left.
-use mathlib.Core.Path.{_≡_}
-use Prim.Native.Nat.{_-_, _≤_, _<_}
+use Prim.Native.Nat.{_-_, _≤_}
 use native.Mathlib.Omega.{arith}
-use borrow.Author.Needs.{needs}
 use Rattle.lut.specs.View.{nodeOf, storeOf, at-store, is-node}
 use Rattle.lut.specs.Prune.{Reaching, reaching-start, reaching-turn, reaching-done}
 use Rattle.lut.proofs.prune.mark_live.Statement.{statement}

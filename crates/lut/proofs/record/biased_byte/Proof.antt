@@ -1,5 +1,4 @@
 -- `lut::record::biased_byte` meets its contract.
-use mathlib.Core.Path.{_≡_}
 use Prim.Native.Nat.{_+_, _≤_}
 use native.Mathlib.Omega.{arith}
 use lib.Dec.{T}

@@ -1,10 +1,9 @@
 -- `lut::record::sum` meets its contract: the first k terms stand there.
-use mathlib.Core.Path.{_≡_, refl, sym, ap, _∙_}
-use mathlib.Core.List.{List, [], _∷_, _++_}
-use Prim.Native.Nat.{ℕ, _+_, _*_, _-_, _/_, _%_, _≤_, _<_}
+use mathlib.Core.Path.{_≡_, ap, _∙_}
+use Prim.Native.Nat.{_-_, _≤_, _<_}
 use native.Mathlib.Omega.{arith}
 use borrow.Author.Needs.{needs}
-use lib.ListN.{length, getD, take, set}
+use lib.ListN.{length}
 use Rattle.laws.specs.Integer.{read-back}
 use Rattle.lut.specs.View.{biased}
 use Rattle.lut.specs.Records.{written, written-length, sum-start, sum-turn, sum-done}

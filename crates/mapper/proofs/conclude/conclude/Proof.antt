@@ -1,12 +1,13 @@
 use mathlib.Core.Path.{refl}
 use mathlib.Core.List.{[]}
 use borrow.Author.Needs.{needs}
-use Rattle.mapper.specs.Conclude.{zeros, over-refused, answer-is, answer-asks}
+use Rattle.laws.specs.Lists.{zeros-at}
+use Rattle.mapper.specs.Conclude.{over-refused, answer-is, answer-asks}
 use Rattle.mapper.proofs.conclude.conclude.Statement.{statement}
 use Rattle.mapper.proofs.conclude.conclude.Tie as tie
 
 keep-requires : tie.Need-keep-requires
-keep-requires c κs = let s = c .before .before .before in (s .pre .store, (s .pre .good, (refl, zeros 672)))
+keep-requires c κs = let s = c .before .before .before in (s .pre .store, (s .pre .good, (refl, zeros-at 672)))
 
 is-over-norm-requires : tie.Need-is-over-norm-requires
 is-over-norm-requires c κs = let k = c .before in (k .before .before .before .before .pre .store, k .keep .ensures [] .long)

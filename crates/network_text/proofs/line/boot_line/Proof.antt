@@ -1,4 +1,4 @@
-use Rattle.network_text.specs.LineIs.{boot-open, boot-long, boot-is}
+use Rattle.network_text.specs.LineIs.{open-is, boot-line, boot-long, boot-is}
 use borrow.Author.Needs.{needs}
 use Rattle.network_text.proofs.line.boot_line.Statement.{statement}
 use Rattle.network_text.proofs.line.boot_line.Tie as tie
@@ -9,7 +9,7 @@ plain-requires c κs = search needs
 
 -- src/line.rt:163:9
 returns : tie.Need-returns
-returns c = boot-open (c .before .before .before .pre) (c .before .if1 .taken) (c .plain .ensures)
+returns c = let h = c .before .before .before .pre in open-is _ (boot-line h) (h .inside) (c .before .if1 .taken) (c .plain .ensures)
 
 -- src/line.rt:165:13
 sub-if2 : tie.Need-sub-if2

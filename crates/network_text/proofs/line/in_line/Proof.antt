@@ -1,4 +1,4 @@
-use Rattle.network_text.specs.LineIs.{in-open, in-is}
+use Rattle.network_text.specs.LineIs.{open-is, in-line, in-is}
 use borrow.Author.Needs.{needs}
 use Rattle.network_text.proofs.line.in_line.Statement.{statement}
 use Rattle.network_text.proofs.line.in_line.Tie as tie
@@ -9,7 +9,7 @@ plain-requires c κs = search needs
 
 -- src/line.rt:138:9
 returns : tie.Need-returns
-returns c = in-open (c .before .before .before .pre) (c .before .if1 .taken) (c .plain .ensures)
+returns c = let h = c .before .before .before .pre in open-is _ (in-line h) (h .inside) (c .before .if1 .taken) (c .plain .ensures)
 
 -- src/line.rt:140:5
 plain-requires-2 : tie.Need-plain-requires-2

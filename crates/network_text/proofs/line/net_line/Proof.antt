@@ -1,5 +1,5 @@
 use borrow.Author.Tests.{not-true, not-false}
-use Rattle.network_text.specs.LineIs.{net-open, net-outside, net-is}
+use Rattle.network_text.specs.LineIs.{open-is, net-line, net-outside, net-is}
 use borrow.Author.Needs.{needs}
 use Rattle.network_text.proofs.line.net_line.Statement.{statement}
 use Rattle.network_text.proofs.line.net_line.Tie as tie
@@ -10,7 +10,7 @@ plain-requires c κs = search needs
 
 -- src/line.rt:125:9
 returns : tie.Need-returns
-returns c = net-open (c .before .before .before .pre) (c .before .if1 .taken) (c .plain .ensures)
+returns c = let h = c .before .before .before .pre in open-is _ (net-line h) (h .inside) (c .before .if1 .taken) (c .plain .ensures)
 
 -- src/line.rt:127:9
 table-limits-requires : tie.Need-table-limits-requires

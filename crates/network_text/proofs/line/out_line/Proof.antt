@@ -1,4 +1,4 @@
-use Rattle.network_text.specs.LineIs.{out-open, out-is}
+use Rattle.network_text.specs.LineIs.{open-is, out-line, out-is}
 use borrow.Author.Needs.{needs}
 use Rattle.network_text.proofs.line.out_line.Statement.{statement}
 use Rattle.network_text.proofs.line.out_line.Tie as tie
@@ -9,7 +9,7 @@ plain-requires c κs = search needs
 
 -- src/line.rt:176:9
 returns : tie.Need-returns
-returns c = out-open (c .before .before .before .pre) (c .before .if1 .taken) (c .plain .ensures)
+returns c = let h = c .before .before .before .pre in open-is _ (out-line h) (h .inside) (c .before .if1 .taken) (c .plain .ensures)
 
 -- src/line.rt:178:5
 plain-requires-2 : tie.Need-plain-requires-2

@@ -4,12 +4,11 @@ use Prim.Native.Nat.{ℕ, _-_, _<_, _≤_}
 use native.Mathlib.Omega.{arith}
 use borrow.Author.Needs.{needs}
 use borrow.Author.Tests.{not-true, not-false}
-use lib.IntN.{ℤ, pos, natAbs, _-ℤ_}
+use lib.IntN.{pos, natAbs, _-ℤ_}
 use lib.ListN.{length, getD, drop, length-set}
-use lib.Signed.{_≤ℤ_}
 use mir.Facts.{toZ-ofZ}
 use mir.Syntax.{w32}
-use Rattle.laws.specs.Integer.{ints, read-back-at}
+use Rattle.laws.specs.Integer.{le-same, read-back-at}
 use Rattle.rules.specs.Builder.{enter}
 use Rattle.rules.specs.Span.{least}
 use Rattle.theorems.specs.Rows.{offset, enter-turn, enter-stop, enter-end}
@@ -28,9 +27,6 @@ abbrev μ-loop : tie.MeasureT-loop
 μ-loop values truths low known₀ i₀ known i = length values - i
 
 -- the index is the row's offset, below the span
-le-same : (a b x y : ℤ) → a ≡ x → b ≡ y → x ≤ℤ y → a ≤ℤ b
-le-same a b x y e f h = omega (arith, ints)
-
 module _ (c : tie.After-offset Inv-loop μ-loop) where
   abbrev start : tie.Start Inv-loop μ-loop
   start = c .before .before .before .before .before .before

@@ -2,13 +2,12 @@
 use mathlib.Core.Path.{refl}
 use Prim.Native.Nat.{_≤_, _^_}
 use native.Mathlib.Omega.{arith}
-use lib.Dec.{T}
 use lib.IntN.{ℤ, negℤ, natAbs, _-ℤ_}
-use lib.Signed.{_≤ℤ_, nonNeg, yes-nonNeg, natAbs-le}
+use lib.Signed.{natAbs-le}
 use mir.Facts.{toZ-ofZ, sfits-widen}
 use mir.Syntax.{w32, w64}
 use mir.Val.{SFits}
-use Rattle.laws.specs.Integer.{plus, minus, ints, sub-parts, abs-add, abs-neg, fits-abs}
+use Rattle.laws.specs.Integer.{not-below, abs-add, abs-neg, fits-abs}
 use Rattle.rotation.proofs.rows.offset.Statement.{statement}
 use Rattle.rotation.proofs.rows.offset.Tie as tie
 
@@ -18,10 +17,6 @@ module _ (v l : ℤ) (f : SFits w32 v) (g : SFits w32 l) where
 
   fits : SFits w64 (v -ℤ l)
   fits = fits-abs (v -ℤ l) (omega (arith, small))
-
-not-below : (v l : ℤ) → l ≤ℤ v → T (nonNeg (v -ℤ l))
-unfolding plus minus
-not-below v l h = yes-nonNeg {z = v -ℤ l} (omega (arith, ints, sub-parts v l))
 
 cast-result : tie.Need-cast-result
 cast-result c = rw (toZ-ofZ (c .fits .value)) (sfits-widen tt (c .fits .value))

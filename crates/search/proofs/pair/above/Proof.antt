@@ -3,19 +3,14 @@ use mathlib.Core.Path.{_≡_, ap, ap₂, _∙_}
 use lib.Dec.{T}
 use Prim.Native.Nat.{_≤_}
 use native.Mathlib.Omega.{arith}
-use lib.IntN.{ℤ, pos, negsuc, natAbs, _-ℤ_}
+use lib.IntN.{ℤ, natAbs, _-ℤ_}
 use lib.Signed.{_≤ℤ_, nonNeg}
 use mir.Syntax.{w64}
 use mir.Val.{toZ, ofZ, SFits, Fits}
 use mir.Facts.{toZ-ofZ}
-use Rattle.laws.specs.Integer.{ints, minus, abs-parts, sub-parts, one-part-zero, fits-abs}
+use Rattle.laws.specs.Integer.{ints, not-below, abs-parts, sub-parts, one-part-zero, fits-abs}
 use Rattle.search.proofs.pair.above.Statement.{statement}
 use Rattle.search.proofs.pair.above.Tie as tie
-
-not-negative : (z : ℤ) → minus z ≡ 0 → T (nonNeg z)
-unfolding minus
-not-negative (pos n) e = tt
-not-negative (negsuc n) e = absurd (omega arith)
 
 module _ (v low v′ low′ : ℤ) (e : v′ ≡ v) (f : low′ ≡ low) (h : low ≤ℤ v) (k : natAbs v ≤ 1984) (l : natAbs low ≤ 31) where
   same : v′ -ℤ low′ ≡ v -ℤ low
@@ -33,7 +28,7 @@ module _ (v low v′ low′ : ℤ) (e : v′ ≡ v) (f : low′ ≡ low) (h : lo
   casts : T (nonNeg (toZ w64 (ofZ w64 (v′ -ℤ low′)))) × Fits w64 (natAbs (toZ w64 (ofZ w64 (v′ -ℤ low′))))
   casts =
       rw read
-      (not-negative (v -ℤ low) (omega (arith, ints, sub-parts v low, one-part-zero (v -ℤ low))), omega (arith, size))
+      (not-below v low h, omega (arith, size))
 
 sub-result : tie.Need-sub-result
 sub-result c = fits _ _ _ _ (toZ-ofZ (c .fits .v)) (toZ-ofZ (c .fits .low)) (c .pre .0) (c .pre .1 .0) (c .pre .1 .1)

@@ -2,11 +2,11 @@
 use mathlib.Core.Path.{_≡_, ap₂, _∙_}
 use borrow.Author.Needs.{needs}
 use lib.IntN.{ℤ, natAbs, _+ℤ_, _-ℤ_, _*ℤ_}
-use lib.Signed.{quotZ, _≤ℤ_}
+use lib.Signed.{quotZ}
 use mir.Syntax.{w64}
 use mir.Val.{toZ, ofZ}
 use mir.Facts.{toZ-ofZ}
-use Rattle.laws.specs.Integer.{read-back}
+use Rattle.laws.specs.Integer.{le-same, read-back}
 use Rattle.search.specs.declared.pair.Pair.{Pair}
 use Rattle.search.specs.MergedValues.{mergedValue}
 use Rattle.search.specs.Pair.{levelOf, small-same, value-small}
@@ -47,9 +47,6 @@ module _ (c : tie.After-struct-told4) where
 
   low-is : toZ w64 (ofZ w64 (start .args .c .low)) ≡ start .args .c .low
   low-is = read-back (start .args .c .low) (c .struct-told4 .given .1 .1 .1 .1 .0 .1)
-
-le-same : (a b x y : ℤ) → a ≡ x → b ≡ y → x ≤ℤ y → a ≤ℤ b
-le-same a b x y e f h = rw (e, f) h
 
 level-is : (c : Pair) (x y v low : ℤ) → v ≡ mergedValue (c .a) (c .b) (c .divisor) x y → low ≡ c .low → natAbs (v -ℤ low) ≡ levelOf c x y
 unfolding levelOf

@@ -1,19 +1,13 @@
 -- `search::rows::above` meets its contract.
 use mathlib.Core.Path.{refl}
 use native.Mathlib.Omega.{arith}
-use lib.Dec.{T}
-use lib.IntN.{ℤ, _-ℤ_}
-use lib.Signed.{_≤ℤ_, nonNeg, yes-nonNeg}
+use lib.IntN.{_-ℤ_}
 use mir.Facts.{toZ-ofZ, sfits-widen}
 use mir.Syntax.{w64}
 use mir.Val.{SFits}
-use Rattle.laws.specs.Integer.{plus, minus, ints, sub-parts, fits-abs}
+use Rattle.laws.specs.Integer.{not-below, fits-abs}
 use Rattle.search.proofs.rows.above.Statement.{statement}
 use Rattle.search.proofs.rows.above.Tie as tie
-
-not-below : (v l : ℤ) → l ≤ℤ v → T (nonNeg (v -ℤ l))
-unfolding plus minus
-not-below v l h = yes-nonNeg {z = v -ℤ l} (omega (arith, ints, sub-parts v l))
 
 cast-result : tie.Need-cast-result
 cast-result c = rw (toZ-ofZ (c .fits .x)) (sfits-widen tt (c .fits .x))

@@ -8,11 +8,11 @@ use native.Mathlib.Nat.{le-refl}
 use native.Mathlib.Omega.{arith}
 use borrow.Author.Needs.{needs}
 use lib.IntN.{pos}
-use lib.ListN.{getD, replicate, getD-replicate, length-replicate, List·getD-eq-default}
+use lib.ListN.{getD, replicate, length-replicate}
 use mir.Syntax.{w32}
 use mir.Val.{toZ, ofZ}
 use Rattle.laws.specs.Integer.{read-back-at}
-use Rattle.laws.specs.Test.{lt-or-le}
+use Rattle.laws.specs.Lists.{zeros-at}
 use Rattle.search.specs.RowsFrame.{InFrame}
 use Rattle.search.proofs.rows.compact_rows.Statement.{statement}
 use Rattle.search.proofs.rows.compact_rows.Tie as tie
@@ -23,16 +23,9 @@ Inv-loop f rows xs₀ ys₀ truth₀ counts₀ places₀ n₀ i₀ xs ys truth c
 abbrev μ-loop : tie.MeasureT-loop
 μ-loop f rows xs₀ ys₀ truth₀ counts₀ places₀ n₀ i₀ xs ys truth counts places n i = rows - i
 
-zeros : (n k : ℕ) → _≡_ {A = ℕ} (getD (replicate n 0) k 0) 0
-zeros n k =
-    ⊎-elim
-    (λ (h : k < n). getD-replicate {A = ℕ} n k 0 0 h)
-    (λ (h : n ≤ k). List·getD-eq-default {A = ℕ} (replicate n 0) 0 {n = k} (rw length-replicate h))
-    (lt-or-le k n)
-
 loop-holds : tie.Need-loop-holds Inv-loop μ-loop
 loop-holds c =
-    (zero-le, no-turn (c .args .f) (c .args .rows) (c .args .xs .now) (c .args .ys .now) (c .args .truth .now) (c .args .counts .now) (c .pre) (replicate 2048 0) (length-replicate {A = ℕ} 2048 0) (zeros 2048))
+    (zero-le, no-turn (c .args .f) (c .args .rows) (c .args .xs .now) (c .args .ys .now) (c .args .truth .now) (c .args .counts .now) (c .pre) (replicate 2048 0) (length-replicate {A = ℕ} 2048 0) (zeros-at 2048))
 
 mul-x : tie.Need-mul-x Inv-loop μ-loop
 mul-x c = search needs

@@ -1,7 +1,7 @@
 use Rattle.laws.specs.Integer.{plus, minus, abs-parts, add-parts, sub-parts, one-part-zero, fits-abs, ltZ-true, ltZ-false}
 use mathlib.Core.Bool.{true, false}
 use mathlib.Core.Path.{_≡_}
-use Prim.Native.Nat.{_<_, _≤_, _^_}
+use Prim.Native.Nat.{_<_, _^_}
 use mir.Facts.{toZ-ofZ}
 use mir.Val.{SFits, Fits}
 use mir.Syntax.{w64}

@@ -1,5 +1,4 @@
 use Rattle.writer.specs.Put.{put-both, room, shorter}
-use mathlib.Core.List.{[], _∷_}
 use Rattle.rules.specs.Form.{bytes}
 use Rattle.rules.specs.Writing.{nodeText}
 use borrow.Author.Needs.{needs}

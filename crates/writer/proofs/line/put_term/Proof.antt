@@ -1,6 +1,5 @@
 use Rattle.writer.specs.Put.{put-both, put-as, room, room-as, shorter}
 use mathlib.Core.List.{[], _∷_}
-use Rattle.rules.specs.Form.{bytes}
 use mir.Facts.{toZ-ofZ}
 use Rattle.rules.specs.Writing.{digits, signedText}
 use Rattle.writer.specs.Lines.{termText}

@@ -1,6 +1,5 @@
 use native.Mathlib.Omega.{arith}
-use borrow.Author.Needs.{needs}
-use mathlib.Core.Path.{_≡_, sym, subst, _∙_}
+use mathlib.Core.Path.{subst, _∙_}
 use Rattle.writer.specs.Put.{put-one, put-more, put-length, one-room, front-room, last-room}
 use Prim.Native.Nat.{ℕ, _<_, _/_}
 use borrow.Fn.Kinds.{In}

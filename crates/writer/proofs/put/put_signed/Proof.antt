@@ -1,8 +1,6 @@
 use native.Mathlib.Omega.{arith}
-use mathlib.Core.Path.{_≡_, ap, _∙_}
+use mathlib.Core.Path.{ap, _∙_}
 use mir.Facts.{toZ-ofZ}
-use mir.Val.{toZ, ofZ}
-use mir.Syntax.{w64}
 use lib.IntN.{natAbs}
 use Rattle.writer.specs.Put.{put-below, minus-room, room-below, put-else, room-else}
 use borrow.Author.Needs.{needs}
