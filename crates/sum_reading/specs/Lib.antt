@@ -1,0 +1,2 @@
+-- The sums of all assignments, and the first that is a value.
+pub mod Rows
