@@ -6,7 +6,7 @@ use Prim.Native.Nat.{ℕ, zero, suc, _+_, _*_, _/_, _%_, _<_, _≤_}
 use native.Mathlib.Nat.{add-zero, not-suc-le-zero, le-of-suc-le-suc}
 use native.Mathlib.Numerals.{add-one}
 use native.Mathlib.Omega.{arith}
-use lib.IntN.{ℤ, pos}
+use lib.IntN.{ℤ, pos, natAbs}
 use lib.ListN.{length, getD, take, drop, length-append, length-drop}
 use lib.Seq.{getD-drop, drop-cons, drop-drop, take-at, take-take}
 use Rattle.laws.specs.Over.{over}
@@ -169,3 +169,24 @@ source-before i (Linear c ts) f k h =
     rw (sources-at ts k l) (fine-at i ts k (term (pos 0) 0) (f .2) l .1)
 source-before i (Bootstrap j table) f zero h = f .0
 source-before i (Bootstrap j table) f (suc k) h = absurd (not-suc-le-zero (le-of-suc-le-suc h))
+
+-- ---- laws: a sum
+
+-- as many sources as terms
+pub as-many : (n : LutNode) → isLinear n ≡ true → length (needs n) ≡ length (termsOf n)
+unfolding isLinear needs termsOf
+as-many (Input name) e = absurd (true≢false (sym e))
+as-many (Linear c ts) e = sources-length ts
+as-many (Bootstrap i table) e = absurd (true≢false (sym e))
+
+pub constant-small : (i : ℕ) (n : LutNode) → Fine i n → isLinear n ≡ true → natAbs (constantOf n) ≤ 31
+unfolding Fine isLinear constantOf
+constant-small i (Input name) f e = absurd (true≢false (sym e))
+constant-small i (Linear c ts) f e = f .1
+constant-small i (Bootstrap j table) f e = absurd (true≢false (sym e))
+
+pub coefficient-small : (i : ℕ) (n : LutNode) → Fine i n → (k : ℕ) → k < length (termsOf n) → natAbs (getD (termsOf n) k (term (pos 0) 0) .coef) ≤ 31
+unfolding Fine termsOf
+coefficient-small i (Input name) f k h = absurd (not-suc-le-zero h)
+coefficient-small i (Linear c ts) f k h = fine-at i ts k (term (pos 0) 0) (f .2) h .0
+coefficient-small i (Bootstrap j table) f k h = absurd (not-suc-le-zero h)

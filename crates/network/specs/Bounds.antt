@@ -3,7 +3,6 @@ use mathlib.Core.Path.{_≡_, refl, sym, _∙_}
 use mathlib.Core.Bool.{Bool, true, false, true≢false}
 use mathlib.Core.List.{List, [], _∷_, map}
 use Prim.Native.Nat.{ℕ, zero, suc, _+_, _*_, _<_, _≤_}
-use native.Mathlib.Nat.{not-suc-le-zero}
 use native.Mathlib.Numerals.{add-one}
 use native.Mathlib.Omega.{arith}
 use lib.Dec.{T, eqb}
@@ -18,9 +17,7 @@ use Rattle.rules.specs.Network.{Term, LutNode, Input, Linear, Bootstrap, below0
 use Rattle.rules.specs.NetworkText.{isBit}
 use Rattle.rules.specs.Scale.{norm}
 use Rattle.rules.specs.Store.{needs, termsOf}
-use Rattle.theorems.specs.Terms.{sources-length}
-use Rattle.lut.specs.Nodes.{kindOf, constantOf, few-terms}
-use Rattle.lut.specs.Sums.{fine-at}
+use Rattle.lut.specs.Nodes.{kindOf, constantOf, few-terms, as-many, constant-small, coefficient-small}
 use Rattle.lut.specs.View.{term, Fine}
 use Rattle.network_text.specs.declared.sum.Lin.{Lin}
 use Rattle.network_text.specs.Terms.{termsAt, terms-next, terms-end}
@@ -89,24 +86,6 @@ part-small true (negsuc a) h = h
 part-small false (pos a) h = h
 part-small false (negsuc a) h = omega arith
 
-sum-size : (n : LutNode) → isLinear n ≡ true → length (needs n) ≡ length (termsOf n)
-unfolding needs termsOf isLinear
-sum-size (Input name) e = refl
-sum-size (Linear c ts) e = sources-length ts
-sum-size (Bootstrap i table) e = absurd (true≢false (sym e))
-
-near-constant : (i : ℕ) (n : LutNode) → Fine i n → isLinear n ≡ true → natAbs (constantOf n) ≤ 31
-unfolding Fine constantOf isLinear
-near-constant i (Input name) f e = absurd (true≢false (sym e))
-near-constant i (Linear c ts) f e = f .1
-near-constant i (Bootstrap j table) f e = absurd (true≢false (sym e))
-
-fine-term : (i : ℕ) (n : LutNode) → Fine i n → (k : ℕ) → k < length (termsOf n) → natAbs (getD (termsOf n) k (term (pos 0) 0) .coef) ≤ 31
-unfolding Fine termsOf
-fine-term i (Input name) f k h = absurd (not-suc-le-zero h)
-fine-term i (Linear c ts) f k h = fine-at i ts k (term (pos 0) 0) (f .2) h .0
-fine-term i (Bootstrap j table) f k h = absurd (not-suc-le-zero h)
-
 -- ---- A turn of the loop that adds them.
 
 -- The terms of a node from index k on.
@@ -144,9 +123,9 @@ module _ (low : Bool) (n : LutNode) where
 
   pub summing-start : (i : ℕ) {m : ℕ} {c : ℤ} → Fine i n → isLinear n ≡ true → m ≡ length (needs n) → c ≡ constantOf n → Summing m c 0
   summing-start i f l e d =
-      let q : length (needs n) ≡ length (termsOf n) = sum-size n l in
+      let q : length (needs n) ≡ length (termsOf n) = as-many n l in
       let t = few-terms i n f in
-      let z : natAbs (constantOf n) ≤ 31 = near-constant i n f l in
+      let z : natAbs (constantOf n) ≤ 31 = constant-small i n f l in
       record { within = omega arith; size = e ∙ q; few = omega arith; near = rw d (omega arith); same = sum-start l ∙ rw d }
 
   module _ {m : ℕ} {c : ℤ} {k : ℕ} (s : Summing m c k) where
@@ -154,7 +133,7 @@ module _ (low : Bool) (n : LutNode) where
     unfolding termsLeft
     summing-next i {x} f h e =
         let l : k < length (termsOf n) = omega (arith, s .size) in
-        let q : natAbs x ≤ 31 = rw e (part-small low _ (fine-term i n f k l)) in
+        let q : natAbs x ≤ 31 = rw e (part-small low _ (coefficient-small i n f k l)) in
         let t : extremeSum low c (drop k (termsOf n)) ≡ extremeSum low (c +ℤ x) (drop (k + 1) (termsOf n)) = rw (e, drop-cons (termsOf n) k (term (pos 0) 0) l, add-one k) (extreme-cons low c _ _) in
         record { within = omega arith; size = s .size; few = s .few; near = omega (arith, abs-add c x, s .near); same = s .same ∙ t }
 

@@ -6,4 +6,5 @@ pub mod Conditions
 pub mod Verdict
 pub mod Put
 pub mod Numbers
+pub mod Added
 pub mod Step

@@ -6,25 +6,23 @@ use mathlib.Core.Logic.{⊎-elim}
 use mathlib.Core.Option.{some}
 use Prim.Native.Nat.{ℕ, zero, suc, _+_, _-_, _<_, _≤_}
 use native.Mathlib.Omega.{arith}
-use borrow.Author.Tests.{eq-eqb, ne-eqb, le-leb, lt-leb, leb-false, eqb-true, not-false}
+use borrow.Author.Tests.{eq-eqb, ne-eqb, le-leb, lt-leb, leb-false}
 use lib.Dec.{leb, eqb}
 use lib.IntN.{ℤ, pos, negsuc, natAbs, _+ℤ_}
 use lib.ListN.{length, getD, take, drop}
 use lib.Signed.{leZ}
 use Rattle.laws.specs.Integer.{eqZ, plus, minus, add-parts, false-leZ}
-use Rattle.laws.specs.Test.{if_then_else_, if-both, lt-or-le, eq-or-ne, neither-left, neither-right}
+use Rattle.laws.specs.Test.{if-both, lt-or-le, eq-or-ne, neither-left, neither-right}
 use Rattle.rules.specs.declared.Wire.{Wire}
-use Rattle.rules.specs.declared.Wire.the-variants.{Const, Node}
 use Rattle.rules.specs.Circuit as C
-use Rattle.rules.specs.CircuitText.{noNode}
 use Rattle.rules.specs.Form.{Condition, _when_, bitsFrom}
 use Rattle.rules.specs.Network as W
 use Rattle.rules.specs.Network.{Term, LutNode, Input, Linear, Bootstrap, leastOf, greatestOf, isInput, isLinear, nodeNorm}
 use Rattle.rules.specs.NetworkText as N
-use Rattle.rules.specs.NetworkText.{Net, NetLine, NodeLine, OutLine, NetPrefix, networkLine, allInputs, unknown, nodeAt, sources, anyBadSource, ending, settingsOf, fitsTable, isBit, noBit, safetyConditions}
+use Rattle.rules.specs.NetworkText.{Net, NetLine, NodeLine, OutLine, NetPrefix, networkLine, allInputs, unknown, nodeAt, sources, anyBadSource, ending, settingsOf, fitsTable, safetyConditions}
 use Rattle.text.specs.Judged.{lowest, unmet}
 use Rattle.lut.specs.View.{FineTerms}
-use Rattle.network_text.specs.Lines.{lineIn, lineOf, goodLine, TablePlace, Within, LineRead}
+use Rattle.network_text.specs.Lines.{lineIn, lineOf, TablePlace, Within, LineRead}
 use Rattle.network_text.specs.Terms.{termsFrom, termsAt, termsOf, Small}
 use Rattle.network_text.specs.declared.line.Line.{Line}
 use Rattle.network_text.specs.declared.line.Line.the-variants.{Bad, Net as NetRead, In, Lin as Sum, Boot, Out}

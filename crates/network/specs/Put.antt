@@ -1,5 +1,5 @@
 -- What putting a line changes: the header, the store, the ports.
-use mathlib.Core.Path.{_≡_, refl, sym, ap, ap₂, subst, _∙_}
+use mathlib.Core.Path.{_≡_, refl, sym, ap, subst, _∙_}
 use mathlib.Core.List.{List, [], _∷_, _++_, zipWith}
 use Prim.Native.Nat.{ℕ, zero, suc, _+_, _*_, _-_, _<_, _≤_, _^_}
 use native.Mathlib.Numerals.{add-one}
@@ -124,8 +124,8 @@ module _ (nodes : List ℕ) (count i : ℕ) (l : List ℕ) (a e : ℕ) (p : Tabl
   unfolding Fine
   boot-added r after t s h k q f g =
       let n = put-new nodes count (Bootstrap i (bitsFrom (take (e - a) (drop a l)))) r after s h
-          (k, rw (table-length p) (p .short), λ j. bit-at (bitsFrom (take (e - a) (drop a l))) j (p .bits))
-          (f ∙ ap (λ b. recordOf (Bootstrap i b)) (lent q)) g in
+      (k, rw (table-length p) (p .short), λ j. bit-at (bitsFrom (take (e - a) (drop a l))) j (p .bits))
+      (f ∙ ap (λ b. recordOf (Bootstrap i b)) (lent q)) g in
       record { store = n .0; still = n .1 }
 
 -- ---- A wire's signal.
@@ -186,7 +186,7 @@ module _ (h : Header) (at : ℕ) (l : List ℕ) (line : Line) (v : Lin) (nodes p
     unfolding Follows
     follows-boot q f k = rw q (f, k, refl)
 
-    pub follows-out : {a e n : ℕ} {w : Wire} {ports₁ : List ℕ} → line ≡ Out a e w → s ≡ withOutput h → n ≡ signalOf w → ports₁ ≡ withPort ports (h .outputs) (at + a) (at + e) n
-        → Follows h at l line v nodes ports s nodes ports₁
-    unfolding Follows
-    follows-out q f g k = rw q (f, refl, k ∙ ap (withPort ports (h .outputs) _ _) g)
+  pub follows-out : {s : Header} {a e n : ℕ} {w : Wire} {ports₁ : List ℕ} → line ≡ Out a e w → s ≡ withOutput h → n ≡ signalOf w
+      → ports₁ ≡ withPort ports (h .outputs) (at + a) (at + e) n → Follows h at l line v nodes ports s nodes ports₁
+  unfolding Follows
+  follows-out {a = a} {e = e} q f g k = rw q (f, refl, k ∙ ap (withPort ports (h .outputs) (at + a) (at + e)) g)

@@ -14,7 +14,7 @@ use Rattle.laws.specs.Test.{if_then_else_, lt-or-le, neither-left, neither-righ
 use Rattle.rules.specs.declared.Wire.{Wire}
 use Rattle.rules.specs.declared.Wire.the-variants.{Const, Node}
 use Rattle.rules.specs.Builder.{tableLimits}
-use Rattle.rules.specs.Circuit.{Name}
+use Rattle.rules.specs.Circuit.{Name, Output}
 use Rattle.rules.specs.CircuitText.{listed, noNode}
 use Rattle.rules.specs.Form.{Condition, _when_, Reading, Refused}
 use Rattle.rules.specs.Network.{Term, LutNode, Input, Linear, Bootstrap, Network, isLinear, nodeNorm}
@@ -264,3 +264,33 @@ module _ (judge : Bool) (w : NetPrefix) (h : length (w .nodes) ≤ 65536) where
   pub good-same : (l : NetworkLine) → refusal judge w (some l) ≡ 0 → goodLine (some l) ≡ some l
   unfolding goodLine refusal
   good-same l e = same-form l (ap lowest (sym (conditions-are judge w l)) ∙ e)
+
+-- ---- What a line with no fault has.
+
+module _ (judge : Bool) (w : NetPrefix) where
+  free : (l : NetworkLine) → refusal judge w (some l) ≡ 0 → lowest (textConditions w l ++ safety judge w l) ≡ 0
+  unfolding refusal
+  free l e = ap lowest (sym (conditions-are judge w l)) ∙ e
+
+  pub net-limits : (n : Net) → refusal judge w (some (NetLine n)) ≡ 0 → tableLimits (n .p) (n .m) ≡ true
+  unfolding textConditions
+  net-limits n e = not-false (tableLimits (n .p) (n .m)) (unmet _ _ (omega arith) (free (NetLine n) e) .0)
+
+  pub inputs-only : (n : Name) → refusal judge w (some (NodeLine (Input n))) ≡ 0 → (allInputs (w .nodes) ≡ true) × (length (w .nodes) < 32)
+  unfolding textConditions
+  inputs-only n e =
+      let order = unmet _ _ (omega arith) (unmet _ _ (omega arith) (free (NodeLine (Input n)) e) .1) in
+      (not-false (allInputs (w .nodes)) (neither-right (ending w) _ (order .0)), leb-false 32 (length (w .nodes)) (unmet _ _ (omega arith) (order .1) .0))
+
+  pub sum-sound : (c : ℤ) (ts : List Term) → refusal judge w (some (NodeLine (Linear c ts))) ≡ 0 → (goodSum c ts ≡ true) × (anyBadSource (w .nodes) (sources ts) ≡ false)
+  unfolding textConditions
+  sum-sound c ts e =
+      let order = unmet _ _ (omega arith) (unmet _ _ (omega arith) (unmet _ _ (omega arith) (free (NodeLine (Linear c ts)) e) .1) .1) in
+      let sum = unmet _ _ (omega arith) (order .1) in
+      (not-false (goodSum c ts) (sum .0), unmet _ _ (omega arith) (sum .1) .0)
+
+  pub out-known : (o : Output) → refusal judge w (some (OutLine o)) ≡ 0 → (length (w .outputs) < 32) × (noNode (length (w .nodes)) (o .wire) ≡ false)
+  unfolding textConditions
+  out-known o e =
+      let order = unmet _ _ (omega arith) (unmet _ _ (omega arith) (free (OutLine o) e) .1) in
+      (leb-false 32 (length (w .outputs)) (order .0), unmet _ _ (omega arith) (order .1) .0)

@@ -8,7 +8,11 @@ ghost use Rattle.rules.specs.NetworkText.{isBit};
 ghost use Rattle.lut.specs.View.{nodeOf, IsNode};
 ghost use Rattle.network_text.specs.Terms.{Small, termsOf};
 ghost use Rattle.network.specs.Bounds.{extremePart, extremeOf, fitOf, coefNorm, nodeFit};
-use lut::node::{LINEAR, coef_of, constant_of, kind_of, size_of};
+use lut::node::LINEAR;
+use lut::node::coef_of;
+use lut::node::constant_of;
+use lut::node::kind_of;
+use lut::node::size_of;
 use network_text::Lin;
 
 // What a term adds to the least sum, or to the greatest.

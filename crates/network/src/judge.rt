@@ -1,7 +1,7 @@
 // The number that a further line is refused with.
 ghost use mathlib.Core.Path.{_≡_};
 ghost use mathlib.Core.Bool.{false};
-ghost use Prim.Native.Nat.{_-_, _<_, _≤_};
+ghost use Prim.Native.Nat.{_-_, _<_};
 ghost use lib.ListN.{length, take, drop};
 ghost use Rattle.rules.specs.CircuitText.{sameName, listed};
 ghost use Rattle.rules.specs.Network.{isLinear};
@@ -179,7 +179,11 @@ fn wire_number(judge: bool, count: usize, nodes: &[u8; 25536], w: Wire) -> usize
     if !judge {
         return 0;
     }
-    if crate::bounds::is_bit(nodes, id) { 0 } else { 26 }
+    if crate::bounds::is_bit(nodes, id) {
+        0
+    } else {
+        26
+    }
 }
 
 fn out_number(judge: bool, h: Header, nodes: &[u8; 25536], w: Wire) -> usize

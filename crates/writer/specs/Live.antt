@@ -20,9 +20,7 @@ use Rattle.rules.specs.NetworkText.{sources, nodeAt}
 use Rattle.rules.specs.Store.{needs, termsOf}
 use Rattle.rules.specs.Writing.{signedText, termsText, nodeText, nodesText}
 use Rattle.theorems.specs.Members.{member-head, member-tail, member-cons}
-use Rattle.lut.specs.Nodes.{kindOf, constantOf, bytesIn, sources-at}
-use Rattle.theorems.specs.Terms.{sources-length}
-use Rattle.lut.specs.Sums.{fine-at}
+use Rattle.lut.specs.Nodes.{kindOf, constantOf, bytesIn, sources-at, as-many}
 use Rattle.lut.specs.View.{term, nodeOf, storeOf, FineTerms, Fine, IsNode, IsStore, at-store, store-length, is-node}
 use Rattle.writer.specs.Lines.{termText}
 use Rattle.writer.specs.Put.{Put, Room, Left, left-step, left-room, left-none}
@@ -113,12 +111,6 @@ termsLeft live n k = termsText (map (newTerm live) (drop k (termsOf n)))
 unfoldable pub sumText : List ℕ → LutNode → List ℕ
 sumText live n = bytes "(lin " ++ signedText (constantOf n) ++ termsLeft live n 0 ++ bytes ")\n"
 
-pub as-many : (n : LutNode) → isLinear n ≡ true → length (needs n) ≡ length (termsOf n)
-unfolding isLinear needs termsOf
-as-many (Input name) e = absurd (true≢false (sym e))
-as-many (Linear c ts) e = sources-length ts
-as-many (Bootstrap i table) e = absurd (true≢false (sym e))
-
 module _ (live : List ℕ) (n : LutNode) (e : isLinear n ≡ true) where
   same-source : (k : ℕ) → k < length (termsOf n) → getD (needs n) k 0 ≡ getD (termsOf n) k (term (pos 0) 0) .node
   unfolding termsOf needs sources
@@ -136,18 +128,6 @@ module _ (live : List ℕ) (n : LutNode) (e : isLinear n ≡ true) where
   pub terms-end : (k : ℕ) → length (termsOf n) ≤ k → termsLeft live n k ≡ []
   unfolding termsLeft termsText
   terms-end k h = rw (drop-of-length-le (termsOf n) {i = k} h)
-
-pub constant-small : (i : ℕ) (n : LutNode) → Fine i n → isLinear n ≡ true → natAbs (constantOf n) ≤ 31
-unfolding Fine isLinear constantOf
-constant-small i (Input name) f e = absurd (true≢false (sym e))
-constant-small i (Linear c ts) f e = f .1
-constant-small i (Bootstrap j table) f e = absurd (true≢false (sym e))
-
-pub coefficient-small : (i : ℕ) (n : LutNode) → Fine i n → (k : ℕ) → k < length (termsOf n) → natAbs (getD (termsOf n) k (term (pos 0) 0) .coef) ≤ 31
-unfolding Fine termsOf
-coefficient-small i (Input name) f k h = absurd (not-suc-le-zero h)
-coefficient-small i (Linear c ts) f k h = fine-at i ts k (term (pos 0) 0) (f .2) h .0
-coefficient-small i (Bootstrap j table) f k h = absurd (not-suc-le-zero h)
 
 -- ---- laws: a node by its kind
 

@@ -1,10 +1,10 @@
 use Rattle.laws.specs.Integer.{read-back, fits-abs}
 use mir.Val.{SFits, toZ}
 use lib.ListN.{getD}
-use lib.IntN.{pos, natAbs, _+ℤ_}
+use lib.IntN.{pos, _+ℤ_}
 use mir.Facts.{toZ-ofZ}
 use mathlib.Core.Path.{_≡_, ap, _∙_}
-use Prim.Native.Nat.{_+_, _*_, _-_, _<_}
+use Prim.Native.Nat.{_+_, _-_}
 use borrow.Author.Needs.{needs}
 use native.Mathlib.Omega.{arith}
 use mir.Syntax.{w64}

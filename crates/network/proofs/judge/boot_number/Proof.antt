@@ -1,4 +1,3 @@
-use mathlib.Core.Path.{sym, ap, _∙_}
 use Rattle.lut.specs.View.{is-node}
 use Rattle.network.specs.Conditions.{fit-at, boot-met, boot-unknown, boot-read, boot-misfit, boot-long, boot-good, boot-bent}
 use borrow.Author.Needs.{needs}

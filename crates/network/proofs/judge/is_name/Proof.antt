@@ -1,7 +1,3 @@
-use mathlib.Core.Path.{ap, _∙_}
-use lib.ListN.{take, drop}
-use Prim.Native.Nat.{_-_}
-use Rattle.rules.specs.CircuitText.{sameName}
 use Rattle.network.specs.Conditions.{whole-name}
 use borrow.Author.Needs.{needs}
 use Rattle.network.proofs.judge.is_name.Statement.{statement}

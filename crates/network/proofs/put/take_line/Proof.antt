@@ -1,43 +1,43 @@
+use Prim.Native.Nat.{_<_, _^_}
+use lib.ListN.{length}
+use Rattle.network.specs.Step.{kept, step-refused, line-ready, step-next}
 use borrow.Author.Needs.{needs}
 use Rattle.network.proofs.put.take_line.Statement.{statement}
 use Rattle.network.proofs.put.take_line.Tie as tie
-use Rattle.network.proofs.put.take_line.Reads as reads
-use Rattle.network.proofs.put.take_line.Lts as lts
-use Rattle.network.proofs.judge.line_number.Reads as line-number-reads
-use Rattle.network.proofs.put.put_line.Reads as put-line-reads
-use Rattle.network_text.proofs.read_line.Reads as read-line-reads
 
--- src/put.rt:180:13
+-- a slice's length is a number of the machine
+long : (c : tie.After-shared-slice-known) → length (c .before .args .text .now) < 2 ^ 64
+long c = search needs
+
 sub-l : tie.Need-sub-l
 sub-l c = search needs
 
--- src/put.rt:180:13
 part-l-start : tie.Need-part-l-start
 part-l-start c = search needs
 
--- src/put.rt:180:13
 part-l-end : tie.Need-part-l-end
 part-l-end c = search needs
 
--- src/put.rt:181:9
 read-line-requires : tie.Need-read-line-requires
 read-line-requires c κs = search needs
 
--- src/put.rt:182:9
 line-number-requires : tie.Need-line-number-requires
-line-number-requires c κs = search needs
+line-number-requires c κs = let r = c .before .read-line .ensures in (kept (c .before .before .before .before .args .judge) (c .before .before .before .before .pre .0), (r .small, r .within))
 
--- src/put.rt:184:9
 returns : tie.Need-returns
-returns c = ?
+returns c =
+    let s = c .before .before .before .before .before .before in
+    step-refused (s .args .judge) (s .pre .0) (s .pre .1) (c .before .before .before .read-line .ensures) (c .before .line-number .ensures) (c .if1 .taken)
 
--- src/put.rt:186:9
 put-line-requires : tie.Need-put-line-requires
-put-line-requires c κs = ?
+put-line-requires c κs =
+    let s = c .before .before .before .before .before .before .before .before in
+    line-ready (s .args .judge) (s .pre .0) (s .pre .1) (c .before .before .before .before .before .read-line .ensures) (c .before .before .before .line-number .ensures) (long (c .before .before .before .before .before .before .before)) (c .before .before .if1 .left)
 
--- src/put.rt:168:1
 returns-2 : tie.Need-returns-2
-returns-2 c = ?
+returns-2 c =
+    let s = c .before .before .before .before .before .before .before .before .before in
+    step-next (s .args .judge) (s .pre .0) (s .pre .1) (c .before .before .before .before .before .before .read-line .ensures) (c .before .before .before .before .line-number .ensures) (c .before .before .before .if1 .left) (c .put-line .ensures)
 
 pub take-line-spec : {M : Type 1} → statement M
 take-line-spec =

@@ -2,10 +2,10 @@ use mathlib.Core.Path.{_∙_}
 use Rattle.laws.specs.Integer.{read-back}
 use Rattle.rules.specs.Form.{bytes}
 use Rattle.rules.specs.Writing.{signedText}
-use Rattle.lut.specs.Nodes.{constantOf}
+use Rattle.lut.specs.Nodes.{constantOf, constant-small}
 use Rattle.lut.specs.View.{nodeOf}
 use Rattle.writer.specs.Put.{put-both, put-as, room, room-as, shorter}
-use Rattle.writer.specs.Live.{termsLeft, sumText, constant-small}
+use Rattle.writer.specs.Live.{termsLeft, sumText}
 use borrow.Author.Needs.{needs}
 use Rattle.writer.proofs.nodes.put_lin.Statement.{statement}
 use Rattle.writer.proofs.nodes.put_lin.Tie as tie

@@ -1,7 +1,8 @@
+use Rattle.lut.specs.Nodes.{coefficient-small}
 use mathlib.Core.Path.{_∙_}
 use Rattle.laws.specs.Integer.{read-back}
 use Rattle.lut.specs.View.{nodeOf}
-use Rattle.writer.specs.Live.{among-needs, coefficient-small, term-asked, term-put}
+use Rattle.writer.specs.Live.{among-needs, term-asked, term-put}
 use borrow.Author.Needs.{needs}
 use Rattle.writer.proofs.nodes.put_summand.Statement.{statement}
 use Rattle.writer.proofs.nodes.put_summand.Tie as tie
