@@ -2,9 +2,10 @@
 mod search;
 
 ghost use mathlib.Core.Path.{_≡_};
+ghost use mathlib.Core.Bool.{true};
+ghost use Rattle.rules.specs.Network.{isLinear};
 ghost use Rattle.rules.specs.NetworkText.{nodeAt};
 ghost use Rattle.rules.specs.SumReading.{Refused, readingAt, sumReading, sumAnswer};
-ghost use Rattle.lut.specs.Nodes.{kindOf};
 ghost use Rattle.lut.specs.View.{nodeOf, storeOf, IsNode, IsStore};
 use lut::node::LINEAR;
 use lut::node::constant_of;
@@ -25,7 +26,7 @@ fn refused(number: usize, line: usize) -> SumAnswer
 
 // Node i, a sum.
 fn reading_on(nodes: &[u8; 25536], i: usize, value: i32) -> SumAnswer
-    requires { ⌜ IsNode (now nodes) i × (kindOf (nodeOf (now nodes) i) ≡ 1) ⌝ }
+    requires { ⌜ IsNode (now nodes) i × (isLinear (nodeOf (now nodes) i) ≡ true) ⌝ }
     ensures { λ r. ⌜ r ≡ sumAnswer (readingAt (nodeOf (now (nodes .entry)) i) value) ⌝ }
 {
     let n = size_of(nodes, i);
