@@ -11,9 +11,9 @@ use native.Mathlib.Omega.{arith}
 use borrow.Author.Tests.{lt-ltb, le-ltb}
 use lib.Dec.{ltb}
 use lib.IntN.{ℤ, pos, _+ℤ_, _-ℤ_, _*ℤ_}
-use lib.ListN.{length, getD, drop, replicate, drop-of-length-le}
+use lib.ListN.{length, getD, drop, drop-of-length-le}
 use lib.Seq.{drop-cons}
-use Rattle.laws.specs.Digits.{bit, digits, digits-length}
+use Rattle.laws.specs.Digits.{bit, digits}
 use Rattle.laws.specs.Integer.{plus, minus, add-parts, sub-parts, plus-mul, minus-mul, ints, eqZ, eqZ-true, eqZ-of}
 use Rattle.laws.specs.Select.{firstOf}
 use Rattle.laws.specs.Tabulate.{tabulate-at}

@@ -1,6 +1,6 @@
 // All assignments of a sum's terms, and the first that gives a value.
 ghost use mathlib.Core.Path.{_≡_};
-ghost use Prim.Native.Nat.{_≤_, _<_, _^_};
+ghost use Prim.Native.Nat.{_≤_, _<_};
 ghost use lib.ListN.{length, take, replicate};
 ghost use Rattle.laws.specs.Digits.{bit, digits};
 ghost use Rattle.laws.specs.Over.{over};

@@ -1,5 +1,4 @@
 -- `sum_reading::search::wide` meets its contract.
-use mathlib.Core.Path.{refl}
 use mir.Facts.{toZ-ofZ, sfits-widen}
 use Rattle.sum_reading.proofs.search.wide.Statement.{statement}
 use Rattle.sum_reading.proofs.search.wide.Tie as tie
