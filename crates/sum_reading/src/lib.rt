@@ -31,7 +31,8 @@ fn reading_on(nodes: &[u8; 25536], i: usize, value: i32) -> SumAnswer
 {
     let n = size_of(nodes, i);
     let coefs = crate::search::coefs_of(nodes, i, n);
-    let rest = crate::search::wide(value) - constant_of(nodes, i);
+    let wanted = crate::search::wide(value);
+    let rest = wanted - constant_of(nodes, i);
     let row = crate::search::first_row(coefs, n, rest);
     crate::search::shown(n, row)
 }
