@@ -11,6 +11,7 @@ TARGET = REPOSITORY / "target" / "oracle"
 ORACLE = TARGET / "release" / "oracle"
 REACH = TARGET / "release" / "reach"
 CONES = TARGET / "release" / "cones"
+CONVERT = TARGET / "release" / "convert"
 
 
 def holds_source(place):
@@ -58,6 +59,14 @@ def build():
         sys.stderr.write(done.stdout.decode(errors="replace"))
         sys.exit("the oracle does not build")
     return str(ORACLE)
+
+
+def run(program, stream, *arguments):
+    """What one of the programs prints for the stream."""
+    done = subprocess.run([str(program), *arguments], input=stream, stdout=subprocess.PIPE)
+    if done.returncode != 0:
+        sys.exit(f"{program.name} failed with status {done.returncode}")
+    return done.stdout
 
 
 if __name__ == "__main__":

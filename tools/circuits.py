@@ -1,10 +1,12 @@
-"""Circuits in document 01's text form, for generate and compare."""
+"""Circuits in document 01's text form, for generate, compare and convert."""
 
 import random
 
 END = b"(end)\n"
 LONGEST_JOB = 32_768
+MOST_INPUTS = 32
 MOST_GATES = 96
+MOST_OUTPUTS = 32
 POLICIES = ("basic", "naive", "span")
 TABLES = ("one", "many")
 

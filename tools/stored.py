@@ -31,3 +31,9 @@ def check(files):
     if wrong:
         sys.exit(1)
     print(f"{len(files)} files are as made")
+
+
+def write(files):
+    for path, made in files.items():
+        path.parent.mkdir(exist_ok=True)
+        path.write_bytes(made)

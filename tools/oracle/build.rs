@@ -257,9 +257,21 @@ fn place() -> PathBuf {
     }
 }
 
+/// The archive that `bench` calls, FBS_LIBRARY.
+fn link_library() {
+    println!("cargo:rerun-if-env-changed=FBS_LIBRARY");
+    if env::var_os("CARGO_FEATURE_BENCH").is_none() {
+        return;
+    }
+    let library = env::var("FBS_LIBRARY").expect("FBS_LIBRARY names the archive that bench links");
+    println!("cargo:rerun-if-changed={library}");
+    println!("cargo:rustc-link-arg-bin=bench={library}");
+}
+
 fn main() {
     println!("cargo:rerun-if-env-changed=FBS_MAP_SRC");
     println!("cargo:rerun-if-changed=build.rs");
+    link_library();
     let place = place();
     let out = PathBuf::from(env::var_os("OUT_DIR").unwrap());
     for (directory, sets) in [

@@ -2,10 +2,12 @@
 use cone::Cone;
 use cone::order::cone_order_key;
 use cone::order::is_less;
-use cone::table::linear_span;
-use cone::table::rows_of;
 use cone::table::truths_of;
-use cone::table::values_of;
+use linear::linear_span;
+use linear::rows_of;
+use linear::values_of;
+use lut::node::BOOTSTRAP;
+use lut::node::kind_of;
 use rules::Settings;
 ghost use mathlib.Core.Path.{_≡_};
 ghost use mathlib.Core.Bool.{true};
@@ -155,6 +157,11 @@ pub fn realign(s: Settings, nodes: &[u8; 25536], count: usize, c: Cone) -> Cone
     };
     let mut i = 0;
     while i < count {
+        // Most nodes are no bootstraps: a cone is not copied for them.
+        if kind_of(nodes, i) != BOOTSTRAP {
+            i += 1;
+            continue;
+        }
         best = consider(s, nodes, i, c, best);
         i += 1;
     }

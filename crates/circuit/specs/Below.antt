@@ -8,7 +8,7 @@ use lib.ListN.{length, getD, take, drop, set, length-set, List·getD-append}
 use lib.Seq.{getD-set-same, getD-set-other, paste, getD-take, getD-append-add, length-paste-head, length-take-le}
 use Rattle.laws.specs.Tabulate.{tabulate, tabulate-same, tabulate-snoc}
 use Rattle.rules.specs.Circuit as C
-use Rattle.text.specs.Forms.{Named}
+use Rattle.text.specs.Name.{Named}
 use Rattle.circuit.specs.View.{wiresIn, answersIn, gateIn, gatesIn, nameAt, inputName, inputNames, outputIn, outputsIn, portWire, NamedAt}
 
 pub record Below (m : ℕ) (l t : List ℕ) : Type 0 where

@@ -1,12 +1,6 @@
--- What the code keeps of a circuit's text, and how that stands for the definitions of crates/rules.
+-- What the arrays keep of a circuit's text, and how that stands for the circuit that crates/rules reads.
 pub mod View
-pub mod Settings
-pub mod Wires
-pub mod WiresRead
-pub mod Brief
 pub mod Bits
-pub mod GateLine
-pub mod LineRead
 pub mod Slots
 pub mod Below
 pub mod GateBytes
@@ -17,6 +11,3 @@ pub mod TookPorts
 pub mod TookLine
 pub mod Reading
 pub mod Fits
-pub mod RunGate
-pub mod Run
-pub mod Entry

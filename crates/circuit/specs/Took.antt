@@ -18,9 +18,9 @@ use Rattle.rules.specs.Form.{Condition, _when_}
 use Rattle.text.specs.Judged.{lowest, unmet}
 use Rattle.circuit.specs.declared.Circuit.{Circuit}
 use Rattle.circuit.specs.declared.take.Step.{Step}
-use Rattle.circuit.specs.Brief.{Brief, FbsBrief, briefConditions, told}
+use Rattle.circuit_text.specs.Brief.{Brief, FbsBrief, briefConditions, told}
 use Rattle.circuit.specs.View.{gatesIn, inputNames, outputsIn, prefixOf, NamesIn}
-use Rattle.circuit.specs.Wires.{shape}
+use Rattle.circuit_conditions.specs.Wires.{shape}
 
 -- What a line needs of those before it, in a text of k bytes: how many there were, and where the names stand.
 pub record Ready (i k : ℕ) (ps : List ℕ) (c : Circuit) : Type 0 where

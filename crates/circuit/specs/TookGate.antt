@@ -14,14 +14,14 @@ use Rattle.rules.specs.CircuitText.{withLine}
 use Rattle.rules.specs.Form.{_when_}
 use Rattle.text.specs.Judged.{lowest, unmet}
 use Rattle.circuit.specs.declared.Circuit.{Circuit}
-use Rattle.circuit.specs.declared.gate.Wires.{Wires}
+use Rattle.circuit_conditions.specs.declared.Wires.{Wires}
 use Rattle.circuit.specs.Below.{gates-more}
 use Rattle.circuit.specs.Bits.{bitsAt, bits-at-length}
-use Rattle.circuit.specs.Brief.{GateBrief, briefConditions, told, twoWires}
+use Rattle.circuit_text.specs.Brief.{GateBrief, briefConditions, told, twoWires}
 use Rattle.circuit.specs.GateBytes.{GateStands, gateBytes, bytes-length, put-below, put-gate}
 use Rattle.circuit.specs.Slots.{node-more}
 use Rattle.circuit.specs.View.{gateIn, gatesIn, prefixOf}
-use Rattle.circuit.specs.Wires.{shape, FineWires}
+use Rattle.circuit_conditions.specs.Wires.{shape, FineWires}
 use Rattle.circuit.specs.Took.{Ready, Took, same-prefix, shape-bits, room, not-true, none-there, other-line, started, gate-count, output-count, settings-stay, took-refused}
 
 module _ (i : ℕ) (s gs ps : List ℕ) (c : Circuit) where

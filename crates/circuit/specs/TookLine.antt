@@ -12,13 +12,13 @@ use Rattle.text.specs.Judged.{lowest}
 use Rattle.theorems.specs.LineBits.{WireBit}
 use Rattle.theorems.specs.SoundCircuits.{SoundLine, line-sound}
 use Rattle.circuit.specs.declared.Circuit.{Circuit}
-use Rattle.circuit.specs.declared.gate.Wires.{Wires}
+use Rattle.circuit_conditions.specs.declared.Wires.{Wires}
 use Rattle.circuit.specs.declared.take.Step.{Step}
-use Rattle.circuit.specs.Brief.{Brief, FbsBrief, InBrief, GateBrief, OutBrief, briefConditions, brief, brief-conditions, told, brief-told}
-use Rattle.circuit.specs.LineRead.{kept}
+use Rattle.circuit_text.specs.Brief.{Brief, FbsBrief, InBrief, GateBrief, OutBrief, briefConditions, brief, brief-conditions, told, brief-told}
+use Rattle.circuit_text.specs.LineRead.{kept}
 use Rattle.circuit.specs.Took.{Ready, Took, node-count}
 use Rattle.circuit.specs.View.{prefixOf}
-use Rattle.circuit.specs.Wires.{FineWires, fine-wires, cap-bit}
+use Rattle.circuit_conditions.specs.Wires.{FineWires, fine-wires, cap-bit}
 
 abbrev pub numberOf : Prefix → Option CircuitLine → ℕ
 numberOf p none = 1

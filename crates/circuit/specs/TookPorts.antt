@@ -15,11 +15,11 @@ use Rattle.rules.specs.declared.Wire.{Wire}
 use Rattle.rules.specs.Circuit as C
 use Rattle.rules.specs.CircuitText.{listed, noNode, withLine}
 use Rattle.rules.specs.Form.{_when_}
-use Rattle.text.specs.Forms.{Named}
+use Rattle.text.specs.Name.{Named}
 use Rattle.text.specs.Judged.{lowest, unmet}
 use Rattle.circuit.specs.declared.Circuit.{Circuit}
 use Rattle.circuit.specs.Below.{Below, below-self, below-set, below-less, names-same, names-more, name-same, outs-more, put-name, put-named, named-same}
-use Rattle.circuit.specs.Brief.{InBrief, OutBrief, briefConditions, told}
+use Rattle.circuit_text.specs.Brief.{InBrief, OutBrief, briefConditions, told}
 use Rattle.circuit.specs.Slots.{wireNumber, wire-back, node-more}
 use Rattle.circuit.specs.View.{wireIn, gatesIn, inputNames, outputIn, outputsIn, prefixOf, NamedAt}
 use Rattle.circuit.specs.Took.{Ready, Took, same-prefix, room, not-true, none-there, other-line, started, input-count, gate-count, output-count, same-inputs, node-count, settings-stay, took-refused}

@@ -14,7 +14,7 @@ use Rattle.rules.specs.declared.Wire.the-variants.{Const, Node}
 use Rattle.rules.specs.Circuit as C
 use Rattle.rules.specs.CircuitText.{Prefix}
 use Rattle.rules.specs.Form as F
-use Rattle.text.specs.Forms.{Named}
+use Rattle.text.specs.Name.{Named}
 use Rattle.circuit.specs.declared.Circuit.{Circuit}
 use Rattle.circuit.specs.declared.Reading.{Reading}
 use Rattle.circuit.specs.declared.Reading.the-variants.{Good, Refused}

@@ -1,22 +1,14 @@
-// The circuit's text: its lines, the refusals 1 to 7, and a run of the circuit.
-mod gate;
-mod line;
-mod number;
-mod run;
-mod settings;
+// A circuit's text read into two arrays, or its refusal 1 to 7 with the line. It leans on one line's reader (`circuit_text`).
 pub mod slot;
 mod take;
 
 ghost use mathlib.Core.Path.{_≡_};
 ghost use lib.ListN.{length};
 ghost use Rattle.rules.specs.CircuitText.{readCircuit};
-ghost use Rattle.rules.specs.Runs.{runReply, ran, runCircuit};
 ghost use Rattle.circuit.specs.View.{readingOf, Held};
-use crate::run::run_read;
 use crate::take::take_line;
 use rules::Limit;
 use rules::Policy;
-use rules::RunReply;
 use rules::Settings;
 
 // The settings and the counts of a circuit. Its gates, names and outputs stand in two arrays that `read` fills:
@@ -70,17 +62,4 @@ pub fn read(s: &[u8], gates: &mut [u8; 576], ports: &mut [usize; 160]) -> Readin
         return Reading::Refused(4, line);
     }
     Reading::Good(c)
-}
-
-// The circuit that a text describes, run on a bit for each input.
-pub fn run_circuit(text: &[u8], bits: &[u8], values: &mut [u8]) -> RunReply
-    ensures { λ r. ⌜ ran (runReply r) (now (values .exit)) ≡ runCircuit (now (text .entry)) (now (bits .entry)) (now (values .entry)) ⌝ }
-{
-    let mut gates = [0u8; 576];
-    let mut ports = [0usize; 160];
-    let r = read(text, &mut gates, &mut ports);
-    match r {
-        Reading::Refused(number, line) => RunReply::Unreadable(number, line),
-        Reading::Good(c) => run_read(c, &gates, &ports, bits, values),
-    }
 }

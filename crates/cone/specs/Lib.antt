@@ -1,13 +1,5 @@
--- Laws of the definitions that cones and their composition are proved by.
-pub mod Table
-pub mod Span
-pub mod Rows
-pub mod Support
+-- What a cone of the code stands for, and the laws that it is proved by.
 pub mod View
-pub mod Compose
-pub mod Basis
-pub mod Simplify
 pub mod Order
 pub mod Valid
 pub mod Unary
-pub mod Wires

@@ -14,14 +14,14 @@ use lib.Seq.{ext-getD}
 use Rattle.laws.specs.Test.{if_then_else_, decide}
 use Rattle.rules.specs.Composition.{allEqual}
 use Rattle.rules.specs.Cone as rules
-use Rattle.rules.specs.Span.{least, span}
+use Rattle.rules.specs.Span.{least}
 use Rattle.theorems.specs.KnownRows.{hits, hit-row}
 use Rattle.laws.specs.Lists.{map-at}
 use Rattle.theorems.specs.Rows.{offset}
 use Rattle.theorems.specs.Spans.{offset-lt}
 use Rattle.theorems.specs.Truths.{throughGate, allEqual-true, allEqual-false}
 use Rattle.cone.specs.declared.Cone.{Cone}
-use Rattle.cone.specs.Table.{table-first}
+use Rattle.linear.specs.Table.{table-first}
 use Rattle.cone.specs.View.{coneOf, IsCone, is-cone, truth-length, truth-entry, rows-are, row-bit, row-place, unknown, in-entries, narrow-total}
 
 -- A known entry behind the gate: its answer for 0 or for 1; what is unknown stays so.

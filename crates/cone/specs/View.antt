@@ -27,7 +27,7 @@ use Rattle.theorems.specs.Spans.{offset-lt}
 use Rattle.cone.specs.declared.Cone.{Cone}
 use Rattle.cone.specs.declared.Constant.{Constant}
 use Rattle.cone.specs.declared.Constant.the-variants.{Bit, No}
-use Rattle.cone.specs.Span.{within-total}
+use Rattle.linear.specs.Span.{within-total}
 use Rattle.theorems.specs.LinearTables.{least-table, lower, span-table, total, total-parts}
 use Rattle.theorems.specs.ConeValues.{linearTable-length}
 

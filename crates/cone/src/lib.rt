@@ -1,18 +1,17 @@
-// Cones: sources, a coefficient each, a bit for each assignment (first source the highest bit).
-pub mod compose;
+// Cones: sources, a coefficient each, a bit for each assignment (first source the highest bit). A cone alone: its values, its order, a gate of one
+// input behind it, and whether it may be bootstrapped. It leans on `linear`, `scale` and `rotation`.
 pub mod order;
-pub mod simplify;
-pub mod support;
 pub mod table;
 pub mod unary;
 pub mod valid;
-pub mod wires;
 
 ghost use mathlib.Core.Path.{_≡_};
 ghost use Prim.Native.Nat.{_≤_, _<_};
 ghost use Rattle.rules.specs.Cone as rules;
 ghost use Rattle.rules.specs.Span.{least};
 ghost use Rattle.cone.specs.View.{coneOf, IsCone, constantOf};
+use linear::linear_least;
+use linear::linear_span;
 
 // The first n sources and coefficients, and the truth of the rows at each value, the least value first: 0, 1, or 2 where no row has it.
 // What stands past the sources and past the span does not matter.
@@ -81,7 +80,7 @@ impl Cone {
     {
         let coefs = self.coefs;
         let n = self.n;
-        table::linear_least(&coefs[..n])
+        linear_least(&coefs[..n])
     }
 
     // The least and the greatest value, and all between: so many.
@@ -91,7 +90,7 @@ impl Cone {
     {
         let coefs = self.coefs;
         let n = self.n;
-        table::linear_span(&coefs[..n])
+        linear_span(&coefs[..n])
     }
 
     // The squared coefficients added.

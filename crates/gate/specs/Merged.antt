@@ -23,8 +23,8 @@ use Rattle.theorems.specs.KnownRows.{known-hit}
 use Rattle.theorems.specs.Rows.{offset}
 use Rattle.theorems.specs.Spans.{offset-lt}
 use Rattle.cone.specs.declared.Cone.{Cone}
-use Rattle.cone.specs.declared.compose.Basis.{Basis}
-use Rattle.cone.specs.Basis.{coefficientsOver, IsBasis}
+use Rattle.compose.specs.declared.Basis.{Basis}
+use Rattle.compose.specs.Basis.{coefficientsOver, IsBasis}
 use Rattle.cone.specs.View.{coneOf, IsCone, truth-length, truth-entry, rows-are}
 use Rattle.search.specs.declared.score.Score.{Score}
 use Rattle.search.specs.Candidates.{mergedCone, candidateOf, Found}

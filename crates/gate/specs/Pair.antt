@@ -18,8 +18,8 @@ use Rattle.rules.specs.Composition.{unionSupport, gateTruth, allEqual, mergeCon
 use Rattle.rules.specs.Network.{LutNode}
 use Rattle.rules.specs.Span.{least, span}
 use Rattle.cone.specs.declared.Cone.{Cone}
-use Rattle.cone.specs.declared.compose.Basis.{Basis}
-use Rattle.cone.specs.Basis.{IsBasis}
+use Rattle.compose.specs.declared.Basis.{Basis}
+use Rattle.compose.specs.Basis.{IsBasis}
 use Rattle.cone.specs.View.{coneOf}
 use Rattle.lut.specs.View.{IsStore}
 use Rattle.search.specs.declared.rows.Frame.{Frame}

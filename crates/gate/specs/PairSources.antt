@@ -17,7 +17,7 @@ use Rattle.rules.specs.NetworkText.{sources}
 use Rattle.rules.specs.Store.{isUsed}
 use Rattle.theorems.specs.Terms.{sources-are, termsOver}
 use Rattle.cone.specs.declared.Cone.{Cone}
-use Rattle.cone.specs.Simplify.{simplified}
+use Rattle.compose.specs.Simplify.{simplified}
 use Rattle.theorems.specs.Terms.{sources-of}
 use Rattle.cone.specs.View.{coneOf, IsCone}
 use Rattle.bootstrap.specs.View.{Below, Stands}

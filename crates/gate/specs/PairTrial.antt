@@ -1,6 +1,6 @@
 -- What an attempt's tables and rows are, and what is made of the pair that is found.
 use mathlib.Core.Path.{_≡_, sym, ap, subst, _∙_}
-use mathlib.Core.Bool.{true}
+use mathlib.Core.Bool.{true, false}
 use mathlib.Core.List.{List, [], _∷_}
 use mathlib.Core.Option.{Option·map}
 use Prim.Native.Nat.{ℕ, suc, _+_, _*_, _≤_, _<_, _^_, zero-le}
@@ -15,7 +15,7 @@ use Rattle.laws.specs.Test.{is-T}
 use Rattle.rules.specs.declared.Settings.{Settings}
 use Rattle.rules.specs.Cone as C
 use Rattle.rules.specs.Cone.{coneBit, linearTable}
-use Rattle.rules.specs.Composition.{unionSupport, gateTruth, mergeCones, findCandidate}
+use Rattle.rules.specs.Composition.{unionSupport, gateTruth, allEqual, mergeCones, findCandidate}
 use Rattle.rules.specs.Network.{LutNode}
 use Rattle.rules.specs.NetworkText.{sources, allDifferent}
 use Rattle.rules.specs.Runs.{allBits}
@@ -24,10 +24,10 @@ use Rattle.theorems.specs.Bits.{bit-at}
 use Rattle.theorems.specs.ConeTruths.{overRows-bits}
 use Rattle.theorems.specs.Unions.{union-different}
 use Rattle.cone.specs.declared.Cone.{Cone}
-use Rattle.cone.specs.declared.compose.Basis.{Basis}
-use Rattle.cone.specs.Basis.{coefficientsOver, Composed, coefficientsOver-total}
-use Rattle.cone.specs.Compose.{gateTruth-length}
-use Rattle.cone.specs.Span.{table-within-total}
+use Rattle.compose.specs.declared.Basis.{Basis}
+use Rattle.compose.specs.Basis.{coefficientsOver, Composed, coefficientsOver-total}
+use Rattle.compose.specs.Compose.{gateTruth-length}
+use Rattle.linear.specs.Span.{table-within-total}
 use Rattle.theorems.specs.LinearTables.{span-table}
 use Rattle.theorems.specs.ConeValues.{linearTable-length}
 use Rattle.cone.specs.View.{coneOf, narrow-total}
@@ -216,10 +216,10 @@ module _ (s : Settings) (bytes : List ℕ) (count : ℕ) (left right : Cone) (ba
             moments = rw e trial-moments;
           }
 
-      pub trial-attempted : (first second : ℕ) (m : Moments) → first ≡ C.coneSpan (coneOf left) → second ≡ C.coneSpan (coneOf right)
+      pub trial-attempted : allEqual (take rows ts) ≡ false → (first second : ℕ) (m : Moments) → first ≡ C.coneSpan (coneOf left) → second ≡ C.coneSpan (coneOf right)
           → m ≡ momentsOf (take n xs′) (take n ys′) (take n counts)
           → Attempted (coneOf left) (coneOf right) (take rows ts) (take n counts) basis first second (take n xs′) (take n ys′) (take n ts′) m
-      trial-attempted first second m e f g =
+      trial-attempted mixed first second m e f g =
           let X = coefficientsOver U (coneOf left) in
           let Y = coefficientsOver U (coneOf right) in
           let x : take rows xs ≡ linearTable X = tab .x ∙ ap linearTable (t .over .lefts) in
@@ -232,6 +232,7 @@ module _ (s : Settings) (bytes : List ℕ) (count : ℕ) (left right : Cone) (ba
                 (subst (λ l. Compacted (take rows xs) l (take rows ts) (take n xs′) (take n ys′) (take n ts′) (take n counts)) y k);
             rows = length-take-le rows ts (omega (arith, rows-few, tab .t-long)) ∙ sym x-rows ∙ ap (λ l. length (linearTable l)) (t .over .lefts);
             moments = g;
+            mixed = mixed;
           }
 
   -- the tables of the composition

@@ -1,26 +1,28 @@
 // Merging two cones under a gate: one attempt, without a bootstrap.
+use compose::Basis;
+use compose::basis_of;
+use compose::cone_composition_tables;
+use compose::simplify::simplify_cone;
 use cone::Cone;
-use cone::compose::Basis;
-use cone::compose::basis_of;
-use cone::compose::cone_composition_tables;
-use cone::simplify::simplify_cone;
-use cone::support::union_support_size;
-use cone::table::linear_least;
-use cone::table::linear_span;
-use cone::table::rows_of;
 use cone::valid::Validity;
 use cone::valid::validate_cone;
+use linear::linear_least;
+use linear::linear_span;
+use linear::rows_of;
 use rules::Settings;
+use search::energy::Moments;
 use search::energy::energy_moments;
 use search::find_candidate;
 use search::pair::prepare_coefficients;
 use search::rows::Frame;
 use search::rows::compact_rows;
 use search::score::Score;
+use support::union_support_size;
 ghost use mathlib.Core.Path.{_≡_};
-ghost use mathlib.Core.Bool.{true};
+ghost use mathlib.Core.Bool.{true, false};
+ghost use mathlib.Core.List.{List};
 ghost use mathlib.Core.Option.{some};
-ghost use Prim.Native.Nat.{_≤_};
+ghost use Prim.Native.Nat.{ℕ, _≤_};
 ghost use lib.ListN.{length, take};
 ghost use Rattle.rules.specs.CircuitText.{inLimits};
 ghost use Rattle.rules.specs.Cone.{linearTable, validateCone};
@@ -29,7 +31,10 @@ ghost use Rattle.rules.specs.Runs.{allBits};
 ghost use Rattle.scale.specs.Limits.{Within};
 ghost use Rattle.cone.specs.View.{coneOf, IsCone};
 ghost use Rattle.lut.specs.View.{storeOf, IsStore};
-ghost use Rattle.search.specs.Policies.{Finds};
+ghost use Rattle.rules.specs.Cone as C;
+ghost use Rattle.search.specs.Policies.{Attempted, Finds};
+ghost use Rattle.search.specs.Reuse.{Stored};
+ghost use Rattle.search.specs.Search.{Ready};
 ghost use Rattle.gate.specs.Merged.{mergedOf, Mergeable, judgedBy, Judges};
 ghost use Rattle.gate.specs.Pair.{FrameOf, Tabled, Trial, gated};
 ghost use Rattle.bootstrap.specs.View.{Stands};
@@ -82,28 +87,24 @@ fn all_equal(truth: &[u8]) -> bool
     true
 }
 
-// The best scale pair for the rows of both cones and the gate.
-fn best_pair(
+// find_candidate on the first n rows.
+fn find_among(
     s: Settings,
-    left: Cone,
-    right: Cone,
+    first: usize,
+    second: usize,
     basis: Basis,
+    m: Moments,
     nodes: &[u8; 25536],
     count: usize,
-    rows: usize,
-    mut xs: [i32; 2048],
-    mut ys: [i32; 2048],
-    mut truth: [u8; 2048],
+    n: usize,
+    xs: &[i32],
+    ys: &[i32],
+    truth: &[u8],
 ) -> Score
-    requires { ⌜ Trial s (now nodes) count left right basis × Tabled basis rows xs ys truth ⌝ }
-    ensures { λ r. ⌜ Finds s (storeOf (now (nodes .entry)) count) (coneOf left) (coneOf right) (take rows truth) r ⌝ }
+    requires { ⌜ (n ≤ length (now xs)) × ((n ≤ length (now ys)) × (n ≤ length (now truth))) ⌝ }
+    requires { ⌜ (basis .n ≤ 11) × ((first ≤ 32) × ((second ≤ 32) × (Ready s (take (basis .n) (basis .left)) (take (basis .n) (basis .right)) (take n (now xs)) (take n (now ys)) (take n (now truth)) m × Stored (now nodes) count (take (basis .n) (basis .support))))) ⌝ }
+    ensures { λ r. ⌜ ((left right : C.Cone) (all counts : List ℕ) → Attempted left right all counts basis first second (take n (now (xs .entry))) (take n (now (ys .entry))) (take n (now (truth .entry))) m → Finds s (storeOf (now (nodes .entry)) count) left right all r) ⌝ }
 {
-    let f = frame_of(basis);
-    let first = left.span();
-    let second = right.span();
-    let mut counts = [0u16; 2048];
-    let n = compact_rows(f, rows, &mut xs, &mut ys, &mut truth, &mut counts);
-    let m = energy_moments(&xs, &ys, &truth, &counts, n);
     find_candidate(
         s,
         first,
@@ -116,6 +117,31 @@ fn best_pair(
         &ys[..n],
         &truth[..n],
     )
+}
+
+// The best scale pair for the rows of both cones and the gate.
+fn best_pair(
+    s: Settings,
+    left: Cone,
+    right: Cone,
+    basis: Basis,
+    nodes: &[u8; 25536],
+    count: usize,
+    rows: usize,
+    xs: &mut [i32; 2048],
+    ys: &mut [i32; 2048],
+    truth: &mut [u8; 2048],
+) -> Score
+    requires { ⌜ Trial s (now nodes) count left right basis × (Tabled basis rows (now xs) (now ys) (now truth) × (allEqual (take rows (now truth)) ≡ false)) ⌝ }
+    ensures { λ r. ⌜ Finds s (storeOf (now (nodes .entry)) count) (coneOf left) (coneOf right) (take rows (now (truth .entry))) r ⌝ }
+{
+    let f = frame_of(basis);
+    let first = left.span();
+    let second = right.span();
+    let mut counts = [0u16; 2048];
+    let n = compact_rows(f, rows, xs, ys, truth, &mut counts);
+    let m = energy_moments(xs, ys, truth, &counts, n);
+    find_among(s, first, second, basis, m, nodes, count, n, xs, ys, truth)
 }
 
 // merge_cones, before the judgement: the cone of a scale pair, without the sources that it cancels.
@@ -192,7 +218,18 @@ fn composed(
             cone: Cone::constant(truth[0]),
         };
     }
-    let best = best_pair(s, left, right, basis, nodes, count, rows, xs, ys, truth);
+    let best = best_pair(
+        s,
+        left,
+        right,
+        basis,
+        nodes,
+        count,
+        rows,
+        &mut xs,
+        &mut ys,
+        &mut truth,
+    );
     judged(s, left, basis, best)
 }
 

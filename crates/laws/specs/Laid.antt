@@ -4,7 +4,7 @@ use mathlib.Core.List.{List, [], _∷_, _++_}
 use Prim.Native.Nat.{ℕ, zero, suc, _+_, _≤_, _<_}
 use native.Mathlib.Nat.{not-suc-le-zero, le-of-suc-le-suc, zero-add, suc-add}
 use native.Mathlib.Omega.{arith}
-use lib.ListN.{length, set, drop}
+use lib.ListN.{length, set, drop, take}
 use Rattle.laws.specs.Over.{over}
 
 module _ {A : Type 0} where
@@ -55,3 +55,14 @@ module _ {A : Type 0} where
   laid-over [] (y ∷ d) h = refl
   laid-over (x ∷ s) [] h = absurd (not-suc-le-zero h)
   laid-over (x ∷ s) (y ∷ d) h = ap {B = List A} (λ r. x ∷ r) (laid-over s d (le-of-suc-le-suc h))
+
+  -- what is laid, with what stands before it
+  pub laid-take : (k : ℕ) (s d : List A) → k + length s ≤ length d → take (k + length s) (laid k s d) ≡ take k d ++ s
+  unfolding laid
+  laid-take zero [] [] h = refl
+  laid-take zero (x ∷ s) [] h = absurd (omega arith)
+  laid-take (suc k) s [] h = absurd (omega arith)
+  laid-take zero [] (y ∷ d) h = refl
+  laid-take zero (x ∷ s) (y ∷ d) h =
+      rw (zero-add (suc (length s))) (ap {B = List A} (λ r. x ∷ r) (rw (zero-add (length s)) at (laid-take zero s d (omega arith))))
+  laid-take (suc k) s (y ∷ d) h = rw (suc-add k (length s)) (ap {B = List A} (λ r. y ∷ r) (laid-take k s d (omega arith)))

@@ -5,7 +5,9 @@ pub mod Records
 pub mod Store
 pub mod Order
 pub mod Nodes
+pub mod Kinds
 pub mod Reuse
 pub mod Prune
 pub mod Forms
+pub mod Norm
 pub mod Ports

@@ -7,6 +7,7 @@
 // Bytes that are not used are 0, so equal nodes have equal records.
 pub mod forms;
 pub mod node;
+pub mod norm;
 mod order;
 pub mod prune;
 pub mod record;

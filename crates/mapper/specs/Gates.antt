@@ -27,7 +27,7 @@ use Rattle.rules.specs.Runs.{allBits}
 use Rattle.rules.specs.Store.{Stored, bootstrapCone}
 use Rattle.cone.specs.declared.Cone.{Cone}
 use Rattle.cone.specs.View.{coneOf}
-use Rattle.cone.specs.Wires.{coneIn}
+use Rattle.cone_wires.specs.Wires.{coneIn}
 use Rattle.cone.specs.Order.{sideOf}
 use Rattle.lut.specs.View.{storeOf, IsStore}
 use Rattle.bootstrap.specs.declared.boot.Booted.{Booted}

@@ -1,86 +1,26 @@
 -- The largest norm of the nodes that are kept, from the last to the first.
-use mathlib.Core.Path.{_≡_, refl, sym, ap, ap₂, _∙_}
+use mathlib.Core.Path.{_≡_, refl, sym, ap, _∙_}
 use mathlib.Core.Bool.{Bool, true, false}
 use mathlib.Core.List.{List, [], _∷_, map}
-use Prim.Native.Nat.{ℕ, zero, suc, _+_, _*_, _-_, _≤_, _<_, max}
-use native.Mathlib.Nat.{add-comm, add-zero, mul-le-mul}
+use Prim.Native.Nat.{ℕ, suc, _+_, _-_, _≤_, _<_, max}
 use native.Mathlib.Numerals.{add-one}
 use native.Mathlib.Omega.{arith}
 use lib.Dec.{eqb}
-use lib.IntN.{ℤ, pos, natAbs}
-use lib.ListN.{length, getD, drop, drop-of-length-le}
+use lib.IntN.{ℤ}
+use lib.ListN.{getD, drop, drop-of-length-le}
 use lib.Seq.{drop-cons}
 use borrow.Author.Tests.{eq-eqb, ne-eqb}
 use Rattle.laws.specs.Tabulate.{tabulate, tabulate-length, tabulate-at}
 use Rattle.laws.specs.Test.{if_then_else_}
 use Rattle.rules.specs.Network.{Term, LutNode, Input, Linear, Bootstrap, member, nodeNorm, largest}
 use Rattle.rules.specs.Scale.{norm}
-use Rattle.rules.specs.Store.{termsOf, renumbered, renumberedTerm, renumberedNode, keptFrom}
-use Rattle.lut.specs.Nodes.{kindOf}
-use Rattle.lut.specs.Sums.{fine-at}
-use Rattle.lut.specs.View.{term, nodeOf, storeOf, Fine}
-use Rattle.scale.specs.Limits.{Within}
+use Rattle.rules.specs.Store.{renumbered, renumberedTerm, renumberedNode, keptFrom}
+use Rattle.lut.specs.View.{nodeOf, storeOf}
 use Rattle.mapper.specs.Live.{Keeps}
-
-unfoldable pub squareOf : Term → ℕ
-squareOf t = natAbs (t .coef) * natAbs (t .coef)
 
 -- The larger one of node i's norm and the norm so far, if the node is kept.
 unfoldable pub largerKept : List ℕ → ℕ → ℕ → ℕ → ℕ
 largerKept live i own norm = if eqb (getD live i 0) 0 then norm else max own norm
-
--- The squares from term k on.
-unfoldable pub squaresFrom : List Term → ℕ → ℕ
-squaresFrom ts k = norm (map (λ (t : Term). t .coef) (drop k ts))
-
--- ---- laws: one node
-
-pub squares-none : (ts : List Term) (k : ℕ) → length ts ≤ k → squaresFrom ts k ≡ 0
-unfolding squaresFrom norm
-squares-none ts k h = rw (drop-of-length-le ts {i = k} h) refl
-
-pub squares-step : (ts : List Term) (k : ℕ) → 0 < k → k ≤ length ts → squaresFrom ts (k - 1) ≡ squaresFrom ts k + squareOf (getD ts (k - 1) (term (pos 0) 0))
-unfolding squaresFrom squareOf norm
-squares-step ts k p h =
-    let s : suc (k - 1) ≡ k = omega arith in
-    let d : drop (k - 1) ts ≡ getD ts (k - 1) (term (pos 0) 0) ∷ drop k ts = drop-cons ts (k - 1) (term (pos 0) 0) (omega arith) ∙ ap (λ j. getD ts (k - 1) (term (pos 0) 0) ∷ drop j ts) s in
-    ap (λ l. norm (map (λ (t : Term). t .coef) l)) d ∙ add-comm (squareOf (getD ts (k - 1) (term (pos 0) 0))) (norm (map (λ (t : Term). t .coef) (drop k ts)))
-
-pub norm-other : (n : LutNode) → (kindOf n ≡ 1 → ⊥) → nodeNorm n ≡ 1
-unfolding nodeNorm kindOf
-norm-other (Input name) h = refl
-norm-other (Linear c ts) h = absurd (h refl)
-norm-other (Bootstrap i table) h = refl
-
-norm-sum : (n : LutNode) → kindOf n ≡ 1 → squaresFrom (termsOf n) 0 ≡ nodeNorm n
-unfolding nodeNorm kindOf termsOf squaresFrom
-norm-sum (Input name) h = absurd (omega arith)
-norm-sum (Linear c ts) h = refl
-norm-sum (Bootstrap i table) h = absurd (omega arith)
-
-pub norm-done : (n : LutNode) (k sum : ℕ) → kindOf n ≡ 1 → k ≤ 0 → sum ≡ squaresFrom (termsOf n) k → sum ≡ nodeNorm n
-norm-done n k sum h z e = let q : k ≡ 0 = omega arith in e ∙ ap (squaresFrom (termsOf n)) q ∙ norm-sum n h
-
-pub term-near : (i : ℕ) (n : LutNode) (k : ℕ) → Fine i n → k < length (termsOf n) → natAbs (getD (termsOf n) k (term (pos 0) 0) .coef) ≤ 31
-unfolding Fine termsOf
-term-near i (Input name) k f h = absurd (omega arith)
-term-near i (Linear c ts) k f h = fine-at i ts k (term (pos 0) 0) (f .2) h .0
-term-near i (Bootstrap j table) k f h = absurd (omega arith)
-
-pub one-within : (x y : ℤ) → x ≡ y → natAbs y ≤ 31 → Within 1984 (x ∷ [])
-one-within x y e h zero = let q = ap natAbs e in omega arith
-one-within x y e h (suc i) = omega arith
-
-pub one-square : (x : ℤ) (t : Term) (r : ℕ) → x ≡ t .coef → natAbs (t .coef) ≤ 31 → r ≡ norm (x ∷ []) → (r ≡ squareOf t) × (r ≤ 961)
-unfolding norm squareOf
-one-square x t r e h q =
-    let s : r ≡ natAbs (t .coef) * natAbs (t .coef) = q ∙ add-zero (natAbs x * natAbs x) ∙ ap (λ y. natAbs y * natAbs y) e in
-    let b : natAbs (t .coef) * natAbs (t .coef) ≤ 31 * 31 = mul-le-mul h h in
-    (s, omega arith)
-
-pub squares-more : (ts : List Term) (k sum r : ℕ) → 0 < k → k ≤ length ts → length ts ≤ 11 → sum ≡ squaresFrom ts k → sum ≤ 961 * (11 - k)
-    → r ≡ squareOf (getD ts (k - 1) (term (pos 0) 0)) → r ≤ 961 → (sum + r ≡ squaresFrom ts (k - 1)) × (sum + r ≤ 961 * (11 - (k - 1)))
-squares-more ts k sum r p h few e m q l = (ap₂ (λ a b. a + b) e q ∙ sym (squares-step ts k p h), omega arith)
 
 -- ---- laws: the nodes
 

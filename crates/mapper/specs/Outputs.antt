@@ -22,7 +22,7 @@ use Rattle.rules.specs.Store.{Stored, isUsed, insert, sorted, linearTerms, inte
 use Rattle.theorems.specs.Results.{ok-same, err-not}
 use Rattle.cone.specs.declared.Cone.{Cone}
 use Rattle.cone.specs.View.{coneOf}
-use Rattle.cone.specs.Wires.{coneIn}
+use Rattle.cone_wires.specs.Wires.{coneIn}
 use Rattle.lut.specs.declared.Linked.{Linked}
 use Rattle.lut.specs.declared.Signal.the-variants as Signals
 use Rattle.lut.specs.declared.Terms.{Terms}

@@ -17,7 +17,7 @@ use Rattle.circuit.specs.View.{nameAt, inputName, inputNames}
 use Rattle.circuit.specs.Fits.{NameFits}
 use Rattle.cone.specs.declared.Cone.{Cone}
 use Rattle.cone.specs.View.{coneOf, IsCone}
-use Rattle.cone.specs.Wires.{coneIn, IsPut}
+use Rattle.cone_wires.specs.Wires.{coneIn, IsPut}
 use Rattle.lut.specs.View.{storeOf, IsStore}
 use Rattle.bootstrap.specs.View.{Below, Stands}
 use Rattle.mapper.specs.View.{conesIn}

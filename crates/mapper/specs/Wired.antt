@@ -19,7 +19,7 @@ use Rattle.cone.specs.declared.Cone.{Cone}
 use Rattle.cone.specs.declared.order.Side.{Side}
 use Rattle.cone.specs.View.{coneOf}
 use Rattle.cone.specs.Order.{sideOf}
-use Rattle.cone.specs.Wires.{coneIn, IsPut}
+use Rattle.cone_wires.specs.Wires.{coneIn, IsPut}
 use Rattle.lut.specs.View.{storeOf, IsStore}
 use Rattle.bootstrap.specs.View.{Below, Stands}
 use Rattle.mapper.specs.View.{wireCone, conesIn}

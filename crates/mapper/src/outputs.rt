@@ -3,7 +3,7 @@ use crate::gates::Work;
 use bootstrap::boot::bootstrap_cone;
 use cone::Cone;
 use cone::unary::first_truth;
-use cone::wires::cone_at;
+use cone_wires::cone_at;
 use lut::Signal;
 use lut::Terms;
 use rules::Settings;

@@ -1,6 +1,6 @@
 // The start of map_once: the inputs are the first nodes, and each is its own cone; the constants have their slots.
 use cone::Cone;
-use cone::wires::put_cone;
+use cone_wires::put_cone;
 use lut::store::put_input;
 ghost use mathlib.Core.Path.{_≡_};
 ghost use Prim.Native.Nat.{_+_};

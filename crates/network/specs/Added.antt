@@ -1,33 +1,27 @@
 -- A line with no fault added: the arrays stand for the lines with it.
-use mathlib.Core.Path.{_≡_, refl, sym, ap, ap₂, _∙_}
+use mathlib.Core.Path.{_≡_, refl, sym, ap, _∙_}
 use mathlib.Core.Bool.{Bool, true, false, not, _&&_}
 use mathlib.Core.List.{List, [], _∷_, _++_}
-use mathlib.Core.Logic.{⊎-elim}
 use mathlib.Core.Option.{Option, none, some, Option·some-injective, Option·none-ne-some}
 use Prim.Native.Nat.{ℕ, _+_, _*_, _-_, _<_, _≤_}
-use native.Mathlib.Numerals.{add-one}
 use native.Mathlib.Omega.{arith}
-use borrow.Author.Tests.{ne-eqb, lt-ltb, le-ltb, leb-false, eqb-true}
+use borrow.Author.Tests.{ne-eqb, eqb-true}
 use lib.Dec.{leb, eqb, leb→le}
-use lib.ListN.{length, getD, set, take, drop, length-set, length-take, length-drop, List·getD-append}
-use lib.Seq.{getD-set-same, getD-set-other, getD-at, take-take, drop-drop}
-use Rattle.laws.specs.Tabulate.{tabulate-length, tabulate-same, tabulate-snoc}
-use Rattle.laws.specs.Test.{if_then_else_, isSome, lt-or-le, and-left, is-T}
+use lib.ListN.{length, take, drop}
+use Rattle.laws.specs.Tabulate.{tabulate-length}
+use Rattle.laws.specs.Test.{if_then_else_, isSome, and-left, is-T}
 use Rattle.rules.specs.declared.Limit.{Limit}
 use Rattle.rules.specs.declared.Wire.{Wire}
-use Rattle.rules.specs.declared.Wire.the-variants.{Const, Node}
 use Rattle.rules.specs.Builder.{tableLimits}
 use Rattle.rules.specs.Circuit.{Output}
 use Rattle.rules.specs.CircuitText.{noNode}
-use Rattle.rules.specs.Network as W
 use Rattle.rules.specs.Network.{LutNode, Input, Linear, Bootstrap, isInput}
 use Rattle.rules.specs.NetworkText as N
-use Rattle.rules.specs.NetworkText.{Net, NetworkLine, NetLine, NodeLine, OutLine, networkLine, nodeAt, allInputs, settingsOf, withNetworkLine}
-use Rattle.text.specs.Forms.{Named}
-use Rattle.theorems.specs.Counts.{count-snoc, count-most}
+use Rattle.rules.specs.NetworkText.{Net, NetworkLine, NetLine, NodeLine, OutLine, networkLine, allInputs, settingsOf, withNetworkLine}
+use Rattle.text.specs.Name.{Named}
 use Rattle.theorems.specs.LineBits.{WireBit, LineBits, line-bits}
-use Rattle.lut.specs.Ports.{signalWire, outputAt, portOutput}
-use Rattle.lut.specs.View.{nodeOf, storeOf, at-store, store-length, part-drop}
+use Rattle.lut.specs.Ports.{portOutput}
+use Rattle.lut.specs.View.{storeOf, store-length}
 use Rattle.network_text.specs.Lines.{lineIn, lineOf, goodLine, Within, LineRead}
 use Rattle.network_text.specs.Terms.{termsOf}
 use Rattle.network_text.specs.declared.line.Line.{Line}
@@ -38,8 +32,10 @@ use Rattle.network.specs.Numbers.{Says}
 use Rattle.network.specs.Put.{Adds, signalOf, withPort, withNet, withNode, withInput, withOutput, Follows}
 use Rattle.network.specs.Table.{table-length}
 use Rattle.network.specs.Verdict.{refusal, good-same, net-limits, inputs-only, sum-sound, out-known}
-use Rattle.network.specs.View.{outputsOf, netOf, prefixOf, Sound, IsSignal, Holds}
+use Rattle.network.specs.View.{outputsOf, netOf, prefixOf, Sound, Holds}
 use Rattle.network.specs.declared.Header.{Header}
+use Rattle.network.specs.NodeAdded.{holds-node, holds-input}
+use Rattle.network.specs.OutputAdded.{outputs-more, new-output, holds-output}
 
 -- ---- What holds of the arrays says what the lines so far say.
 
@@ -71,176 +67,6 @@ holds-says {text} {nodes} {ports} {h} k =
       most = k .store .most;
       few-inputs = k .few-inputs;
     }
-
--- ---- One node more.
-
-module _ (nodes after : List ℕ) (count : ℕ) (n : LutNode) (k : Adds n nodes count after) where
-  old-node : (i : ℕ) → i < count → nodeOf after i ≡ nodeOf nodes i
-  unfolding nodeAt
-  old-node i h =
-      sym (at-store after i (count + 1) (omega arith))
-      ∙ ap (λ (ns : List LutNode). nodeAt ns i) (k .store)
-      ∙ List·getD-append (storeOf nodes count) (n ∷ []) (Input []) i (rw (store-length nodes count) h)
-      ∙ at-store nodes i count h
-
-  new-node : nodeOf after count ≡ n
-  unfolding nodeAt
-  new-node =
-      sym (at-store after count (count + 1) (omega arith))
-      ∙ ap (λ (ns : List LutNode). nodeAt ns count) (k .store)
-      ∙ getD-at (storeOf nodes count) n [] (Input []) count (store-length nodes count)
-
-  old-store : (i : ℕ) → i ≤ count → storeOf after i ≡ storeOf nodes i
-  unfolding storeOf
-  old-store i h = tabulate-same i (nodeOf after) (nodeOf nodes) (λ j l. old-node j (omega arith))
-
-  -- a fact of each node and those before it
-  node-more : (Q : List LutNode → LutNode → Type 0) → ((i : ℕ) → i < count → Q (storeOf nodes i) (nodeOf nodes i)) → Q (storeOf nodes count) n
-      → (i : ℕ) → i < count + 1 → Q (storeOf after i) (nodeOf after i)
-  node-more Q f q i h =
-      ⊎-elim (λ (l : i < count). rw (old-store i (omega arith), old-node i l) (f i l))
-      (λ (l : count ≤ i). let e : i ≡ count = omega arith in rw (e, old-store count (omega arith), new-node) q) (lt-or-le i count)
-
-signal-more : {count n : ℕ} → IsSignal count n → IsSignal (count + 1) n
-signal-more s = record { most = s .most; node = λ h. omega (arith, s .node h) }
-
-module _ {text nodes ports : List ℕ} {h : Header} (k : Holds text nodes ports h) (after : List ℕ) (n : LutNode) (a : Adds n nodes (h .count) after) (s : Sound (storeOf nodes (h .count)) n) where
-  input-count : W.count isInput (storeOf after (h .count + 1)) ≡ h .inputs + (if isInput n then 1 else 0)
-  input-count = ap (W.count isInput) (a .store) ∙ count-snoc isInput (storeOf nodes (h .count)) n ∙ ap (λ m. m + (if isInput n then 1 else 0)) (sym (k .inputs))
-
-  few : h .inputs ≤ h .count
-  few = rw (k .inputs) (omega (arith, count-most isInput (storeOf nodes (h .count)), store-length nodes (h .count)))
-
-  holds-node : isInput n ≡ false → Holds text after ports (withNode h)
-  unfolding withNode
-  holds-node e =
-      record {
-        store = a .still;
-        long = k .long;
-        few-inputs = k .few-inputs;
-        few-outputs = k .few-outputs;
-        inputs = sym (input-count ∙ rw e (omega arith));
-        first = λ i l.
-            ⊎-elim (λ (q : i < h .count). rw (old-node nodes after (h .count) n a i q) (k .first i q))
-            (λ (q : h .count ≤ i). let c : i ≡ h .count = omega arith in rw (c, new-node nodes after (h .count) n a, e) (sym (le-ltb (h .count) (h .inputs) few))) (lt-or-le i (h .count));
-        sound = node-more nodes after (h .count) n a Sound (k .sound) s;
-        name = k .name;
-        signal = λ i l. signal-more (k .signal i l);
-        limits = k .limits;
-      }
-
-  holds-input : isInput n ≡ true → h .inputs ≡ h .count → h .count < 32 → Holds text after ports (withInput h)
-  unfolding withInput
-  holds-input e all most =
-      record {
-        store = a .still;
-        long = k .long;
-        few-inputs = omega arith;
-        few-outputs = k .few-outputs;
-        inputs = sym (input-count ∙ rw e);
-        first = λ i l.
-            ⊎-elim (λ (q : i < h .count). rw (old-node nodes after (h .count) n a i q, k .first i q, lt-ltb i (h .inputs) (omega arith)) (sym (lt-ltb i (h .inputs + 1) (omega arith))))
-            (λ (q : h .count ≤ i). let c : i ≡ h .count = omega arith in rw (c, new-node nodes after (h .count) n a, e) (sym (lt-ltb (h .count) (h .inputs + 1) (omega arith)))) (lt-or-le i (h .count));
-        sound = node-more nodes after (h .count) n a Sound (k .sound) s;
-        name = k .name;
-        signal = λ i l. signal-more (k .signal i l);
-        limits = k .limits;
-      }
-
--- ---- One output more.
-
--- an output's name in its line, and in the text
-name-within : (text : List ℕ) (at end a e : ℕ) → a ≤ e → e ≤ end - at → take (e - a) (drop a (take (end - at) (drop at text))) ≡ take (at + e - (at + a)) (drop (at + a) text)
-name-within text at end a e h k =
-    let m : end - at ≡ a + (end - at - a) = omega arith in
-    let z : at + e - (at + a) ≡ e - a = omega arith in
-    let d : drop a (take (end - at) (drop at text)) ≡ take (end - at - a) (drop (at + a) text)
-    = ap (λ j. drop a (take j (drop at text))) m ∙ sym (part-drop (end - at - a) a (drop at text)) ∙ ap (λ (x : List ℕ). take (end - at - a) x) (drop-drop a at text) in
-    ap (λ (x : List ℕ). take (e - a) x) d ∙ take-take (e - a) (end - at - a) (drop (at + a) text) (omega arith) ∙ ap (λ j. take j (drop (at + a) text)) (sym z)
-
-module _ (ports : List ℕ) (i a e n : ℕ) (l : length ports ≡ 160) (h : i < 32) where
-  old-port : (j : ℕ) → j < 64 + 3 * i → getD (withPort ports i a e n) j 0 ≡ getD ports j 0
-  unfolding withPort
-  old-port j k =
-      getD-set-other (set (set ports (64 + 3 * i) a) (64 + 3 * i + 1) e) (64 + 3 * i + 2) j n 0 (λ (q : j ≡ 64 + 3 * i + 2). omega arith)
-      ∙ getD-set-other (set ports (64 + 3 * i) a) (64 + 3 * i + 1) j e 0 (λ (q : j ≡ 64 + 3 * i + 1). omega arith)
-      ∙ getD-set-other ports (64 + 3 * i) j a 0 (λ (q : j ≡ 64 + 3 * i). omega arith)
-
-  new-port : (getD (withPort ports i a e n) (64 + 3 * i) 0 ≡ a) × (getD (withPort ports i a e n) (64 + 3 * i + 1) 0 ≡ e) × (getD (withPort ports i a e n) (64 + 3 * i + 2) 0 ≡ n)
-  unfolding withPort
-  new-port = (
-    getD-set-other (set (set ports (64 + 3 * i) a) (64 + 3 * i + 1) e) (64 + 3 * i + 2) (64 + 3 * i) n 0 (λ (q : 64 + 3 * i ≡ 64 + 3 * i + 2). omega arith)
-        ∙ getD-set-other (set ports (64 + 3 * i) a) (64 + 3 * i + 1) (64 + 3 * i) e 0 (λ (q : 64 + 3 * i ≡ 64 + 3 * i + 1). omega arith)
-        ∙ getD-set-same ports (64 + 3 * i) a 0 (omega arith),
-    getD-set-other (set (set ports (64 + 3 * i) a) (64 + 3 * i + 1) e) (64 + 3 * i + 2) (64 + 3 * i + 1) n 0 (λ (q : 64 + 3 * i + 1 ≡ 64 + 3 * i + 2). omega arith)
-        ∙ getD-set-same (set ports (64 + 3 * i) a) (64 + 3 * i + 1) e 0 (simp length-set (omega arith)),
-    getD-set-same (set (set ports (64 + 3 * i) a) (64 + 3 * i + 1) e) (64 + 3 * i + 2) n 0 (simp length-set (omega arith)),
-  )
-
-  port-long : length (withPort ports i a e n) ≡ 160
-  unfolding withPort
-  port-long = simp length-set l
-
-  old-output : (text : List ℕ) (j : ℕ) → j < i → portOutput text (withPort ports i a e n) j ≡ portOutput text ports j
-  unfolding portOutput
-  old-output text j k = rw (old-port (64 + 3 * j) (omega arith), old-port (64 + 3 * j + 1) (omega arith), old-port (64 + 3 * j + 2) (omega arith))
-
-  outputs-more : (text : List ℕ) → outputsOf text (withPort ports i a e n) (i + 1) ≡ outputsOf text ports i ++ (outputAt text a e (signalWire n) ∷ [])
-  unfolding outputsOf portOutput
-  outputs-more text =
-      let p = new-port in
-      rw (add-one i, tabulate-snoc i (portOutput text (withPort ports i a e n)), tabulate-same i (portOutput text (withPort ports i a e n)) (portOutput text ports) (old-output text), p .0, p .1, p .2)
-
--- a signal and its wire
-signal-wire : (count : ℕ) (w : Wire) → count ≤ 672 → noNode count w ≡ false → WireBit w → (signalWire (signalOf w) ≡ w) × IsSignal count (signalOf w)
-unfolding signalWire noNode WireBit
-signal-wire count (Const b) m e t =
-    let z : 1000 + b - 1000 ≡ b = omega arith in
-    (rw (le-ltb (1000 + b) 1000 (omega arith), z), record { most = omega arith; node = λ (l : 1000 + b < 1000). absurd (omega arith) })
-signal-wire count (Node i) m e t =
-    let l = leb-false count i e in
-    (rw (lt-ltb i 1000 (omega arith)), record { most = omega arith; node = λ (q : i < 1000). l })
-
--- the ports with an output that stands in the line from `at` to `end`
-module _ {text nodes ports : List ℕ} {h : Header} (k : Holds text nodes ports h) (at end a e : ℕ) (u : Wire) (o : (at ≤ end) × (end ≤ length text)) (few : h .outputs < 32)
-    (n : Named (length (take (end - at) (drop at text))) a e) (q : noNode (h .count) u ≡ false) (t : WireBit u) where
-  within : e ≤ end - at
-  within = let m = simp (length-take, length-drop) at (n .inside) in omega arith
-
-  new-output : outputAt text (at + a) (at + e) (signalWire (signalOf u)) ≡ record { name = take (e - a) (drop a (take (end - at) (drop at text))); wire = u }
-  unfolding outputAt
-  new-output =
-      ap₂ {C = Output} (λ (x : List ℕ) (y : Wire). record { name = x; wire = y }) (sym (name-within text at end a e (n .later) within)) (signal-wire (h .count) u (k .store .most) q t .0)
-
-  port-more : (Q : ℕ → ℕ → ℕ → Type 0) → ((i : ℕ) → i < h .outputs → Q (getD ports (64 + 3 * i) 0) (getD ports (64 + 3 * i + 1) 0) (getD ports (64 + 3 * i + 2) 0))
-      → Q (at + a) (at + e) (signalOf u)
-      → (i : ℕ) → i < h .outputs + 1
-      → Q (getD (withPort ports (h .outputs) (at + a) (at + e) (signalOf u)) (64 + 3 * i) 0) (getD (withPort ports (h .outputs) (at + a) (at + e) (signalOf u)) (64 + 3 * i + 1) 0)
-      (getD (withPort ports (h .outputs) (at + a) (at + e) (signalOf u)) (64 + 3 * i + 2) 0)
-  port-more Q f g i l =
-      let old = old-port ports (h .outputs) (at + a) (at + e) (signalOf u) (k .long) few in
-      let new = new-port ports (h .outputs) (at + a) (at + e) (signalOf u) (k .long) few in
-      ⊎-elim (λ (j : i < h .outputs). rw (old (64 + 3 * i) (omega arith), old (64 + 3 * i + 1) (omega arith), old (64 + 3 * i + 2) (omega arith)) (f i j))
-      (λ (j : h .outputs ≤ i). let c : i ≡ h .outputs = omega arith in rw (c, new .0, new .1, new .2) g) (lt-or-le i (h .outputs))
-
-  holds-output : Holds text nodes (withPort ports (h .outputs) (at + a) (at + e) (signalOf u)) (withOutput h)
-  unfolding withOutput
-  holds-output =
-      let m = within in
-      let x = o .0 in
-      let y = o .1 in
-      record {
-        store = k .store;
-        long = port-long ports (h .outputs) (at + a) (at + e) (signalOf u) (k .long) few;
-        few-inputs = k .few-inputs;
-        few-outputs = omega arith;
-        inputs = k .inputs;
-        first = k .first;
-        sound = k .sound;
-        name = port-more (λ x y z. Named (length text) x y) (k .name) (record { later = omega (arith, n .later); short = omega (arith, n .short); inside = omega arith });
-        signal = port-more (λ x y z. IsSignal (h .count) z) (k .signal) (signal-wire (h .count) u (k .store .most) q t .1);
-        limits = k .limits;
-      }
 
 -- ---- The line that was read.
 

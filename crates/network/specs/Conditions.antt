@@ -1,31 +1,28 @@
 -- The conditions of a good line, by the header and the nodes so far, and the code's tests of them.
-use mathlib.Core.Path.{_≡_, refl, sym, ap, ap₂, subst, _∙_}
-use mathlib.Core.Bool.{Bool, true, false, _&&_, _||_, not, true≢false}
+use mathlib.Core.Path.{_≡_, refl, sym, ap, subst, _∙_}
+use mathlib.Core.Bool.{Bool, true, false, _&&_, _||_, not}
 use mathlib.Core.List.{List, [], _∷_, _++_}
-use Prim.Native.Nat.{ℕ, _+_, _-_, _<_, _≤_}
-use native.Mathlib.Numerals.{add-one}
+use Prim.Native.Nat.{ℕ, _-_, _<_, _≤_}
 use native.Mathlib.Omega.{arith}
 use borrow.Author.Tests.{eq-eqb, ne-eqb, le-leb, lt-leb, lt-ltb, not-true, not-false}
 use lib.Dec.{leb, ltb, eqb}
-use lib.ListN.{length, getD, take, drop, drop-of-length-le}
-use lib.Seq.{drop-cons, take-length}
+use lib.ListN.{length, take, drop}
 use Rattle.laws.specs.Test.{if_then_else_, if-both}
 use Rattle.rules.specs.declared.Limit.{Limit}
 use Rattle.rules.specs.declared.Limit.the-variants.{Unlimited, AtMost}
 use Rattle.rules.specs.declared.Wire.{Wire}
 use Rattle.rules.specs.declared.Wire.the-variants.{Const, Node}
 use Rattle.rules.specs.Circuit as C
-use Rattle.rules.specs.CircuitText.{sameName, listed, noNode}
+use Rattle.rules.specs.CircuitText.{listed, noNode}
 use Rattle.rules.specs.Form.{Condition, _when_, bitsFrom}
-use Rattle.rules.specs.Network.{Term, LutNode, Input, Linear, Bootstrap, isInput, isLinear}
-use Rattle.rules.specs.NetworkText.{over, names, sources, unknown, nodeAt, anyBadSource, isBit, noBit}
+use Rattle.rules.specs.Network.{Term, LutNode, isInput}
+use Rattle.rules.specs.NetworkText.{over, names, sources, nodeAt, anyBadSource, isBit, noBit}
 use Rattle.rules.specs.Rotation.{rotatable}
-use Rattle.text.specs.Forms.{Named}
+use Rattle.text.specs.Name.{Named}
 use Rattle.text.specs.Judged.{lowest, Numbered}
-use Rattle.lut.specs.Nodes.{bytesIn}
-use Rattle.lut.specs.View.{nodeOf, storeOf, IsStore, at-store, store-length}
+use Rattle.lut.specs.View.{nodeOf, storeOf, IsStore, at-store}
 use Rattle.network_text.specs.Lines.{TablePlace, Within}
-use Rattle.network_text.specs.Terms.{termsOf, termsAt, terms-start, terms-next, terms-end}
+use Rattle.network_text.specs.Terms.{termsOf}
 use Rattle.network_text.specs.declared.line.Line.{Line}
 use Rattle.network_text.specs.declared.line.Line.the-variants.{Bad, Net as NetRead, In, Lin as Sum, Boot, Out}
 use Rattle.network_text.specs.declared.sum.Lin.{Lin}
@@ -75,80 +72,6 @@ lineConditions judge h ns l (In a e) v = inConditions h ns (take (e - a) (drop a
 lineConditions judge h ns l Sum v = linConditions judge h ns (termsOf v)
 lineConditions judge h ns l (Boot i a e) v = bootConditions judge h ns l i a e
 lineConditions judge h ns l (Out a e w) v = outConditions judge h ns w
-
--- ---- The loop over a sum's sources.
-
-unfoldable pub badLeft : List ℕ → ℕ → Lin → ℕ → Bool
-badLeft nodes count v i = anyBadSource (storeOf nodes count) (sources (termsAt v i))
-
-module _ (nodes : List ℕ) (count : ℕ) (v : Lin) where
-  pub source-start : anyBadSource (storeOf nodes count) (sources (termsOf v)) ≡ badLeft nodes count v 0
-  unfolding badLeft
-  source-start = ap (λ ts. anyBadSource (storeOf nodes count) (sources ts)) (terms-start v 0)
-
-  module _ (i : ℕ) where
-    pub source-end : v .n ≤ i → badLeft nodes count v i ≡ false
-    unfolding badLeft anyBadSource sources
-    source-end h = rw (terms-end v i h)
-
-    module _ (h : i < v .n) where
-      pub source-unknown : count ≤ getD (v .sources) i 0 → badLeft nodes count v i ≡ true
-      unfolding badLeft anyBadSource sources unknown
-      source-unknown k = rw (terms-next v i h, store-length nodes count, le-leb count (getD (v .sources) i 0) k)
-
-      module _ (k : getD (v .sources) i 0 < count) {b : Bool} (e : b ≡ isLinear (nodeOf nodes (getD (v .sources) i 0))) where
-        pub source-sum : b ≡ true → badLeft nodes count v i ≡ true
-        unfolding badLeft anyBadSource sources unknown
-        source-sum f = rw (terms-next v i h, store-length nodes count, lt-leb count (getD (v .sources) i 0) k, at-store nodes (getD (v .sources) i 0) count k, sym e ∙ f)
-
-        pub source-next : b ≡ false → badLeft nodes count v i ≡ badLeft nodes count v (i + 1)
-        unfolding badLeft anyBadSource sources unknown
-        source-next f = rw (terms-next v i h, store-length nodes count, lt-leb count (getD (v .sources) i 0) k, at-store nodes (getD (v .sources) i 0) count k, sym e ∙ f)
-
--- ---- The loop over the inputs' names.
-
-unfoldable pub listedLeft : C.Name → List ℕ → ℕ → ℕ → Bool
-listedLeft name nodes count i = listed name (names (drop i (storeOf nodes count)))
-
-pub input-plain : (n : LutNode) → isInput n ≡ true → isLinear n ≡ false
-unfolding isInput isLinear
-input-plain (Input name) e = refl
-input-plain (Linear c ts) e = absurd (true≢false (sym e))
-input-plain (Bootstrap i table) e = absurd (true≢false (sym e))
-
--- a name's bytes as a slice, whole
-pub whole-name : (name : C.Name) {s t : List ℕ} {b : Bool} → b ≡ sameName name (take (length s - 0) (drop 0 s)) → s ≡ t → b ≡ sameName name t
-whole-name name {s} e f = e ∙ ap (sameName name) (let z : length s - 0 ≡ length s = omega arith in rw z (take-length s) ∙ f)
-
-names-cons : (n : LutNode) (ns : List LutNode) → isInput n ≡ true → names (n ∷ ns) ≡ bytesIn n ∷ names ns
-unfolding isInput names bytesIn
-names-cons (Input name) ns e = refl
-names-cons (Linear c ts) ns e = absurd (true≢false (sym e))
-names-cons (Bootstrap i table) ns e = absurd (true≢false (sym e))
-
-module _ (name : C.Name) (nodes : List ℕ) (count : ℕ) where
-  pub name-start : listed name (names (storeOf nodes count)) ≡ listedLeft name nodes count 0
-  unfolding listedLeft
-  name-start = refl
-
-  module _ (i : ℕ) where
-    pub name-end : count ≤ i → listedLeft name nodes count i ≡ false
-    unfolding listedLeft listed names
-    name-end h = rw (drop-of-length-le (storeOf nodes count) {i = i} (rw (store-length nodes count) h))
-
-    module _ (h : i < count) (n : isInput (nodeOf nodes i) ≡ true) {b : Bool} (e : b ≡ sameName name (bytesIn (nodeOf nodes i))) where
-      left-cons : drop i (storeOf nodes count) ≡ nodeOf nodes i ∷ drop (i + 1) (storeOf nodes count)
-      unfolding nodeAt
-      left-cons = drop-cons (storeOf nodes count) i (Input []) (rw (store-length nodes count) h)
-          ∙ ap₂ {C = List LutNode} (λ x k. x ∷ drop k (storeOf nodes count)) (at-store nodes i count h) (sym (add-one i))
-
-      pub name-here : b ≡ true → listedLeft name nodes count i ≡ true
-      unfolding listedLeft listed
-      name-here f = rw (left-cons, names-cons (nodeOf nodes i) (drop (i + 1) (storeOf nodes count)) n, sym e ∙ f)
-
-      pub name-next : b ≡ false → listedLeft name nodes count i ≡ listedLeft name nodes count (i + 1)
-      unfolding listedLeft listed
-      name-next f = rw (left-cons, names-cons (nodeOf nodes i) (drop (i + 1) (storeOf nodes count)) n, sym e ∙ f)
 
 pub all-inputs : {nodes : List ℕ} {h : Header} → Kept nodes h → h .inputs ≡ h .count → Inputs nodes (h .count)
 all-inputs {nodes} {h} k e =

@@ -2,9 +2,12 @@
 pub mod View
 pub mod Bounds
 pub mod Table
+pub mod Scans
 pub mod Conditions
 pub mod Verdict
 pub mod Put
 pub mod Numbers
+pub mod NodeAdded
+pub mod OutputAdded
 pub mod Added
 pub mod Step

@@ -13,7 +13,7 @@ use Rattle.rules.specs.declared.Wire.the-variants.{Const, Node}
 use Rattle.rules.specs.Form.{bitsFrom}
 use Rattle.rules.specs.Network.{Term, LutNode, Input, Linear, Bootstrap}
 use Rattle.lut.specs.declared.Terms.{Terms}
-use Rattle.text.specs.Forms.{Named}
+use Rattle.text.specs.Name.{Named}
 use Rattle.theorems.specs.Bits.{bit-at}
 use Rattle.lut.specs.Store.{put-new}
 use Rattle.lut.specs.Sums.{in-length, fine-more}

@@ -21,10 +21,10 @@ use Rattle.rules.specs.Network.{Term, LutNode, Input, Linear, Bootstrap, Networ
 use Rattle.rules.specs.NetworkText.{Net, NetworkLine, NetLine, NodeLine, OutLine, NetPrefix, networkLine, goodSum, names, allInputs, unknown, nodeAt, sources, anyBadSource, started, ending, textConditions, safetyConditions, admissionConditions, settingsOf, over, withNetworkLine, networkEnded, noNetwork, readNetwork, readAdmitted}
 use Rattle.rules.specs.Scale.{norm}
 use Rattle.text.specs.Cap.{cap-small}
-use Rattle.text.specs.Forms.{capOutput}
+use Rattle.forms.specs.Forms.{capOutput}
 use Rattle.text.specs.Judged.{lowest, Numbered, unmet, readFrom, read-end, read-no-form, read-refused, read-next}
 use Rattle.text.specs.Line.{LineEnd}
-use Rattle.text.specs.Wire.{capWire}
+use Rattle.forms.specs.Wire.{capWire}
 use Rattle.network_text.specs.Lines.{capTerm, capTerms, goodForm, goodLine}
 use Rattle.network.specs.Bounds.{coefNorm}
 

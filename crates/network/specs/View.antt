@@ -13,7 +13,7 @@ use Rattle.rules.specs.Circuit.{Output}
 use Rattle.rules.specs.Form as F
 use Rattle.rules.specs.Network.{LutNode, Input, Linear, Bootstrap, Network, isInput, count}
 use Rattle.rules.specs.NetworkText.{Net, NetPrefix, sources, goodSum, anyBadSource}
-use Rattle.text.specs.Forms.{Named}
+use Rattle.text.specs.Name.{Named}
 use Rattle.lut.specs.Ports.{portOutput}
 use Rattle.lut.specs.View.{nodeOf, storeOf, IsStore}
 use Rattle.network.specs.declared.Header.{Header}

@@ -6,7 +6,7 @@ ghost use lib.ListN.{length, take, drop};
 ghost use Rattle.rules.specs.CircuitText.{sameName, listed};
 ghost use Rattle.rules.specs.Network.{isLinear};
 ghost use Rattle.rules.specs.NetworkText.{over, names, sources, anyBadSource};
-ghost use Rattle.text.specs.Forms.{Named};
+ghost use Rattle.text.specs.Name.{Named};
 ghost use Rattle.text.specs.Judged.{lowest};
 ghost use Rattle.lut.specs.Nodes.{bytesIn};
 ghost use Rattle.lut.specs.View.{nodeOf, storeOf, IsNode, IsStore};

@@ -4,7 +4,7 @@ ghost use Prim.Native.Nat.{_+_, _-_, _<_, _≤_};
 ghost use lib.ListN.{length, take, drop};
 ghost use Rattle.rules.specs.Form.{bitsFrom};
 ghost use Rattle.rules.specs.Network.{Input, Linear, Bootstrap};
-ghost use Rattle.text.specs.Forms.{Named};
+ghost use Rattle.text.specs.Name.{Named};
 ghost use Rattle.text.specs.Line.{LineEnd};
 ghost use Rattle.lut.specs.View.{FineTerms, IsStore};
 ghost use Rattle.network_text.specs.Lines.{TablePlace};
@@ -16,7 +16,6 @@ use crate::Header;
 use network_text::Lin;
 use network_text::Line;
 use network_text::Read;
-use rules::Limit;
 use rules::Wire;
 
 // One node more.

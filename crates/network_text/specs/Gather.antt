@@ -23,7 +23,7 @@ use Rattle.text.specs.Decimal.{same-number}
 use Rattle.text.specs.Many.{many-none, many-some}
 use Rattle.text.specs.Number.{digitsValue}
 use Rattle.text.specs.Reads.{found, ends}
-use Rattle.text.specs.Signed.{capSigned, cap-abs, cap-exact, cap-back}
+use Rattle.forms.specs.Signed.{capSigned, cap-abs, cap-exact, cap-back}
 use Rattle.theorems.specs.Terms.{sources-length}
 use Rattle.network_text.specs.Lines.{capTerm, capTerms}
 use Rattle.network_text.specs.Places.{goodCoef, noPlaces, withPlace, Parts, apart, goodNext}

@@ -19,7 +19,8 @@ use Rattle.rules.specs.Network.{LutNode, Input, Linear, Bootstrap}
 use Rattle.rules.specs.NetworkText.{Net, NetworkLine, NetLine, NodeLine, OutLine, netLine, bootLine, networkLine}
 use Rattle.text.specs.Cap.{cap-table}
 use Rattle.text.specs.Capped.{capped, exact-some}
-use Rattle.text.specs.Forms.{Named, capOutput}
+use Rattle.text.specs.Name.{Named}
+use Rattle.forms.specs.Forms.{capOutput}
 use Rattle.text.specs.Name.{bits-length}
 use Rattle.network_text.specs.LineRead.{capNet, capBoot, BitsAt, plainRead, ended, line-net, line-in, line-lin, line-boot, line-out, line-none}
 use Rattle.network_text.specs.Lines.{goodForm, goodLine, lineIn, lineOf, LineRead}

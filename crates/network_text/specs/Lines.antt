@@ -11,7 +11,8 @@ use Rattle.rules.specs.Form.{bitsFrom}
 use Rattle.rules.specs.Network.{Term, Input, Linear, Bootstrap}
 use Rattle.rules.specs.NetworkText.{NetworkLine, NetLine, NodeLine, OutLine, networkLine, goodSum}
 use Rattle.rules.specs.Runs.{allBits}
-use Rattle.text.specs.Forms.{Named, capOutput}
+use Rattle.forms.specs.Forms.{capOutput}
+use Rattle.text.specs.Name.{Named}
 use Rattle.network_text.specs.Terms.{termsOf, Small}
 use Rattle.network_text.specs.declared.line.Line.{Line}
 use Rattle.network_text.specs.declared.line.Line.the-variants.{Bad, Net as NetRead, In, Lin as Sum, Boot, Out}

@@ -17,9 +17,9 @@ use Rattle.rules.specs.Form.{Piece, Reader, give, onward, only, _>>=_, _>>_, wo
 use Rattle.rules.specs.Network.{Term, LutNode, Linear}
 use Rattle.rules.specs.NetworkText.{NetworkLine, NodeLine, small, goodTerms, goodSum, sources, allDifferent}
 use Rattle.text.specs.Chain.{step, stop}
-use Rattle.text.specs.Signed.{capSigned, signedTaken, signedEnd, cap-abs, cap-exact, cap-back}
-use Rattle.text.specs.declared.Signed.{Signed}
-use Rattle.text.specs.declared.Signed.the-variants.{At as Value, Nothing}
+use Rattle.forms.specs.Signed.{capSigned, signedTaken, signedEnd, cap-abs, cap-exact, cap-back}
+use Rattle.forms.specs.declared.Signed.{Signed}
+use Rattle.forms.specs.declared.Signed.the-variants.{At as Value, Nothing}
 use Rattle.text.specs.Capped.{capped, exact-some, exact-none}
 use Rattle.text.specs.Number.{digitsValue}
 use Rattle.text.specs.Reads.{Reads, found, ends}

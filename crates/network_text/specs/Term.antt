@@ -19,7 +19,7 @@ use Rattle.text.specs.Decimal.{Decimal, number-decimal}
 use Rattle.text.specs.Many.{Keeps, Takes, keeps-then, takes-then, keeps-or, keeps-give, keeps-word, takes-word, keeps-number}
 use Rattle.text.specs.Number.{digitsValue}
 use Rattle.text.specs.Reads.{Reads}
-use Rattle.text.specs.Signed.{capSigned, cap-back}
+use Rattle.forms.specs.Signed.{capSigned, cap-back}
 use Rattle.network_text.specs.declared.sum.TermRead.{TermRead}
 use Rattle.network_text.specs.declared.sum.TermRead.the-variants.{At, Nothing}
 

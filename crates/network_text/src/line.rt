@@ -5,13 +5,13 @@ ghost use Rattle.network_text.specs.Lines.{LineRead};
 ghost use Rattle.network_text.specs.LineRead.{ReadsNet, ReadsBoot, plainRead};
 ghost use Rattle.network_text.specs.LineIs.{NetIs, InIs, SumIs, BootIs, OutIs};
 use crate::sum::Lin;
+use forms::LimitRead;
+use forms::NameRead;
+use forms::OutRead;
 use rules::Limit;
 use rules::Wire;
 use text::Found;
-use text::LimitRead;
-use text::NameRead;
 use text::Number;
-use text::OutRead;
 
 // What a line says: P, M and NORM; where the name stands; a sum; the node and where the bits stand; where the name stands, and the wire.
 pub enum Line {
@@ -58,7 +58,7 @@ fn read_net(l: &[u8]) -> NetRead
     let Found::At(e) = text::read_word(l, d, b" ") else {
         return NetRead::Nothing;
     };
-    let LimitRead::At(norm, f) = text::read_norm(l, e) else {
+    let LimitRead::At(norm, f) = forms::read_norm(l, e) else {
         return NetRead::Nothing;
     };
     let Found::At(z) = text::read_word(l, f, b")\n") else {
@@ -166,7 +166,7 @@ pub fn read_line(l: &[u8]) -> Read
     if let NetRead::At(p, m, norm, end) = read_net(l) {
         return net_line(l, p, m, norm, end);
     }
-    if let NameRead::At(a, e, end) = text::read_in(l, 0) {
+    if let NameRead::At(a, e, end) = forms::read_in(l, 0) {
         return in_line(l, a, e, end);
     }
     if let Found::At(a) = text::read_word(l, 0, b"(lin ") {
@@ -175,7 +175,7 @@ pub fn read_line(l: &[u8]) -> Read
     if let BootRead::At(source, a, e, end) = read_boot(l) {
         return boot_line(l, source, a, e, end);
     }
-    if let OutRead::At(a, e, w, end) = text::read_out(l, 0) {
+    if let OutRead::At(a, e, w, end) = forms::read_out(l, 0) {
         return out_line(l, a, e, w, end);
     }
     plain(Line::Bad)

@@ -10,9 +10,9 @@ ghost use Rattle.network_text.specs.Term.{ReadsTerm};
 ghost use Rattle.network_text.specs.Terms.{noTerms, withTerm};
 ghost use Rattle.network_text.specs.Sum.{TermsRead, closed, badSum, SumRead};
 ghost use Rattle.network_text.specs.Places.{goodCoef, noPlaces, withPlace, Parts, apart, goodNext};
+use forms::Signed;
 use text::Found;
 use text::Number;
-use text::Signed;
 
 // A sum: CONST, and n terms of a coefficient and a node each. A node's number is kept up to 65536.
 pub struct Lin {
@@ -39,7 +39,7 @@ fn read_term(l: &[u8], at: usize) -> TermRead
     let Found::At(b) = text::read_word(l, a, b"(") else {
         return TermRead::Nothing;
     };
-    let Signed::At(coef, d) = text::read_signed(l, b) else {
+    let Signed::At(coef, d) = forms::read_signed(l, b) else {
         return TermRead::Nothing;
     };
     let Found::At(e) = text::read_word(l, d, b" ") else {
@@ -228,7 +228,7 @@ pub fn read_sum(l: &[u8], at: usize) -> LinRead
     requires { ⌜ at ≤ length (now l) ⌝ }
     ensures { λ r. ⌜ SumRead (now (l .entry)) at r ⌝ }
 {
-    let Signed::At(constant, a) = text::read_signed(l, at) else {
+    let Signed::At(constant, a) = forms::read_signed(l, at) else {
         return bad_sum();
     };
     if !is_small(constant) {

@@ -2,6 +2,7 @@
 use mathlib.Core.Path.{_≡_}
 use mathlib.Core.List.{List, [], _∷_}
 use Prim.Native.Nat.{ℕ, zero, suc, _+_, _≤_, _<_, _∣_}
+use native.Mathlib.Nat.{eq-one-of-dvd-one}
 use native.Mathlib.Numerals.{add-one}
 use native.Mathlib.Omega.{arith}
 use lib.IntN.{ℤ, pos, natAbs, _*ℤ_}
@@ -10,7 +11,7 @@ use lib.Seq.{drop-cons}
 use Rattle.laws.specs.Gcd.{gcd}
 use Rattle.laws.specs.Integer.{ints, plus, minus, plus-mul, minus-mul, quot-exact}
 use Rattle.rules.specs.Scale.{gcdFrom, divisor, quotients, normalised}
-use Rattle.theorems.specs.Normalised.{divisor-abs, divisor-divides}
+use Rattle.theorems.specs.Normalised.{divides-start, divisor-abs, divisor-divides}
 
 -- a turn of the loop that takes the gcd, and its end
 module _ (cs : List ℤ) (i : ℕ) where
@@ -21,6 +22,9 @@ module _ (cs : List ℤ) (i : ℕ) where
   pub gcd-end : (g : ℕ) → length cs ≤ i → gcdFrom g (drop i cs) ≡ g
   unfolding gcdFrom
   gcd-end g h = rw (drop-of-length-le cs {i = i} h)
+
+pub gcd-one : (cs : List ℤ) → gcdFrom 1 cs ≡ 1
+gcd-one cs = eq-one-of-dvd-one (divides-start 1 cs)
 
 pub divisor-not-zero : (cs : List ℤ) → 0 < natAbs (divisor cs)
 divisor-not-zero cs = omega (arith, divisor-abs cs)

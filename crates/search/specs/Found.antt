@@ -23,7 +23,7 @@ use Rattle.rules.specs.Span.{least, span}
 use Rattle.rules.specs.Store.{linearOf, terms}
 use Rattle.theorems.specs.Rows.{Within, entered-entries, unknown-entries}
 use Rattle.theorems.specs.Spans.{offset-lt}
-use Rattle.cone.specs.Basis.{coefficientsOver}
+use Rattle.compose.specs.Basis.{coefficientsOver}
 use Rattle.theorems.specs.ConeValues.{linearTable-length}
 use Rattle.search.specs.declared.Ranges.{Ranges}
 use Rattle.search.specs.declared.energy.Moments.{Moments}

@@ -1,6 +1,7 @@
 -- The rows of an attempt, the values of a scale pair at them, their energy, and the search over scale pairs.
 pub mod MergedIntegers
 pub mod MergedValues
+pub mod Factor
 pub mod Rows
 pub mod RowsCompacted
 pub mod EnergyMoments
@@ -15,4 +16,5 @@ pub mod Reuse
 pub mod Steps
 pub mod Candidates
 pub mod Found
+pub mod EqualForms
 pub mod Policies

@@ -12,7 +12,7 @@ use Rattle.rules.specs.Cone.{Cone, linearTable, values}
 use Rattle.rules.specs.Store.{terms, coefficientOf}
 use Rattle.rules.specs.Composition.{Scales, mergedCoefficients}
 use Rattle.scale.specs.Divisor.{divisor-not-zero, normalised-exact}
-use Rattle.cone.specs.Basis.{coefficientsOver}
+use Rattle.compose.specs.Basis.{coefficientsOver}
 use Rattle.theorems.specs.ConeValues.{linearTable-length}
 use Rattle.search.specs.MergedIntegers.{mul-add, add-mul, quot-of, zipWith-append, map-zipWith}
 use Rattle.theorems.specs.Normalised.{normalised-length}
@@ -73,7 +73,7 @@ unfolding times
 times-append d [] t = refl
 times-append d (x ∷ s) t = ap {B = List ℤ} (λ r. (x *ℤ d) ∷ r) (times-append d s t)
 
-table-times : (d : ℤ) (cs : List ℤ) → linearTable (times d cs) ≡ times d (linearTable cs)
+pub table-times : (d : ℤ) (cs : List ℤ) → linearTable (times d cs) ≡ times d (linearTable cs)
 unfolding linearTable times
 table-times d [] = ap {B = List ℤ} (λ v. v ∷ []) (sym (zero-*ℤ d))
 table-times d (c ∷ cs) =
@@ -81,7 +81,7 @@ table-times d (c ∷ cs) =
     ∙ ap {B = List ℤ} (λ t. times d (linearTable cs) ++ t) (sym (times-shifted d c (linearTable cs)))
     ∙ sym (times-append d (linearTable cs) (map (λ v. c +ℤ v) (linearTable cs)))
 
-quotients-times : (d : ℤ) (l : List ℤ) → 0 < natAbs d → quotients d (times d l) ≡ l
+pub quotients-times : (d : ℤ) (l : List ℤ) → 0 < natAbs d → quotients d (times d l) ≡ l
 unfolding quotients times
 quotients-times d [] h = refl
 quotients-times d (x ∷ l) h = ap₂ {C = List ℤ} (λ v r. v ∷ r) (quot-of x d (x *ℤ d) h refl) (quotients-times d l h)

@@ -19,7 +19,7 @@ use Rattle.rules.specs.Scale.{divisor, quotients, normalised, isScalePair, norm
 use Rattle.rules.specs.Span.{least, span}
 use Rattle.scale.specs.Limits.{Within, Machine}
 use Rattle.scale.specs.Divisor.{divisor-not-zero}
-use Rattle.cone.specs.Span.{within-total}
+use Rattle.linear.specs.Span.{within-total}
 use Rattle.theorems.specs.LinearTables.{total}
 use Rattle.search.specs.declared.pair.Pair.{Pair}
 use Rattle.search.specs.MergedIntegers.{zipWith-length, zipWith-at}

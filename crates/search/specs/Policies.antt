@@ -1,31 +1,36 @@
 -- The pairs of each policy, and what is found among them.
-use mathlib.Core.Path.{_≡_, sym, ap, ap₂, subst, _∙_}
-use mathlib.Core.Bool.{true}
+use mathlib.Core.Path.{_≡_, refl, sym, ap, ap₂, subst, _∙_}
+use mathlib.Core.Bool.{Bool, true, false}
 use mathlib.Core.List.{List, [], _∷_, flatMap, append-nil}
 use mathlib.Core.Option.{none}
-use Prim.Native.Nat.{ℕ, zero, suc, _+_, _*_, _-_, _≤_}
+use Prim.Native.Nat.{ℕ, zero, suc, _+_, _*_, _-_, _≤_, _<_, _^_}
 use native.Mathlib.Nat.{mod-one}
 use native.Mathlib.Omega.{arith}
 use borrow.Author.Tests.{lt-ltb}
 use lib.Dec.{eqb}
 use lib.IntN.{ℤ, pos}
 use lib.ListN.{length, take, length-map}
+use lib.Pow.{pow-pos}
 use Rattle.laws.specs.Gcd.{gcd, gcd-zero, gcd-step}
 use Rattle.laws.specs.Test.{if_then_else_}
 use Rattle.rules.specs.declared.Policy.{Policy}
 use Rattle.rules.specs.declared.Policy.the-variants.{Basic, Naive, Span}
 use Rattle.rules.specs.declared.Settings.{Settings}
-use Rattle.rules.specs.Cone.{Cone, Candidate, linearTable, coneSpan, bestFrom, best}
-use Rattle.rules.specs.Composition.{Scales, scales, unionSupport, scalePairs, triedPairs, mergedCoefficients, evaluate, findCandidate}
+use Rattle.rules.specs.Cone.{Cone, Candidate, linearTable, values, coneSpan, bestFrom, best}
+use Rattle.rules.specs.Composition.{Scales, scales, unionSupport, allEqual, scalePairs, triedPairs, mergedCoefficients, evaluate, findCandidate}
 use Rattle.rules.specs.Network.{LutNode}
 use Rattle.rules.specs.Scale.{isScalePair}
-use Rattle.cone.specs.declared.compose.Basis.{Basis}
-use Rattle.cone.specs.Basis.{coefficientsOver, IsBasis}
+use Rattle.rules.specs.Store.{terms, coefficientOf}
+use Rattle.theorems.specs.ConeValues.{linearTable-length}
+use Rattle.theorems.specs.Spans.{span-is}
+use Rattle.compose.specs.declared.Basis.{Basis}
+use Rattle.compose.specs.Basis.{coefficientsOver, IsBasis}
 use Rattle.search.specs.declared.Ranges.{Ranges}
 use Rattle.search.specs.declared.energy.Moments.{Moments}
 use Rattle.search.specs.declared.score.Score.{Score}
 use Rattle.search.specs.EnergyRows.{momentsOf}
 use Rattle.search.specs.Candidates.{candidateOf, Found}
+use Rattle.search.specs.EqualForms.{first-best}
 use Rattle.search.specs.Found.{walks-same}
 use Rattle.search.specs.Pairs.{tried, triedAt, pairs-walked}
 use Rattle.search.specs.RowsCompacted.{Compacted}
@@ -33,16 +38,24 @@ use Rattle.search.specs.Score.{noScore}
 use Rattle.search.specs.Search.{context, coneBy, stepAt, InSpans}
 use Rattle.search.specs.Walk.{walkRow, walk}
 
--- Naive has the pair (right, 1) alone.
-abbrev pub rangesOf : Policy → ℕ → ℕ → Ranges
-rangesOf Basic left right = record { bottom = 0; top = right + 1; start = 0; end = 2 * left + 1; origin = left }
-rangesOf Naive left right = record { bottom = right; top = right + 1; start = 1; end = 2; origin = 0 }
-rangesOf Span left right = record { bottom = 0; top = right + 1; start = 0; end = 2 * left + 1; origin = left }
+-- Of equal forms (0, 1) alone; Naive has the pair (right, 1) alone.
+abbrev pub rangesOf : Bool → Policy → ℕ → ℕ → Ranges
+rangesOf same Naive left right = record { bottom = right; top = right + 1; start = 1; end = 2; origin = 0 }
+rangesOf true Basic left right = record { bottom = 0; top = 1; start = 1; end = 2; origin = 0 }
+rangesOf true Span left right = record { bottom = 0; top = 1; start = 1; end = 2; origin = 0 }
+rangesOf false Basic left right = record { bottom = 0; top = right + 1; start = 0; end = 2 * left + 1; origin = left }
+rangesOf false Span left right = record { bottom = 0; top = right + 1; start = 0; end = 2 * left + 1; origin = left }
 
-pub ranges-in : (policy : Policy) (left right : ℕ) → left ≤ 32 → right ≤ 32 → InSpans (rangesOf policy left right)
-ranges-in Basic left right h k = record { first = omega arith; origin = h; second = omega arith }
-ranges-in Naive left right h k = record { first = omega arith; origin = omega arith; second = omega arith }
-ranges-in Span left right h k = record { first = omega arith; origin = h; second = omega arith }
+pub ranges-in : (same : Bool) (policy : Policy) (left right : ℕ) → left ≤ 32 → right ≤ 32 → InSpans (rangesOf same policy left right)
+ranges-in same Naive left right h k = record { first = omega arith; origin = omega arith; second = omega arith }
+ranges-in true Basic left right h k = record { first = omega arith; origin = omega arith; second = omega arith }
+ranges-in true Span left right h k = record { first = omega arith; origin = omega arith; second = omega arith }
+ranges-in false Basic left right h k = record { first = omega arith; origin = h; second = omega arith }
+ranges-in false Span left right h k = record { first = omega arith; origin = h; second = omega arith }
+
+pub basic-is-span : (same : Bool) (left right : ℕ) → rangesOf same Span left right ≡ rangesOf same Basic left right
+basic-is-span true left right = refl
+basic-is-span false left right = refl
 
 -- ---- the definition's pairs are those of the ranges
 gcd-one : (n : ℕ) → gcd n 1 ≡ 1
@@ -60,7 +73,7 @@ module _ (E : Scales → List Candidate) where
       ap (bestFrom none) (append-nil (E (scales (pos right) (pos 1))))
       ∙ sym (ap (λ t. if t then bestFrom none (E (scales (pos right) (pos 1))) else none) (naive-pair right))
 
-  pub policy-walked : (policy : Policy) (left right : ℕ) (r : Ranges) → r ≡ rangesOf policy left right
+  policy-walked : (policy : Policy) (left right : ℕ) (r : Ranges) → r ≡ rangesOf false policy left right
       → best (flatMap E (triedPairs policy left right)) ≡ walk (triedAt E (r .origin)) (r .start) (r .end - r .start) (r .bottom) (r .top - r .bottom) none
   unfolding triedPairs
   policy-walked policy left right r e =
@@ -76,7 +89,7 @@ module _ (E : Scales → List Candidate) where
       all-pairs = pairs-walked E left right ∙ ap₂ (λ n k. walk (triedAt E left) 0 n 0 k none) (less-none (2 * left + 1)) (less-none (right + 1))
 
       by : (p : Policy) → best (flatMap E (triedPairs p left right))
-          ≡ walk (triedAt E (rangesOf p left right .origin)) (rangesOf p left right .start) (rangesOf p left right .end - rangesOf p left right .start) (rangesOf p left right .bottom) (rangesOf p left right .top - rangesOf p left right .bottom) none
+          ≡ walk (triedAt E (rangesOf false p left right .origin)) (rangesOf false p left right .start) (rangesOf false p left right .end - rangesOf false p left right .start) (rangesOf false p left right .bottom) (rangesOf false p left right .top - rangesOf false p left right .bottom) none
       by Basic = all-pairs
       by Naive = naive-walked right ∙ ap (λ k. walk (triedAt E 0) 1 1 right k none) (sym (one right))
       by Span = all-pairs
@@ -91,6 +104,7 @@ pub record Attempted (left right : Cone) (truth : List ℕ) (counts : List ℕ) 
       (linearTable (coefficientsOver (unionSupport (left .support) (right .support)) right)) truth xs ys ts counts
   pub rows : length truth ≡ length (linearTable (coefficientsOver (unionSupport (left .support) (right .support)) left))
   pub moments : m ≡ momentsOf xs ys counts
+  pub mixed : allEqual truth ≡ false
 
 -- What is found.
 pub record Finds (s : Settings) (nodes : List LutNode) (left right : Cone) (truth : List ℕ) (r : Score) : Type 0 where
@@ -107,28 +121,57 @@ module _ (s : Settings) (nodes : List LutNode) (left right : Cone) (truth counts
   unfolding coefficientsOver
   even = simp length-map
 
-  pub finds : (r : Ranges) (t : Score) → r ≡ rangesOf (s .policy) first second
+  abbrev evaluated : Scales → List Candidate
+  evaluated p = evaluate s nodes p (coneBy U (mergedCoefficients U left right p) truth)
+
+  many : length truth ≡ 2 ^ length U
+  unfolding coefficientsOver
+  many = h .rows ∙ linearTable-length (coefficientsOver U left) ∙ ap (λ n. 2 ^ n) (length-map U (coefficientOf (terms left)))
+
+  wide : 0 < coneSpan left
+  unfolding coneSpan values
+  wide = omega (arith, span-is (linearTable (left .coefficients)) (rw (linearTable-length (left .coefficients)) (pow-pos (length (left .coefficients)))))
+
+  -- (0, 1) stands for all pairs of equal forms
+  first-pair : coefficientsOver U left ≡ coefficientsOver U right → (r : Ranges) → r ≡ rangesOf true Span (coneSpan left) (coneSpan right)
+      → best (flatMap evaluated (scalePairs (coneSpan left) (coneSpan right))) ≡ walk (triedAt evaluated (r .origin)) (r .start) (r .end - r .start) (r .bottom) (r .top - r .bottom) none
+  first-pair f r e =
+      first-best s nodes U left right truth f many (h .mixed) (coneSpan left) (coneSpan right) wide
+      ∙ ap (λ (r : Ranges). walk (triedAt evaluated (r .origin)) (r .start) (r .end - r .start) (r .bottom) (r .top - r .bottom) none) (sym e)
+
+  -- the definition's pairs
+  pairs-for : (same : Bool) (policy : Policy) (r : Ranges) → (same ≡ true → coefficientsOver U left ≡ coefficientsOver U right)
+      → r ≡ rangesOf same policy (coneSpan left) (coneSpan right)
+      → best (flatMap evaluated (triedPairs policy (coneSpan left) (coneSpan right))) ≡ walk (triedAt evaluated (r .origin)) (r .start) (r .end - r .start) (r .bottom) (r .top - r .bottom) none
+  unfolding triedPairs
+  pairs-for false policy r f e = policy-walked evaluated policy (coneSpan left) (coneSpan right) r e
+  pairs-for true Naive r f e = policy-walked evaluated Naive (coneSpan left) (coneSpan right) r e
+  pairs-for true Basic r f e = first-pair (f refl) r e
+  pairs-for true Span r f e = first-pair (f refl) r e
+
+  pub finds : (same : Bool) (r : Ranges) (t : Score) → (same ≡ true → coefficientsOver U left ≡ coefficientsOver U right) → r ≡ rangesOf same (s .policy) first second
       → t ≡ walk (stepAt (context s nodes U (coefficientsOver U left) (coefficientsOver U right) m) xs ys ts (r .origin)) (r .start) (r .end - r .start) (r .bottom) (r .top - r .bottom) noScore
       → Finds s nodes left right truth t
   unfolding findCandidate coneBy
-  finds r t e f =
-      let w = walks-same s nodes U left right truth xs ys ts counts m (h .stands) even (h .rows) (h .moments) narrow r (subst InSpans (sym e) (ranges-in (s .policy) first second few-left few-right)) in
-      let evaluated : Scales → List Candidate = λ p. evaluate s nodes p (coneBy U (mergedCoefficients U left right p) truth) in
+  finds same r t q e f =
+      let w = walks-same s nodes U left right truth xs ys ts counts m (h .stands) even (h .rows) (h .moments) narrow r (subst InSpans (sym e) (ranges-in same (s .policy) first second few-left few-right)) in
       record {
         candidate = ap (candidateOf U left right truth) f
             ∙ w .0
-            ∙ sym (policy-walked evaluated (s .policy) (coneSpan left) (coneSpan right) r (e ∙ ap₂ (rangesOf (s .policy)) (h .left-span) (h .right-span)));
+            ∙ sym (pairs-for same (s .policy) r q (e ∙ ap₂ (rangesOf same (s .policy)) (h .left-span) (h .right-span)));
         found = subst (λ (t : Score). t .found ≡ true → Found s U left right truth t) (sym f) (w .1);
       }
 
   -- the same over the arrays of the basis
-  pub finds-over : (r : Ranges) (t : Score) (n : ℕ) → r ≡ rangesOf (s .policy) first second → n ≡ basis .n
+  pub finds-over : (same : Bool) (r : Ranges) (t : Score) (n : ℕ) → (same ≡ true → take (basis .n) (basis .left) ≡ take (basis .n) (basis .right))
+      → r ≡ rangesOf same (s .policy) first second → n ≡ basis .n
       → t ≡ walk (stepAt (context s nodes (take n (basis .support)) (take (basis .n) (basis .left)) (take (basis .n) (basis .right)) m) xs ys ts (r .origin)) (r .start) (r .end - r .start) (r .bottom) (r .top - r .bottom) noScore
       → Finds s nodes left right truth t
-  finds-over r t n e f g =
+  finds-over same r t n q e f g =
       let b = h .over in
-      let same : context s nodes (take n (basis .support)) (take (basis .n) (basis .left)) (take (basis .n) (basis .right)) m
+      let both : context s nodes (take n (basis .support)) (take (basis .n) (basis .left)) (take (basis .n) (basis .right)) m
       ≡ context s nodes U (coefficientsOver U left) (coefficientsOver U right) m =
       ap (λ l. context s nodes l (take (basis .n) (basis .left)) (take (basis .n) (basis .right)) m) (ap (λ k. take k (basis .support)) f ∙ b .sources)
       ∙ ap₂ (λ x y. context s nodes U x y m) (b .lefts) (b .rights) in
-      finds r t e (g ∙ ap (λ k. walk (stepAt k xs ys ts (r .origin)) (r .start) (r .end - r .start) (r .bottom) (r .top - r .bottom) noScore) same)
+      finds same r t (λ z. sym (b .lefts) ∙ q z ∙ b .rights) e
+      (g ∙ ap (λ k. walk (stepAt k xs ys ts (r .origin)) (r .start) (r .end - r .start) (r .bottom) (r .top - r .bottom) noScore) both)

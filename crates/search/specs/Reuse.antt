@@ -13,7 +13,7 @@ use Rattle.rules.specs.Composition.{reuseCost}
 use Rattle.rules.specs.Network.{Linear}
 use Rattle.rules.specs.Store.{terms, linearTerms, linearOf, hasBootstrap}
 use Rattle.scale.specs.Limits.{Within}
-use Rattle.cone.specs.Span.{within-total}
+use Rattle.linear.specs.Span.{within-total}
 use Rattle.theorems.specs.LinearTables.{span-table}
 use Rattle.lut.specs.declared.Terms.{Terms}
 use Rattle.lut.specs.View.{IsStore, GoodTerms, FineTerms, term, termsOver, termsIn}

@@ -24,7 +24,7 @@ use Rattle.rules.specs.Span.{least, span}
 use Rattle.scale.specs.Divisor.{divisor-not-zero}
 use Rattle.theorems.specs.Normalised.{divisor-abs}
 use Rattle.scale.specs.Limits.{Within}
-use Rattle.cone.specs.Span.{table-within-total}
+use Rattle.linear.specs.Span.{table-within-total}
 use Rattle.theorems.specs.ConeValues.{linearTable-length}
 use Rattle.theorems.specs.Rows.{enter-turn, enter-stop, enter-end, entered-entries, unknown-entries}
 use Rattle.theorems.specs.Spans.{least-le, offset-lt}
@@ -36,7 +36,7 @@ use Rattle.search.specs.MergedValues.{mergedValue, merged-values}
 use Rattle.search.specs.Pair.{Scaling, mergedRow, merged, weighed, measured, noPair, pairOf, levelOf, Level, row-small}
 use Rattle.search.specs.Score.{betterScore}
 use Rattle.search.specs.Search.{Context, rowValues, enteredFrom, energyBy, reuseOf, scoreOf, considered, stepOf, stepAt, ValuesIn, Ready, Scored, Merges}
-use Rattle.cone.specs.Table.{table-first}
+use Rattle.linear.specs.Table.{table-first}
 
 module _ (k : Context) (xs ys : List ℤ) (ts : List ℕ) (origin u v : ℕ) (best : Score) (c : Pair)
     (e : c ≡ pairOf (k .settings) (k .left) (k .right) (pos u) (pos v -ℤ pos origin)) where

@@ -1,11 +1,13 @@
 // The search for the scale pair under which two cones become one.
 pub mod energy;
+mod forms;
 pub mod pair;
 pub mod rows;
 pub mod score;
 
-use cone::compose::Basis;
+use compose::Basis;
 use energy::Moments;
+use forms::is_same_form;
 use lut::Terms;
 use pair::Pair;
 use pair::candidate_at;
@@ -17,6 +19,7 @@ use score::Score;
 use score::better;
 use score::no_score;
 ghost use mathlib.Core.Path.{_≡_};
+ghost use mathlib.Core.Bool.{Bool};
 ghost use mathlib.Core.List.{List};
 ghost use mathlib.Core.Option.{some};
 ghost use Prim.Native.Nat.{ℕ, _-_, _≤_, _<_, _^_};
@@ -194,11 +197,20 @@ pub fn search(
     best
 }
 
-// a from 0 to the right span, b from minus to plus the left span.
-fn all_pairs(left: usize, right: usize) -> Ranges
+// a from 0 to the right span, b from minus to plus the left span. Of equal forms (0, 1) alone: every other pair gives the same sum, and comes later.
+fn searched_pairs(same: bool, left: usize, right: usize) -> Ranges
     requires { ⌜ (left ≤ 32) × (right ≤ 32) ⌝ }
-    ensures { λ r. ⌜ r ≡ rangesOf Span left right ⌝ }
+    ensures { λ r. ⌜ r ≡ rangesOf same Span left right ⌝ }
 {
+    if same {
+        return Ranges {
+            bottom: 0,
+            top: 1,
+            start: 1,
+            end: 2,
+            origin: 0,
+        };
+    }
     Ranges {
         bottom: 0,
         top: right + 1,
@@ -211,7 +223,7 @@ fn all_pairs(left: usize, right: usize) -> Ranges
 // The pair (right, 1).
 fn naive_pair(right: usize) -> Ranges
     requires { ⌜ right ≤ 32 ⌝ }
-    ensures { λ r. ⌜ ((left : ℕ) → r ≡ rangesOf Naive left right) ⌝ }
+    ensures { λ r. ⌜ ((same : Bool) (left : ℕ) → r ≡ rangesOf same Naive left right) ⌝ }
 {
     Ranges {
         bottom: right,
@@ -222,15 +234,15 @@ fn naive_pair(right: usize) -> Ranges
     }
 }
 
-// The pairs that a policy tries, by the left and the right span.
-fn ranges_of(policy: Policy, left: usize, right: usize) -> Ranges
+// The pairs that a policy tries, by the left and the right span, where both forms are the same or not.
+fn ranges_of(same: bool, policy: Policy, left: usize, right: usize) -> Ranges
     requires { ⌜ (left ≤ 32) × (right ≤ 32) ⌝ }
-    ensures { λ r. ⌜ r ≡ rangesOf policy left right ⌝ }
+    ensures { λ r. ⌜ r ≡ rangesOf same policy left right ⌝ }
 {
     match policy {
-        Policy::Basic => all_pairs(left, right),
+        Policy::Basic => searched_pairs(same, left, right),
         Policy::Naive => naive_pair(right),
-        Policy::Span => all_pairs(left, right),
+        Policy::Span => searched_pairs(same, left, right),
     }
 }
 
@@ -256,7 +268,8 @@ pub fn find_candidate(
     let right = basis.right;
     let sources = basis.support;
     let policy = s.policy;
-    let r = ranges_of(policy, first, second);
+    let same = is_same_form(basis);
+    let r = ranges_of(same, policy, first, second);
     search(
         s,
         r,

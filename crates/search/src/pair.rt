@@ -75,14 +75,14 @@ fn weigh(coefs: &[i64], s: Settings, a: i64, b: i64, divisor: i64) -> Pair
     requires { ⌜ (length (now coefs) ≤ 11) × Within 1984 (now coefs) ⌝ }
     ensures { λ r. ⌜ r ≡ weighed s a b divisor (now (coefs .entry)) ⌝ }
 {
-    let span = cone::table::linear_span(coefs);
+    let span = linear::linear_span(coefs);
     let norm = scale::coefficients_norm2(coefs);
     Pair {
         ok: is_within(s, span, norm),
         a,
         b,
         divisor,
-        low: cone::table::linear_least(coefs),
+        low: linear::linear_least(coefs),
         span,
         norm,
     }

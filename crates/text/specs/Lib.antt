@@ -5,17 +5,11 @@ pub mod Judged
 pub mod Cap
 pub mod Many
 pub mod FirstLine
-pub mod LineForms
 pub mod Exactly
 pub mod Run
 pub mod Chain
 pub mod Number
 pub mod Capped
-pub mod Wire
-pub mod Limit
-pub mod Signed
-pub mod Forms
 pub mod Same
 pub mod Decimal
-pub mod Names
 pub mod Name

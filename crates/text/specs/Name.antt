@@ -3,11 +3,11 @@ use mathlib.Core.Path.{_≡_, refl, ap, subst}
 use mathlib.Core.Bool.{Bool, true, false}
 use mathlib.Core.List.{List, [], _∷_}
 use mathlib.Core.Option.{none, some, Option·some-injective}
-use Prim.Native.Nat.{ℕ, suc, _-_, _<_, _≤_}
+use Prim.Native.Nat.{ℕ, suc, _+_, _-_, _<_, _≤_}
 use native.Mathlib.Omega.{arith}
 use borrow.Author.Tests.{le-leb, lt-leb}
 use lib.Dec.{T, leb, leb→le}
-use lib.ListN.{length, take, drop}
+use lib.ListN.{length, take, drop, length-take, length-drop}
 use Rattle.laws.specs.Test.{if_then_else_, is-T, and-left, and-right}
 use Rattle.rules.specs.Form.{give, run, runOf, name, isName, isNameByte, bits, isBits, isBitByte, bitsFrom}
 use Rattle.text.specs.Chain.{step, stop}
@@ -54,3 +54,14 @@ name-bounds l w x = by (run isNameByte l) (isName (run isNameByte l)) refl
     by : (v : List ℕ) (t : Bool) → isName v ≡ t → (if t then give v (drop (length v) l) else none) ≡ some (record { value = w; rest = x }) → (1 ≤ length w) × (length w ≤ 16)
     by v true g e = subst (λ p. (1 ≤ length (p .value)) × (length (p .value) ≤ 16)) (Option·some-injective _ _ e) (sized v (is-T _ g))
     by v false g e = let z : _≡_ {A = ℕ} 0 1 = cc in omega arith
+
+-- The bytes from a up to b of a text of n bytes may be a name.
+pub record Named (n a b : ℕ) : Type 0 where
+  pub later : a ≤ b
+  pub short : b ≤ a + 16
+  pub inside : b ≤ n
+
+pub name-named : (s : List ℕ) (a e : ℕ) → name (drop a s) ≡ some (record { value = take (e - a) (drop a s); rest = drop e s }) → e ≤ length s → Named (length s) a e
+name-named s a e h k =
+    let w = simp (length-take, length-drop) at (name-bounds _ _ _ h) in
+    record { later = omega arith; short = omega arith; inside = k }

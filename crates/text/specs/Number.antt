@@ -1,7 +1,7 @@
 -- Decimal numbers: what a number that was read says of its digits, and when two are the same.
 use mathlib.Core.Path.{_≡_, refl, subst}
 use mathlib.Core.Bool.{or-true}
-use mathlib.Core.List.{List, []}
+use mathlib.Core.List.{List}
 use mathlib.Core.Option.{Option, none, some}
 use Prim.Native.Nat.{ℕ, suc, _+_, _*_, _-_, _<_, _≤_, min}
 use native.Mathlib.Nat.{add-zero}

@@ -1,23 +1,14 @@
-// The pieces of a text: lines, words, names, bits, numbers, wires and limits, each read from a place of the text, and names kept.
-use rules::Limit;
-use rules::Wire;
-ghost use mathlib.Core.List.{map};
+// The pieces of a text: where a line ends, words, names, bits and numbers, each read from a place of the text; and bytes compared.
+// It leans on no other code.
 ghost use mathlib.Core.Path.{_≡_};
 ghost use Prim.Native.Nat.{_+_, _*_, _-_, _<_, _≤_, min};
-ghost use lib.IntN.{pos, negℤ};
 ghost use lib.ListN.{length, take, drop};
-ghost use Rattle.rules.specs.CircuitText.{sameName, listed};
-ghost use Rattle.rules.specs.Form.{exactly, isDigit, isNameByte, isBitByte, name, bits, wire, norm, signed};
-ghost use Rattle.text.specs.Capped.{capped};
-ghost use Rattle.text.specs.Forms.{Named, ReadsIn, ReadsOut};
-ghost use Rattle.text.specs.Limit.{limitTaken, limitEnd};
+ghost use Rattle.rules.specs.CircuitText.{sameName};
+ghost use Rattle.rules.specs.Form.{exactly, isDigit, isNameByte, isBitByte, name, bits};
 ghost use Rattle.text.specs.Line.{LineEnd};
-ghost use Rattle.text.specs.Names.{nameBytes};
 ghost use Rattle.text.specs.Number.{ReadsNumber, digitsValue};
 ghost use Rattle.text.specs.Run.{RunEnd, isOf};
 ghost use Rattle.text.specs.Reads.{Reads, passed, taken, bitsTaken, endOf};
-ghost use Rattle.text.specs.Signed.{capSigned, signedTaken, signedEnd, negative};
-ghost use Rattle.text.specs.Wire.{capWire, wireTaken, wireEnd, nodeWire};
 
 // Where the line from `at` on ends: behind its newline, or at the text's end.
 pub fn line_end(s: &[u8], at: usize) -> usize
@@ -194,165 +185,6 @@ pub fn read_number(s: &[u8], at: usize) -> Number
     Number::At(value_of(s, at, e), e)
 }
 
-// A wire, its ID at most 65536, and where it ends.
-pub enum WireRead {
-    At(Wire, usize),
-    Nothing,
-}
-
-// `(n ID)`
-fn read_node(s: &[u8], at: usize) -> WireRead
-    requires { ⌜ at ≤ length (now s) ⌝ }
-    ensures { λ r. ⌜ Reads (length (now (s .entry))) (wireTaken (now (s .entry)) r) (wireEnd r) (capped capWire (nodeWire (drop at (now (s .entry))))) ⌝ }
-{
-    let Found::At(a) = read_word(s, at, b"(n ") else {
-        return WireRead::Nothing;
-    };
-    let Number::At(i, b) = read_number(s, a) else {
-        return WireRead::Nothing;
-    };
-    let Found::At(e) = read_word(s, b, b")") else {
-        return WireRead::Nothing;
-    };
-    WireRead::At(Wire::Node(i), e)
-}
-
-// `(n ID)`, `(k 0)` or `(k 1)`, from `at` on.
-pub fn read_wire(s: &[u8], at: usize) -> WireRead
-    requires { ⌜ at ≤ length (now s) ⌝ }
-    ensures { λ r. ⌜ Reads (length (now (s .entry))) (wireTaken (now (s .entry)) r) (wireEnd r) (capped capWire (wire (drop at (now (s .entry))))) ⌝ }
-{
-    if let WireRead::At(w, e) = read_node(s, at) {
-        return WireRead::At(w, e);
-    }
-    if let Found::At(e) = read_word(s, at, b"(k 0)") {
-        return WireRead::At(Wire::Const(0), e);
-    }
-    let Found::At(e) = read_word(s, at, b"(k 1)") else {
-        return WireRead::Nothing;
-    };
-    WireRead::At(Wire::Const(1), e)
-}
-
-// A norm limit, and where it ends.
-pub enum LimitRead {
-    At(Limit, usize),
-    Nothing,
-}
-
-// `none`, or a number up to 4096, from `at` on.
-pub fn read_norm(s: &[u8], at: usize) -> LimitRead
-    requires { ⌜ at ≤ length (now s) ⌝ }
-    ensures { λ r. ⌜ Reads (length (now (s .entry))) (limitTaken (now (s .entry)) r) (limitEnd r) (norm (drop at (now (s .entry)))) ⌝ }
-{
-    if let Found::At(e) = read_word(s, at, b"none") {
-        return LimitRead::At(Limit::Unlimited, e);
-    }
-    let Number::At(v, e) = read_number(s, at) else {
-        return LimitRead::Nothing;
-    };
-    if 4096 < v {
-        return LimitRead::Nothing;
-    }
-    LimitRead::At(Limit::AtMost(v), e)
-}
-
-// A number with a sign, from -65536 to 65536, and where it ends.
-pub enum Signed {
-    At(i64, usize),
-    Nothing,
-}
-
-fn opposite(v: usize) -> i64
-    requires { ⌜ v ≤ 65536 ⌝ }
-    ensures { λ r. ⌜ r ≡ negℤ (pos v) ⌝ }
-{
-    0 - (v as i64)
-}
-
-// A minus and a number that is not 0.
-fn read_negative(s: &[u8], at: usize) -> Signed
-    requires { ⌜ at ≤ length (now s) ⌝ }
-    ensures { λ r. ⌜ Reads (length (now (s .entry))) (signedTaken (now (s .entry)) r) (signedEnd r) (capped capSigned (negative (drop at (now (s .entry))))) ⌝ }
-{
-    let Found::At(a) = read_word(s, at, b"-") else {
-        return Signed::Nothing;
-    };
-    let Number::At(v, e) = read_number(s, a) else {
-        return Signed::Nothing;
-    };
-    if v == 0 {
-        return Signed::Nothing;
-    }
-    Signed::At(opposite(v), e)
-}
-
-// A number, or a minus and a number that is not 0, from `at` on.
-pub fn read_signed(s: &[u8], at: usize) -> Signed
-    requires { ⌜ at ≤ length (now s) ⌝ }
-    ensures { λ r. ⌜ Reads (length (now (s .entry))) (signedTaken (now (s .entry)) r) (signedEnd r) (capped capSigned (signed (drop at (now (s .entry))))) ⌝ }
-{
-    if let Signed::At(z, e) = read_negative(s, at) {
-        return Signed::At(z, e);
-    }
-    let Number::At(v, e) = read_number(s, at) else {
-        return Signed::Nothing;
-    };
-    Signed::At(v as i64, e)
-}
-
-// A line's name, from its start to its end, and where the line ends.
-pub enum NameRead {
-    At(usize, usize, usize),
-    Nothing,
-}
-
-// `(in NAME)`, from `at` on.
-pub fn read_in(s: &[u8], at: usize) -> NameRead
-    requires { ⌜ at ≤ length (now s) ⌝ }
-    ensures { λ r. ⌜ ReadsIn (now (s .entry)) at r ⌝ }
-{
-    let Found::At(a) = read_word(s, at, b"(in ") else {
-        return NameRead::Nothing;
-    };
-    let Found::At(b) = read_name(s, a) else {
-        return NameRead::Nothing;
-    };
-    let Found::At(e) = read_word(s, b, b")\n") else {
-        return NameRead::Nothing;
-    };
-    NameRead::At(a, b, e)
-}
-
-// A line's name, from its start to its end, its wire, and where the line ends.
-pub enum OutRead {
-    At(usize, usize, Wire, usize),
-    Nothing,
-}
-
-// `(out NAME WIRE)`, from `at` on.
-pub fn read_out(s: &[u8], at: usize) -> OutRead
-    requires { ⌜ at ≤ length (now s) ⌝ }
-    ensures { λ r. ⌜ ReadsOut (now (s .entry)) at r ⌝ }
-{
-    let Found::At(a) = read_word(s, at, b"(out ") else {
-        return OutRead::Nothing;
-    };
-    let Found::At(b) = read_name(s, a) else {
-        return OutRead::Nothing;
-    };
-    let Found::At(c) = read_word(s, b, b" ") else {
-        return OutRead::Nothing;
-    };
-    let WireRead::At(w, d) = read_wire(s, c) else {
-        return OutRead::Nothing;
-    };
-    let Found::At(e) = read_word(s, d, b")\n") else {
-        return OutRead::Nothing;
-    };
-    OutRead::At(a, b, w, e)
-}
-
 // Whether s from a up to e has the same bytes as t from b up to f.
 pub fn is_same(s: &[u8], a: usize, e: usize, t: &[u8], b: usize, f: usize) -> bool
     requires { ⌜ ((a ≤ e) × (e ≤ length (now s))) × ((b ≤ f) × (f ≤ length (now t))) ⌝ }
@@ -369,54 +201,4 @@ pub fn is_same(s: &[u8], a: usize, e: usize, t: &[u8], b: usize, f: usize) -> bo
         i += 1;
     }
     true
-}
-
-// A name that is kept: its length and its bytes.
-pub struct Name {
-    pub len: usize,
-    pub bytes: [u8; 16],
-}
-
-// The name that stands in s from a up to e.
-pub fn name_of(s: &[u8], a: usize, e: usize) -> Name
-    requires { ⌜ Named (length (now s)) a e ⌝ }
-    ensures { λ r. ⌜ nameBytes r ≡ take (e - a) (drop a (now (s .entry))) ⌝ }
-{
-    let mut bytes = [0u8; 16];
-    let mut i = 0;
-    while i < e - a {
-        bytes[i] = s[a + i];
-        i += 1;
-    }
-    Name { len: e - a, bytes }
-}
-
-// How many bytes the name has.
-pub fn name_length(name: Name) -> usize
-    ensures { λ r. ⌜ (r ≡ length (nameBytes name)) × (r ≤ 16) ⌝ }
-{
-    if name.len < 16 { name.len } else { 16 }
-}
-
-fn is_same_name(a: Name, b: Name) -> bool
-    ensures { λ r. ⌜ r ≡ sameName (nameBytes a) (nameBytes b) ⌝ }
-{
-    let n = name_length(a);
-    let m = name_length(b);
-    is_same(&a.bytes, 0, n, &b.bytes, 0, m)
-}
-
-// Whether the name is one of the first n.
-pub fn is_listed(names: [Name; 32], n: usize, name: Name) -> bool
-    requires { ⌜ n ≤ 32 ⌝ }
-    ensures { λ r. ⌜ r ≡ listed (nameBytes name) (map nameBytes (take n names)) ⌝ }
-{
-    let mut i = 0;
-    while i < n {
-        if is_same_name(name, names[i]) {
-            return true;
-        }
-        i += 1;
-    }
-    false
 }

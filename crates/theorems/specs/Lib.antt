@@ -31,6 +31,7 @@ pub mod ConeRows
 pub mod ConeTruths
 pub mod ConeValues
 pub mod LinearTables
+pub mod FittingCones
 pub mod ZeroSources
 pub mod Interned
 pub mod Decimals

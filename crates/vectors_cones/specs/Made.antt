@@ -24,8 +24,8 @@ use Rattle.theorems.specs.Rows.{offset}
 use Rattle.theorems.specs.Spans.{offset-lt}
 use Rattle.laws.specs.Lists.{map-at}
 use Rattle.cone.specs.declared.Cone.{Cone}
-use Rattle.cone.specs.declared.compose.Basis.{Basis}
-use Rattle.cone.specs.Basis.{IsBasis, coefficientsOver, coefficientsOver-within}
+use Rattle.compose.specs.declared.Basis.{Basis}
+use Rattle.compose.specs.Basis.{IsBasis, coefficientsOver, coefficientsOver-within}
 use Rattle.theorems.specs.LinearTables.{span-table, total}
 use Rattle.theorems.specs.ConeValues.{linearTable-length}
 use Rattle.cone.specs.View.{coneOf, entryAt, truthAt, is-cone, IsCone}

@@ -16,7 +16,7 @@ use Rattle.laws.specs.Test.{if_then_else_, eq-or-ne, lt-or-le}
 use Rattle.rules.specs.Network.{member}
 use Rattle.rules.specs.NetworkText.{allDifferent}
 use Rattle.scale.specs.Limits.{Within}
-use Rattle.cone.specs.Rows.{position}
+use Rattle.support.specs.Rows.{position}
 
 -- one place more
 pub extended : (P : ℕ → Type 0) (i : ℕ) → ((k : ℕ) → k < i → P k) → P i → (k : ℕ) → k < i + 1 → P k

@@ -1,7 +1,7 @@
 // Replays composing and simplifying on the cones of standard input, a line each: P, M and NORM (0 for no limit), two cones and a gate's four answers.
 // A cone is the number of its sources, the sources, their coefficients and its truths.
+use compose::Basis;
 use cone::Cone;
-use cone::compose::Basis;
 use cone::valid::Validity;
 use libc::STDIN_FILENO;
 use libc::STDOUT_FILENO;
@@ -128,7 +128,7 @@ fn read_cone(text: &[u8], from: usize) -> Got {
     let n = at_most(t, 11);
     let s = read_nodes(text, t.next, n);
     let c = read_coefs(text, s.next, n);
-    let b = read_truth(text, c.next, cone::table::rows_of(n));
+    let b = read_truth(text, c.next, linear::rows_of(n));
     let support = s.nodes;
     let coefs = c.coefs;
     let truth = b.bits;
@@ -150,7 +150,7 @@ fn are_different(nodes: &[usize]) -> bool
 {
     let mut i = 0;
     while i < nodes.len() {
-        if cone::support::position(nodes, nodes[i]) != i {
+        if support::position(nodes, nodes[i]) != i {
             return false;
         }
         i += 1;
@@ -196,7 +196,7 @@ fn is_narrow(coefs: &[i64]) -> bool
     if !are_small(coefs) {
         return false;
     }
-    cone::table::linear_span(coefs) <= 32
+    linear::linear_span(coefs) <= 32
 }
 
 // What has to hold of the sources and coefficients.
@@ -236,9 +236,9 @@ fn known_of(n: usize, coefs: [i64; 11], truth: [u8; 2048]) -> Known
     ensures { λ r. ⌜ (r .one ≡ true → knownEntries (linearTable (take n coefs)) (take (2 ^ n) truth) ≡ some (take (span (linearTable (take n coefs))) (r .known))) ⌝ }
 {
     let mut values = [0i32; 2048];
-    cone::table::values_of(coefs, n, &mut values);
-    let rows = cone::table::rows_of(n);
-    let size = cone::table::linear_span(&coefs[..n]);
+    linear::values_of(coefs, n, &mut values);
+    let rows = linear::rows_of(n);
+    let size = linear::linear_span(&coefs[..n]);
     known_at(&values[..rows], &truth[..rows], size)
 }
 
@@ -424,7 +424,7 @@ fn show_judged(s: Settings, cone: Cone)
     let mut values = [0i32; 2048];
     let mut truth = [0u8; 2048];
     cone::table::truths_of(cone, &mut values, &mut truth);
-    show_truth(truth, cone::table::rows_of(n));
+    show_truth(truth, linear::rows_of(n));
     io::print_decimal(
         STDOUT_FILENO,
         number_of(cone::valid::validate_cone(s, cone)),
@@ -444,7 +444,7 @@ fn show_simplified(s: Settings, cone: Cone)
         no_cone();
         return;
     }
-    show_judged(s, cone::simplify::simplify_cone(m.cone));
+    show_judged(s, compose::simplify::simplify_cone(m.cone));
 }
 
 // a times the left coefficients and the right ones.
@@ -491,13 +491,13 @@ fn span_of(cone: Cone) -> i64
 fn run(s: Settings, left: Cone, right: Cone, gate: [u8; 4])
     requires { ⌜ IsCone left × (IsCone right × (length (unionSupport (coneOf left .support) (coneOf right .support)) ≤ 11)) ⌝ }
 {
-    let basis = cone::compose::basis_of(left, right);
+    let basis = compose::basis_of(left, right);
     let mut xs = [0i32; 2048];
     let mut ys = [0i32; 2048];
     let mut truth = [0u8; 2048];
-    cone::compose::cone_composition_tables(left, right, basis, gate, &mut xs, &mut ys, &mut truth);
+    compose::cone_composition_tables(left, right, basis, gate, &mut xs, &mut ys, &mut truth);
     show_basis(basis);
-    let rows = cone::table::rows_of(basis.n);
+    let rows = linear::rows_of(basis.n);
     show_values(xs, rows);
     show_values(ys, rows);
     show_truth(truth, rows);
@@ -518,7 +518,7 @@ fn union_size(left: Cone, right: Cone) -> usize
     let ls = left.support;
     let rn = right.n;
     let rs = right.support;
-    cone::support::union_support_size(&ls[..ln], &rs[..rn])
+    support::union_support_size(&ls[..ln], &rs[..rn])
 }
 
 fn run_both(s: Settings, left: Cone, right: Cone, gate: [u8; 4])

@@ -141,7 +141,7 @@ fn put_bits(out: &mut [u8], at: usize, values: &[u8]) -> usize {
 
 fn answer_admission(text: &[u8]) {
     let mut out = [0u8; 8192];
-    let r = network::admit(text);
+    let r = admission::admit(text);
     let n = put_admission(&mut out, r);
     end_line(&mut out, n);
 }
@@ -166,7 +166,7 @@ fn answer_reader(text: &[u8]) {
 
 fn network_run(text: &[u8], bits: &[u8], values: &mut [i64]) {
     let mut out = [0u8; 8192];
-    let r = network::run_network(text, bits, values);
+    let r = network_run::run_network(text, bits, values);
     let a = put_run(&mut out, r);
     let n = put_values(&mut out, a, values);
     end_line(&mut out, n);
@@ -174,7 +174,7 @@ fn network_run(text: &[u8], bits: &[u8], values: &mut [i64]) {
 
 fn circuit_run(text: &[u8], bits: &[u8], values: &mut [u8]) {
     let mut out = [0u8; 8192];
-    let r = circuit::run_circuit(text, bits, values);
+    let r = circuit_run::run_circuit(text, bits, values);
     let a = put_run(&mut out, r);
     let n = put_bits(&mut out, a, values);
     end_line(&mut out, n);

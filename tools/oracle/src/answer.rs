@@ -90,23 +90,27 @@ pub struct Mapped {
 }
 
 pub fn map(job: &[u8]) -> Mapped {
-    let circuit = match reader::read(job) {
-        Ok(circuit) => circuit,
-        Err(refusal) => {
-            return Mapped {
-                result: Err(refusal),
-                map_time: None,
-            };
+    match reader::read(job) {
+        Ok(circuit) => {
+            let rust = to_rust(&circuit);
+            map_rust(circuit, &rust, job)
         }
-    };
+        Err(refusal) => Mapped {
+            result: Err(refusal),
+            map_time: None,
+        },
+    }
+}
+
+/// Map a circuit of the Rust's, its gates named by their lines, under the settings of a read one.
+pub fn map_rust(circuit: Circuit, rust: &BoolCircuit, job: &[u8]) -> Mapped {
     let mapper = match Mapper::new(config(&circuit)) {
         Ok(mapper) => mapper,
         Err(error) => stop(&format!("the Rust refused the settings: {error}"), job),
     };
-    let rust = to_rust(&circuit);
     probe::begin();
     let start = Instant::now();
-    let mapped = catch_unwind(AssertUnwindSafe(|| mapper.map(&rust)));
+    let mapped = catch_unwind(AssertUnwindSafe(|| mapper.map(rust)));
     let map_time = Some(start.elapsed());
     let result = match mapped {
         Ok(Ok(network)) => Ok((circuit, network)),

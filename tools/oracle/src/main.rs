@@ -8,18 +8,9 @@
 //! - `--time`: microseconds of each job, the least of three runs
 //! - `--stats`: the statistics of each network
 
-#[allow(warnings)]
-mod circuit {
-    include!(concat!(env!("OUT_DIR"), "/plain/circuit.rs"));
-}
-#[allow(warnings)]
-mod lut {
-    include!(concat!(env!("OUT_DIR"), "/plain/lut.rs"));
-}
-#[allow(warnings)]
-mod mapper {
-    include!(concat!(env!("OUT_DIR"), "/plain/mapper.rs"));
-}
+#[macro_use]
+mod copies;
+rust_copied_to!("plain");
 mod answer;
 mod probe;
 mod reader;

@@ -12,7 +12,7 @@ use mir.Val.{toZ, ofZ}
 use Rattle.laws.specs.Gcd.{gcd}
 use Rattle.laws.specs.Integer.{read-back}
 use Rattle.rules.specs.Scale.{gcdFrom}
-use Rattle.scale.specs.Divisor.{gcd-on, gcd-end}
+use Rattle.scale.specs.Divisor.{gcd-on, gcd-end, gcd-one}
 use Rattle.scale.proofs.common_divisor.Statement.{statement}
 use Rattle.scale.proofs.common_divisor.Tie as tie
 
@@ -53,6 +53,20 @@ gcd-i64-requires c κs =
     let o = c .before .before .loop in
     (o .inv .1, simp (back c) (c .before .before .before .pre (o .i)))
 
+-- 1 stays the gcd
+at-one : (g : ℕ) (l cs : List ℤ) → g ≡ 1 → gcdFrom ∣ g ∣ l ≡ gcdFrom 0 cs → pos 1 ≡ pos (gcdFrom 0 cs)
+at-one g l cs e h = ap pos (sym (gcd-one l) ∙ ap (λ k. gcdFrom ∣ k ∣ l) (sym e) ∙ h)
+
+turned : (c : tie.After-gcd-i64 Inv-loop μ-loop) → let cs = c .before .before .before .before .args .coefs .now in let r = c .gcd-i64 .result in let i = c .before .before .before .loop .i in
+    (∣ ofZ w64 r ∣ < 2 ^ 63) × (toZ w64 (ofZ w64 r) ≡ pos ∣ ofZ w64 r ∣) × (gcdFrom ∣ ofZ w64 r ∣ (drop (i + 1) cs) ≡ gcdFrom 0 cs)
+turned c =
+    let s = c .before .before .before .before in
+    let o = c .before .before .before .loop in
+    turn (s .args .coefs .now) (o .i) (o .g) (c .gcd-i64 .result) (omega arith) (c .gcd-i64 .ok) (simp (back (c .before)) at (c .gcd-i64 .ensures)) (o .inv .3)
+
+returns : tie.Need-returns Inv-loop μ-loop
+returns c = at-one _ (drop (c .before .before .before .before .loop .i + 1) (c .before .before .before .before .before .args .coefs .now)) _ (c .if1 .taken) (turned (c .before) .2)
+
 add-i : tie.Need-add-i Inv-loop μ-loop
 add-i c = search needs
 
@@ -60,16 +74,10 @@ loop-less : tie.Need-loop-less Inv-loop μ-loop
 loop-less c = search needs
 
 loop-again : tie.Need-loop-again Inv-loop μ-loop
-loop-again c =
-    let s = c .before .before .before .before in
-    let o = c .before .before .before .loop in
-    let t =
-    turn (s .args .coefs .now) (o .i) (o .g) (c .gcd-i64 .result) (omega arith) (c .gcd-i64 .ok)
-    (simp (back (c .before)) at (c .gcd-i64 .ensures)) (o .inv .3) in
-    (omega arith, t .0, t .1, t .2)
+loop-again c = let t = turned (c .before) in (omega arith, t .0, t .1, t .2)
 
-returns : tie.Need-returns Inv-loop μ-loop
-returns c =
+returns-2 : tie.Need-returns-2 Inv-loop μ-loop
+returns-2 c =
     let o = c .before .loop in
     o .inv .2 ∙ ap pos (sym (gcd-end (c .before .before .args .coefs .now) (o .i) ∣ o .g ∣ (omega arith)) ∙ o .inv .3)
 
@@ -83,7 +91,8 @@ common-divisor-spec =
     mul-gcd-i64
     shared-slice-copy-out-gcd-i64
     gcd-i64-requires
+    returns
     add-i
     loop-less
     loop-again
-    returns)
+    returns-2)

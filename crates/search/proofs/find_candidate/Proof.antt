@@ -1,10 +1,12 @@
 -- `search::find_candidate` meets its contract.
-use mathlib.Core.Path.{_≡_, sym, subst}
+use mathlib.Core.Path.{_≡_, sym, subst, _∙_}
+use mathlib.Core.Bool.{Bool, true}
 use Prim.Native.Nat.{_≤_}
 use borrow.Author.Needs.{needs}
 use native.Mathlib.Omega.{arith}
 use lib.ListN.{length, take}
 use Rattle.laws.specs.Tail.{head-length}
+use Rattle.search.specs.EqualForms.{sameRow, sameRow-is}
 use Rattle.search.specs.Policies.{ranges-in, finds-over}
 use Rattle.search.specs.Reuse.{Stored}
 use Rattle.search.specs.Search.{InSpans}
@@ -27,32 +29,39 @@ long : (s : tie.Start) → s .args .basis .n ≡ length (take (s .args .basis .n
 long s = head-length (s .args .basis .left) (s .args .basis .n) (few-left s)
 
 array-share-prefix-left : tie.Need-array-share-prefix-left
-array-share-prefix-left c = few-left (c .before .before .before .before .before)
+array-share-prefix-left c = few-left (c .before .before .before .before .before .before)
 
 slice-aggregate-search : tie.Need-slice-aggregate-search
-slice-aggregate-search c = long (c .before .before .before .before .before .before)
+slice-aggregate-search c = long (c .before .before .before .before .before .before .before)
 
 array-share-prefix-right : tie.Need-array-share-prefix-right
-array-share-prefix-right c = few-right (c .before .before .before .before .before .before)
+array-share-prefix-right c = few-right (c .before .before .before .before .before .before .before)
 
 slice-aggregate-search-2 : tie.Need-slice-aggregate-search-2
-slice-aggregate-search-2 c = let s = c .before .before .before .before .before .before .before in head-length (s .args .basis .right) (s .args .basis .n) (few-right s)
+slice-aggregate-search-2 c = let s = c .before .before .before .before .before .before .before .before in head-length (s .args .basis .right) (s .args .basis .n) (few-right s)
 
 search-requires : tie.Need-search-requires
 search-requires c κs =
-    let s = c .before .before .before .before .before .before .before in
-    let spans = subst InSpans (sym (c .before .before .ranges-of .ensures)) (ranges-in (s .args .s .policy) (s .args .first) (s .args .second) (s .pre .1 .0) (s .pre .1 .1 .0)) in
+    let s = c .before .before .before .before .before .before .before .before in
+    let spans = subst InSpans (sym (c .before .before .ranges-of .ensures)) (ranges-in (c .before .before .before .is-same-form .result) (s .args .s .policy) (s .args .first) (s .args .second) (s .pre .1 .0) (s .pre .1 .1 .0)) in
     (s .pre .1 .1 .1 .0, (spans, subst (λ k. Stored (s .args .nodes .now) (s .args .count) (take k (s .args .basis .support))) (long s) (s .pre .1 .1 .1 .1)))
+
+-- equal where the code found them so
+same : (s : tie.Start) (t : Bool) → t ≡ sameRow (take (s .args .basis .n) (s .args .basis .left)) (take (s .args .basis .n) (s .args .basis .right)) → t ≡ true
+    → take (s .args .basis .n) (s .args .basis .left) ≡ take (s .args .basis .n) (s .args .basis .right)
+same s t e f = sameRow-is _ _ (sym (long s) ∙ head-length (s .args .basis .right) (s .args .basis .n) (few-right s)) (sym e ∙ f)
 
 returns : tie.Need-returns
 returns c left right all counts h =
-    let s = c .before .before .before .before .before .before .before .before in
-    finds-over _ _ left right all counts _ _ _ _ _ _ _ h (s .pre .1 .1 .1 .0 .narrow) (s .pre .1 .0) (s .pre .1 .1 .0) _ _ _ (c .before .before .before .ranges-of .ensures) (sym (long s)) (c .search .ensures)
+    let s = c .before .before .before .before .before .before .before .before .before in
+    let d = c .before .before .before .before in
+    finds-over _ _ left right all counts _ _ _ _ _ _ _ h (s .pre .1 .1 .1 .0 .narrow) (s .pre .1 .0) (s .pre .1 .1 .0) (d .is-same-form .result) _ _ _ (same s (d .is-same-form .result) (d .is-same-form .ensures)) (c .before .before .before .ranges-of .ensures) (sym (long s)) (c .search .ensures)
 
 pub find-candidate-spec : {M : Type 1} → statement M
 find-candidate-spec =
     tie.close
     (tie.spec
+    (λ c κs. search needs)
     (λ c κs. search needs)
     array-share-prefix-left
     slice-aggregate-search

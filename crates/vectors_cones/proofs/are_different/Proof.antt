@@ -4,7 +4,7 @@ use Prim.Native.Nat.{ℕ, _-_, _≤_, _<_}
 use native.Mathlib.Omega.{arith}
 use borrow.Author.Needs.{needs}
 use lib.ListN.{length, getD}
-use Rattle.cone.specs.Rows.{position}
+use Rattle.support.specs.Rows.{position}
 use Rattle.vectors_cones.specs.Tested.{extended, all-different, never}
 use Rattle.vectors_cones.proofs.are_different.Statement.{statement}
 use Rattle.vectors_cones.proofs.are_different.Tie as tie

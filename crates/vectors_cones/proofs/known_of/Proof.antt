@@ -10,7 +10,7 @@ use Rattle.laws.specs.Tail.{head-length}
 use Rattle.rules.specs.Cone.{linearTable}
 use Rattle.rules.specs.Span.{span}
 use Rattle.scale.specs.Limits.{Within}
-use Rattle.cone.specs.Span.{within-total}
+use Rattle.linear.specs.Span.{within-total}
 use Rattle.theorems.specs.LinearTables.{span-table, total}
 use Rattle.vectors_cones.specs.Made.{values-first, known-same}
 use Rattle.vectors_cones.proofs.known_of.Statement.{statement}

@@ -1,18 +1,10 @@
 //! The Rust's answers to stored cones, a line each (see `tests/cones/make`):
 //! composing by `cone_composition_tables`, simplifying by `simplify_cone`.
 
-#[allow(warnings)]
-mod circuit {
-    include!(concat!(env!("OUT_DIR"), "/cones/circuit.rs"));
-}
-#[allow(warnings)]
-mod lut {
-    include!(concat!(env!("OUT_DIR"), "/cones/lut.rs"));
-}
-#[allow(warnings)]
-mod mapper {
-    include!(concat!(env!("OUT_DIR"), "/cones/mapper.rs"));
-}
+#[macro_use]
+#[path = "../copies.rs"]
+mod copies;
+rust_copied_to!("cones");
 
 use std::io;
 

@@ -1,18 +1,10 @@
 //! Counts which corners of the mapper the circuits on standard input reach.
 //! The same Rust as the oracle's, with counters put in by build.rs.
 
-#[allow(warnings)]
-mod circuit {
-    include!(concat!(env!("OUT_DIR"), "/reach/circuit.rs"));
-}
-#[allow(warnings)]
-mod lut {
-    include!(concat!(env!("OUT_DIR"), "/reach/lut.rs"));
-}
-#[allow(warnings)]
-mod mapper {
-    include!(concat!(env!("OUT_DIR"), "/reach/mapper.rs"));
-}
+#[macro_use]
+#[path = "../copies.rs"]
+mod copies;
+rust_copied_to!("reach");
 #[allow(dead_code)]
 #[path = "../answer.rs"]
 mod answer;

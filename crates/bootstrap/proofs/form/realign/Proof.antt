@@ -1,10 +1,14 @@
 -- `bootstrap::form::realign` meets its contract: the best form of the nodes passed, and those to come.
+use mathlib.Core.Path.{refl, _∙_}
+use mathlib.Core.List.{[]}
 use Prim.Native.Nat.{_-_, _≤_}
 use native.Mathlib.Omega.{arith}
 use borrow.Author.Needs.{needs}
 use borrow.Author.Tests.{not-true, not-false}
 use Rattle.cone.specs.View.{coneOf}
-use Rattle.lut.specs.View.{storeOf, is-node}
+use Rattle.lut.specs.Forms.{form-none}
+use Rattle.lut.specs.View.{nodeOf, storeOf, is-node}
+use Rattle.bootstrap.specs.Form.{candidateIn, form-skips}
 use Rattle.bootstrap.specs.FormWalk.{Walked, walk-start, walk-on, walk-end, walk-stands, not-realigned}
 use Rattle.bootstrap.proofs.form.realign.Statement.{statement}
 use Rattle.bootstrap.proofs.form.realign.Tie as tie
@@ -25,21 +29,34 @@ loop-holds c =
     let s = c .before .before in
     (omega arith, walk-start (s .args .s) (s .args .nodes .now) (s .args .count) (s .pre .1 .0) (s .args .c) (s .pre .1 .1 .cone))
 
-consider-requires : tie.Need-consider-requires Inv-loop μ-loop
-consider-requires c κs =
+kind-of-requires : tie.Need-kind-of-requires Inv-loop μ-loop
+kind-of-requires c κs =
     let s = c .before .before .before .before in
-    let o = c .before .loop in
-    (s .pre .0, (record { at = λ j h. is-node (s .args .nodes .now) (s .args .count) j (s .pre .1 .0) (omega (arith, c .loop-test .taken)) }, (s .pre .1 .1 .cone, o .inv .1 .kept)))
+    is-node (s .args .nodes .now) (s .args .count) (c .before .loop .i) (s .pre .1 .0) (omega (arith, c .loop-test .taken))
 
-add-i : tie.Need-add-i Inv-loop μ-loop
-add-i c = search needs
-
-loop-less : tie.Need-loop-less Inv-loop μ-loop
-loop-less c = search needs
-
+-- a node that is no bootstrap gives no form
 loop-again : tie.Need-loop-again Inv-loop μ-loop
 loop-again c =
-    let l = c .before in
+    let k = c .before in
+    let l = k .before in
+    let s = l .before .before .before .before in
+    let o = l .before .loop in
+    let none = form-none (coneOf (s .args .c) .support) (s .args .nodes .now) (nodeOf (s .args .nodes .now) (o .i)) [] (λ e. c .if2 .taken (k .kind-of .ensures ∙ e)) in (
+      omega (arith, l .loop-test .taken),
+      walk-on (s .args .s) (s .args .nodes .now) (s .args .count) (s .pre .1 .0) (s .args .c) (o .i) (o .best) (o .inv .1) (omega (arith, l .loop-test .taken)) (o .best)
+          (form-skips (s .args .s) (coneOf (s .args .c)) (candidateIn (o .best)) _ _ none refl) (o .inv .1 .kept),
+    )
+
+consider-requires : tie.Need-consider-requires Inv-loop μ-loop
+consider-requires c κs =
+    let l = c .before .before in
+    let s = l .before .before .before .before in
+    let o = l .before .loop in
+    (s .pre .0, (record { at = λ j h. is-node (s .args .nodes .now) (s .args .count) j (s .pre .1 .0) (omega (arith, l .loop-test .taken)) }, (s .pre .1 .1 .cone, o .inv .1 .kept)))
+
+loop-again-2 : tie.Need-loop-again-2 Inv-loop μ-loop
+loop-again-2 c =
+    let l = c .before .before .before in
     let s = l .before .before .before .before in
     let o = l .before .loop in
     (omega (arith, l .loop-test .taken), walk-on (s .args .s) (s .args .nodes .now) (s .args .count) (s .pre .1 .0) (s .args .c) (o .i) (o .best) (o .inv .1) (omega (arith, l .loop-test .taken)) (c .consider .result) (c .consider .ensures .0) (c .consider .ensures .1))
@@ -62,8 +79,12 @@ realign-spec =
     μ-loop
     returns
     loop-holds
-    consider-requires
-    add-i
-    loop-less
+    kind-of-requires
+    (λ c. search needs)
+    (λ c. search needs)
     loop-again
+    consider-requires
+    (λ c. search needs)
+    (λ c. search needs)
+    loop-again-2
     returns-2)

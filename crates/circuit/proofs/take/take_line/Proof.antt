@@ -1,7 +1,7 @@
 use mathlib.Core.Path.{refl}
 use borrow.Author.Needs.{needs}
 use Rattle.circuit.specs.Bits.{bitsAt}
-use Rattle.circuit.specs.LineRead.{line-is}
+use Rattle.circuit_text.specs.LineRead.{line-is}
 use Rattle.circuit.specs.TookLine.{took-line, took-nothing, fine-gate, bit-out}
 use Rattle.circuit.proofs.take.take_line.Statement.{statement}
 use Rattle.circuit.proofs.take.take_line.Tie as tie

@@ -1,11 +1,11 @@
 -- `cone::unary::all_equal` meets its contract: the entries passed are unknown or the first row's.
-use mathlib.Core.Path.{_≡_, refl, sym, ap, _∙_}
+use mathlib.Core.Path.{_≡_, ap, _∙_}
 use mathlib.Core.Logic.{⊎-elim, _≢_}
 use Prim.Native.Nat.{ℕ, _+_, _-_, _≤_, _<_}
 use native.Mathlib.Nat.{not-suc-le-zero}
 use native.Mathlib.Omega.{arith}
 use borrow.Author.Needs.{needs}
-use lib.ListN.{length, getD}
+use lib.ListN.{getD}
 use Rattle.laws.specs.Test.{lt-or-le}
 use Rattle.rules.specs.Cone as rules
 use Rattle.cone.specs.View.{coneOf}

@@ -1,5 +1,3 @@
-use native.Mathlib.Omega.{arith}
-use borrow.Author.Needs.{needs}
 -- `cone::unary::answer` meets its contract.
 use borrow.Author.Tests.{eq-eqb, ne-eqb}
 use Rattle.cone.specs.Unary.{answered}

@@ -77,11 +77,14 @@ returns c =
     )
 
 best-pair-requires : tie.Need-best-pair-requires
-best-pair-requires c κs = let r = c .before .before .before in (r .before .before .before .before .before .before .before .before .pre .0, tabled r .0)
+best-pair-requires c κs =
+    let e = c .before .before .before in
+    let r = e .before .before .before in
+    (r .before .before .before .before .before .before .before .before .pre .0, (tabled r .0, sym (e .before .all-equal .ensures) ∙ e .if1 .left))
 
 judged-requires : tie.Need-judged-requires
 judged-requires c κs =
-    let r = c .before .before .before .before in
+    let r = c .before .before .before .before .before .before .before in
     let k = r .before .before .before .before in
     let s = k .before .before .before .before in
     let A = s .args in
@@ -90,7 +93,8 @@ judged-requires c κs =
 returns-2 : tie.Need-returns-2
 returns-2 c =
     let p = c .before in
-    let r = p .before .before .before .before in
+    let e = p .before .before .before .before in
+    let r = e .before .before .before in
     let k = r .before .before .before .before in
     let s = k .before .before .before .before in
     let A = s .args in
@@ -98,8 +102,8 @@ returns-2 c =
       c .judged .ensures .0
           ∙ trial-judged (A .s) (A .nodes .now) (A .count) (A .left) (A .right) (A .basis) (s .pre .0) (r .rows-of .result) (k .cone-composition-tables .last .1 .1 .1 .1 .0) (k .cone-composition-tables .last .1 .1 .1 .1 .1 .0) (k .cone-composition-tables .last .1 .1 .1 .1 .1 .1 .0) (tabled r .0) nodes (p .best-pair .result) (p .best-pair .ensures)
           ∙ ap (λ l. Option·map (mergeCones (A .s)) (findCandidate (A .s) nodes (unionSupport (coneOf (A .left) .support) (coneOf (A .right) .support)) (coneOf (A .left)) (coneOf (A .right)) l)) (tabled r .1)
-          ∙ gated-merged (A .s) nodes (coneOf (A .left)) (coneOf (A .right)) (A .gate) (equal-is (p .before .before) ∙ p .before .if1 .left),
-      λ e. trial-stands (A .s) (A .nodes .now) (A .count) (A .left) (A .right) (A .basis) (s .pre .0) (p .best-pair .result) (c .judged .result .cone) (c .judged .ensures .1 e),
+          ∙ gated-merged (A .s) nodes (coneOf (A .left)) (coneOf (A .right)) (A .gate) (equal-is (e .before) ∙ e .if1 .left),
+      λ q. trial-stands (A .s) (A .nodes .now) (A .count) (A .left) (A .right) (A .basis) (s .pre .0) (p .best-pair .result) (c .judged .result .cone) (c .judged .ensures .1 q),
     )
 
 pub composed-spec : {M : Type 1} → statement M

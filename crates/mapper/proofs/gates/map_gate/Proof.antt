@@ -1,5 +1,5 @@
 use mathlib.Core.Path.{refl, sym, ap, subst, _∙_}
-use Rattle.cone.specs.Wires.{coneIn}
+use Rattle.cone_wires.specs.Wires.{coneIn}
 use Rattle.bootstrap.specs.View.{Stands}
 use Rattle.mapper.specs.Wired.{SlotIn, slot-below}
 use Rattle.mapper.specs.Gates.{few-gate, other-slot, two-bits, not-255, unary-is, two-is, four-bits}

@@ -1,7 +1,7 @@
 use mathlib.Core.Path.{sym, ap, subst, _∙_}
 use Rattle.rules.specs.Mapper.{outputSignal}
 use Rattle.cone.specs.View.{coneOf}
-use Rattle.cone.specs.Wires.{coneIn}
+use Rattle.cone_wires.specs.Wires.{coneIn}
 use Rattle.bootstrap.specs.View.{Stands}
 use Rattle.mapper.specs.Wired.{SlotIn, slot-below}
 use Rattle.mapper.specs.Outputs.{port-low, port-slot, port-cone}

@@ -4,7 +4,7 @@ use borrow.Author.Needs.{needs}
 use Rattle.rules.specs.NetworkText.{sources, anyBadSource}
 use Rattle.lut.specs.View.{storeOf, is-node}
 use Rattle.network_text.specs.Terms.{termsOf}
-use Rattle.network.specs.Conditions.{badLeft, source-start, source-end, source-unknown, source-sum, source-next}
+use Rattle.network.specs.Scans.{badLeft, source-start, source-end, source-unknown, source-sum, source-next}
 use Rattle.network.proofs.judge.has_bad_source.Statement.{statement}
 use Rattle.network.proofs.judge.has_bad_source.Tie as tie
 

@@ -5,7 +5,7 @@ use borrow.Author.Needs.{needs}
 use Rattle.rules.specs.CircuitText.{listed}
 use Rattle.rules.specs.NetworkText.{names}
 use Rattle.lut.specs.View.{storeOf, is-node}
-use Rattle.network.specs.Conditions.{listedLeft, input-plain, name-start, name-end, name-here, name-next}
+use Rattle.network.specs.Scans.{listedLeft, input-plain, name-start, name-end, name-here, name-next}
 use Rattle.network.proofs.judge.is_known_name.Statement.{statement}
 use Rattle.network.proofs.judge.is_known_name.Tie as tie
 

@@ -1,4 +1,4 @@
-use Rattle.network.specs.Conditions.{whole-name}
+use Rattle.network.specs.Scans.{whole-name}
 use borrow.Author.Needs.{needs}
 use Rattle.network.proofs.judge.is_name.Statement.{statement}
 use Rattle.network.proofs.judge.is_name.Tie as tie

@@ -1,5 +1,5 @@
 use Rattle.text.specs.Reads.{passed, endOf, found, ends}
-use Rattle.text.specs.Forms.{capOutput, nameTaken, nameEnd, nameFrom, nameTo, outTaken, outEnd, outFrom, outTo, named-at}
+use Rattle.forms.specs.Forms.{capOutput, nameTaken, nameEnd, nameFrom, nameTo, outTaken, outEnd, outFrom, outTo, named-at}
 use Rattle.text.specs.Capped.{exact-none}
 use mathlib.Core.Path.{subst}
 use Rattle.network_text.specs.LineIs.{none-is}

@@ -6,7 +6,7 @@ use Rattle.text.specs.Number.{numberTaken, numberEnd, number-value}
 use Rattle.network_text.specs.LineRead.{ReadsNet, capNet, cap-net, net-none}
 use Rattle.text.specs.Chain.{step, stop}
 use Rattle.text.specs.Reads.{passed, endOf, found, ends}
-use Rattle.text.specs.Limit.{limitTaken, limitEnd}
+use Rattle.forms.specs.Limit.{limitTaken, limitEnd}
 use Rattle.network_text.proofs.line.read_net.Statement.{statement}
 use Rattle.network_text.proofs.line.read_net.Tie as tie
 

@@ -3,7 +3,7 @@ use borrow.Author.Needs.{needs}
 use Rattle.rules.specs.NetworkText.{term}
 use Rattle.text.specs.Capped.{capped-some, exact-some, exact-none}
 use Rattle.text.specs.Number.{numberTaken, numberEnd, number-value}
-use Rattle.text.specs.Signed.{capSigned, signedTaken, signedEnd}
+use Rattle.forms.specs.Signed.{capSigned, signedTaken, signedEnd}
 use Rattle.network_text.specs.Term.{spacedTerm, capCoef, term-none, term-cap, digits-at}
 use Rattle.text.specs.Chain.{step, stop}
 use Rattle.text.specs.Reads.{passed, endOf, found, ends}

@@ -1,0 +1,3 @@
+-- The statistics as they are counted over the node store.
+pub mod Count
+pub mod Entry

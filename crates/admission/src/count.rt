@@ -1,0 +1,109 @@
+// The statistics, counted over the node store.
+ghost use mathlib.Core.Path.{_≡_};
+ghost use Prim.Native.Nat.{_+_, _≤_, max};
+ghost use lib.ListN.{length};
+ghost use Rattle.laws.specs.Test.{if_then_else_};
+ghost use Rattle.lut.specs.View.{nodeOf, storeOf, IsNode, IsStore};
+ghost use Rattle.admission.specs.Count.{statsOf, noStats, withInput, withSum, withBoot, nodeStats, takenWith, Room};
+use lut::node::INPUT;
+use lut::node::LINEAR;
+use lut::node::kind_of;
+use lut::node::source_of;
+use lut::node::table_of;
+use lut::norm::node_norm;
+use rules::Stats;
+
+fn no_stats(outputs: usize) -> Stats
+    ensures { λ r. ⌜ r ≡ noStats outputs ⌝ }
+{
+    Stats {
+        inputs: 0,
+        sums: 0,
+        boots: 0,
+        sources: 0,
+        longest: 0,
+        norm: 0,
+        outputs,
+    }
+}
+
+fn larger(a: usize, b: usize) -> usize
+    ensures { λ r. ⌜ r ≡ max a b ⌝ }
+{
+    if a < b { b } else { a }
+}
+
+fn count_input(s: Stats) -> Stats
+    requires { ⌜ Room s ⌝ }
+    ensures { λ r. ⌜ r ≡ withInput s ⌝ }
+{
+    let mut r = s;
+    r.inputs = s.inputs + 1;
+    r.norm = larger(s.norm, 1);
+    r
+}
+
+fn count_sum(s: Stats, norm: usize) -> Stats
+    requires { ⌜ Room s ⌝ }
+    ensures { λ r. ⌜ r ≡ withSum s norm ⌝ }
+{
+    let mut r = s;
+    r.sums = s.sums + 1;
+    r.norm = larger(s.norm, norm);
+    r
+}
+
+// One more where the source is a new one.
+fn sources_with(sources: usize, taken: bool) -> usize
+    requires { ⌜ sources ≤ 672 ⌝ }
+    ensures { λ r. ⌜ r ≡ (if taken then sources else (sources + 1)) ⌝ }
+{
+    if taken { sources } else { sources + 1 }
+}
+
+fn count_boot(s: Stats, taken: bool, len: usize) -> Stats
+    requires { ⌜ Room s ⌝ }
+    ensures { λ r. ⌜ r ≡ withBoot s taken len ⌝ }
+{
+    let mut r = s;
+    r.boots = s.boots + 1;
+    r.sources = sources_with(s.sources, taken);
+    r.longest = larger(s.longest, len);
+    r.norm = larger(s.norm, 1);
+    r
+}
+
+// Node i counted; `taken` says which nodes a boot before it takes.
+fn count_node(s: Stats, nodes: &[u8; 25536], i: usize, taken: &mut [bool; 672]) -> Stats
+    requires { ⌜ IsNode (now nodes) i × Room s × (length (now taken) ≡ 672) ⌝ }
+    ensures stats { λ r. ⌜ r ≡ nodeStats s (now (taken .entry)) (nodeOf (now (nodes .entry)) i) ⌝ }
+    ensures taken { λ _. ⌜ now (taken .exit) ≡ takenWith (now (taken .entry)) (nodeOf (now (nodes .entry)) i) ⌝ }
+{
+    let kind = kind_of(nodes, i);
+    if kind == INPUT {
+        return count_input(s);
+    }
+    if kind == LINEAR {
+        return count_sum(s, node_norm(nodes, i) as usize);
+    }
+    let source = source_of(nodes, i, 0);
+    let table = table_of(nodes, i);
+    let r = count_boot(s, taken[source], table.len());
+    taken[source] = true;
+    r
+}
+
+// The statistics of a network with these nodes and so many outputs.
+pub fn stats_of(nodes: &[u8; 25536], count: usize, outputs: usize) -> Stats
+    requires { ⌜ IsStore (now nodes) count ⌝ }
+    ensures { λ r. ⌜ r ≡ statsOf (storeOf (now (nodes .entry)) count) outputs ⌝ }
+{
+    let mut taken = [false; 672];
+    let mut s = no_stats(outputs);
+    let mut i = 0;
+    while i < count {
+        s = count_node(s, nodes, i, &mut taken);
+        i += 1;
+    }
+    s
+}

@@ -1,0 +1,43 @@
+-- Document 01's answers as numbers: what each place of the two reply structs holds.
+use mathlib.Core.Option.{Option, none, some}
+use Rattle.rules.specs.Outcome.{Answer, refused}
+use Rattle.rules.specs.NetworkText.{Admission}
+use Rattle.rules.specs.Runs.{RunAnswer, Numbered, NotBits, NoRoom, BreakOff, RunOutcome, ran}
+use Rattle.rules.specs.declared.Stats.{Stats}
+use Rattle.exports.specs.declared.FbsReply.{FbsReply}
+use Rattle.exports.specs.declared.FbsAdmission.{FbsAdmission}
+
+-- Number, line and count, place by place.
+abbrev pub answer : FbsReply → Answer
+answer r = record { number = r .number; line = r .line; count = r .count }
+
+-- The three ends of a run that document 01 has no number for, numbered from 100 on; line 0.
+unfoldable pub runNumbers : RunAnswer → Answer
+runNumbers (Numbered a) = a
+runNumbers NotBits = refused 100 0
+runNumbers NoRoom = refused 101 0
+runNumbers BreakOff = refused 102 0
+
+-- A run's outcome with a number in every case; the buffer is as it was left.
+unfoldable pub numbered : {A : Type 0} → RunOutcome A → RunOutcome A
+numbered o = ran (Numbered (runNumbers (o .answer))) (o .buffer)
+
+-- A refusal has no statistics: 0 in each of their places.
+unfoldable pub statistics : Option Stats → Stats
+statistics none = record { inputs = 0; sums = 0; boots = 0; sources = 0; longest = 0; norm = 0; outputs = 0 }
+statistics (some s) = s
+
+unfoldable pub admissionNumbers : Admission → FbsAdmission
+admissionNumbers a =
+    let s = statistics (a .stats) in
+    record {
+      number = a .number;
+      line = a .line;
+      inputs = s .inputs;
+      sums = s .sums;
+      boots = s .boots;
+      sources = s .sources;
+      longest = s .longest;
+      norm = s .norm;
+      outputs = s .outputs;
+    }

@@ -1,0 +1,88 @@
+// The entries for an evaluator in C, C++ or Rust: include/wonkpecan.h says how to call them. A reply is numbers in a struct, by value.
+mod numbers;
+
+use crate::numbers::admission_numbers;
+use crate::numbers::builder_numbers;
+use crate::numbers::map_numbers;
+use crate::numbers::run_numbers;
+ghost use mathlib.Core.Path.{_≡_};
+ghost use Rattle.rules.specs.Builder.{builder};
+ghost use Rattle.rules.specs.Mapper.{mapper};
+ghost use Rattle.rules.specs.NetworkText.{admission};
+ghost use Rattle.rules.specs.Outcome.{outcome};
+ghost use Rattle.rules.specs.Runs.{Numbered, ran, runCircuit, runNetwork};
+ghost use Rattle.exports.specs.Numbers.{answer, admissionNumbers, numbered};
+
+// 0 and the count of bytes or values written, or the number and the line of the refusal.
+#[repr(C)]
+pub struct FbsReply {
+    pub number: usize,
+    pub line: usize,
+    pub count: usize,
+}
+
+// 0 and the statistics, or the number and the line of the refusal.
+#[repr(C)]
+pub struct FbsAdmission {
+    pub number: usize,
+    pub line: usize,
+    pub inputs: usize,
+    pub sums: usize,
+    pub boots: usize,
+    // different sources of boots
+    pub sources: usize,
+    pub longest: usize,
+    pub norm: usize,
+    pub outputs: usize,
+}
+
+// A circuit's text mapped to a network's.
+#[no_mangle]
+pub extern "C" fn fbs_map(text: &[u8], out: &mut [u8]) -> FbsReply
+    ensures { λ r. ⌜ outcome (answer r) (now (out .exit)) ≡ mapper (now (text .entry)) (now (out .entry)) ⌝ }
+{
+    let r = mapper::map(text, out);
+    map_numbers(r)
+}
+
+// A network's text judged.
+#[no_mangle]
+pub extern "C" fn fbs_admit(text: &[u8]) -> FbsAdmission
+    ensures { λ r. ⌜ r ≡ admissionNumbers (admission (now (text .entry))) ⌝ }
+{
+    let r = admission::admit(text);
+    admission_numbers(r)
+}
+
+// A bootstrap table from rows, a value and a truth each.
+#[no_mangle]
+pub extern "C" fn fbs_build_table(
+    p: usize,
+    m: usize,
+    values: &[i32],
+    truths: &[u8],
+    out: &mut [u8],
+) -> FbsReply
+    ensures { λ r. ⌜ outcome (answer r) (now (out .exit)) ≡ builder p m (now (values .entry)) (now (truths .entry)) (now (out .entry)) ⌝ }
+{
+    let r = rotation::composed_bootstrap_table(p, m, values, truths, out);
+    builder_numbers(r)
+}
+
+// A circuit run on a bit for each input.
+#[no_mangle]
+pub extern "C" fn fbs_run_circuit(text: &[u8], bits: &[u8], values: &mut [u8]) -> FbsReply
+    ensures { λ r. ⌜ ran (Numbered (answer r)) (now (values .exit)) ≡ numbered (runCircuit (now (text .entry)) (now (bits .entry)) (now (values .entry))) ⌝ }
+{
+    let r = circuit_run::run_circuit(text, bits, values);
+    run_numbers(r)
+}
+
+// A network run on a bit for each input.
+#[no_mangle]
+pub extern "C" fn fbs_run_network(text: &[u8], bits: &[u8], values: &mut [i64]) -> FbsReply
+    ensures { λ r. ⌜ ran (Numbered (answer r)) (now (values .exit)) ≡ numbered (runNetwork (now (text .entry)) (now (bits .entry)) (now (values .entry))) ⌝ }
+{
+    let r = network_run::run_network(text, bits, values);
+    run_numbers(r)
+}

@@ -1,0 +1,95 @@
+// Each reply as numbers.
+use crate::FbsAdmission;
+use crate::FbsReply;
+use rules::AdmitReply;
+use rules::BuilderReply;
+use rules::MapReply;
+use rules::RunReply;
+ghost use mathlib.Core.Path.{_≡_};
+ghost use Rattle.rules.specs.Builder.{builderReply};
+ghost use Rattle.rules.specs.Mapper.{mapReply};
+ghost use Rattle.rules.specs.NetworkText.{admitReply};
+ghost use Rattle.rules.specs.Runs.{runReply};
+ghost use Rattle.rules.specs.Outcome.{written, refused};
+ghost use Rattle.exports.specs.Numbers.{answer, runNumbers, admissionNumbers};
+
+fn accepted(count: usize) -> FbsReply
+    ensures { λ r. ⌜ answer r ≡ written count ⌝ }
+{
+    FbsReply {
+        number: 0,
+        line: 0,
+        count,
+    }
+}
+
+fn turned_away(number: usize, line: usize) -> FbsReply
+    ensures { λ r. ⌜ answer r ≡ refused number line ⌝ }
+{
+    FbsReply {
+        number,
+        line,
+        count: 0,
+    }
+}
+
+pub fn map_numbers(reply: MapReply) -> FbsReply
+    ensures { λ r. ⌜ answer r ≡ mapReply reply ⌝ }
+{
+    match reply {
+        MapReply::Written(count) => accepted(count),
+        MapReply::Refused(number, line) => turned_away(number, line),
+    }
+}
+
+pub fn builder_numbers(reply: BuilderReply) -> FbsReply
+    ensures { λ r. ⌜ answer r ≡ builderReply reply ⌝ }
+{
+    FbsReply {
+        number: rotation::reply_number(reply),
+        line: 0,
+        count: rotation::reply_count(reply),
+    }
+}
+
+// Document 01 has no number for the last three: 100 to 102 are ours.
+pub fn run_numbers(reply: RunReply) -> FbsReply
+    ensures { λ r. ⌜ answer r ≡ runNumbers (runReply reply) ⌝ }
+{
+    match reply {
+        RunReply::Ran(count) => accepted(count),
+        RunReply::Unreadable(number, line) => turned_away(number, line),
+        RunReply::BadBits => turned_away(100, 0),
+        RunReply::ShortBuffer => turned_away(101, 0),
+        RunReply::BrokenOff => turned_away(102, 0),
+    }
+}
+
+pub fn admission_numbers(reply: AdmitReply) -> FbsAdmission
+    ensures { λ r. ⌜ r ≡ admissionNumbers (admitReply reply) ⌝ }
+{
+    match reply {
+        AdmitReply::Admitted(stats) => FbsAdmission {
+            number: 0,
+            line: 0,
+            inputs: stats.inputs,
+            sums: stats.sums,
+            boots: stats.boots,
+            sources: stats.sources,
+            longest: stats.longest,
+            norm: stats.norm,
+            outputs: stats.outputs,
+        },
+        AdmitReply::Refused(number, line) => FbsAdmission {
+            number,
+            line,
+            inputs: 0,
+            sums: 0,
+            boots: 0,
+            sources: 0,
+            longest: 0,
+            norm: 0,
+            outputs: 0,
+        },
+    }
+}

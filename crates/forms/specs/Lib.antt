@@ -1,0 +1,6 @@
+-- How the code's answers stand for the readers of wires, limits, signed numbers and the lines that both texts have.
+pub mod LineForms
+pub mod Wire
+pub mod Limit
+pub mod Signed
+pub mod Forms

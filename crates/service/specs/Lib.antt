@@ -1,0 +1,2 @@
+-- The service program: its bytes, read by read.
+pub mod Chunk

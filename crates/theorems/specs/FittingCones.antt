@@ -1,0 +1,32 @@
+-- A cone that fits has a table, and one truth for each value.
+use mathlib.Core.Path.{_≡_, refl, sym, ap, _∙_}
+use mathlib.Core.Bool.{true, false≢true}
+use mathlib.Core.List.{List}
+use mathlib.Core.Option.{Option, none, some}
+use Prim.Native.Nat.{ℕ, _^_}
+use lib.Dec.{leb}
+use lib.ListN.{length}
+use Rattle.laws.specs.Test.{isSome, both-right}
+use Rattle.rules.specs.declared.Settings.{Settings}
+use Rattle.rules.specs.Builder.{knownEntries}
+use Rattle.rules.specs.Cone.{Cone, values, completed, bootstrapTable, isLutValid, withinNorm, norm2, coneSpan, fits}
+use Rattle.theorems.specs.Rows.{Consistent, known-exact}
+use Rattle.theorems.specs.ConeValues.{linearTable-length}
+
+pub fits-table : (s : Settings) (c : Cone) → fits s c ≡ true → isSome (bootstrapTable (s .p) c) ≡ true
+unfolding fits isLutValid
+fits-table s c e =
+    both-right (leb (coneSpan c) (s .m)) (isSome (bootstrapTable (s .p) c)) (both-right (withinNorm s (norm2 c)) (isLutValid s c) e)
+
+known-some : (P : ℕ) (k : Option (List ℕ)) → isSome (completed P k) ≡ true → (l : List ℕ) × (k ≡ some l)
+unfolding completed
+known-some P none e = absurd (false≢true e)
+known-some P (some l) e = (l, refl)
+
+pub fits-consistent : (s : Settings) (c : Cone) → length (c .coefficients) ≡ length (c .support) → length (c .truth) ≡ 2 ^ length (c .support)
+    → fits s c ≡ true → Consistent (values c) (c .truth)
+unfolding bootstrapTable
+fits-consistent s c same rows e = known-exact (values c) (c .truth) long .0 (known-some (s .p) (knownEntries (values c) (c .truth)) (fits-table s c e))
+  where
+    long : length (values c) ≡ length (c .truth)
+    long = unfold values in (linearTable-length (c .coefficients) ∙ ap (λ n. 2 ^ n) same ∙ sym rows)
