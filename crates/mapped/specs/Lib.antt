@@ -33,3 +33,4 @@ pub mod Whole
 pub mod Cap
 pub mod Agrees
 pub mod Proved
+pub mod SumRun

@@ -64,12 +64,6 @@ rest-fits v c f h = fits-abs (v -ℤ c) (omega (arith, abs-add v (negℤ c), abs
 
 -- ---- laws: the chosen node
 
-pub is-linear : (x : LutNode) → kindOf x ≡ 1 → isLinear x ≡ true
-unfolding kindOf isLinear
-is-linear (Input n) e = absurd (omega arith)
-is-linear (Linear c ts) e = refl
-is-linear (Bootstrap i table) e = absurd (omega arith)
-
 pub not-linear : (x : LutNode) (value : ℤ) → (kindOf x ≡ 1 → ⊥) → readingAt x value ≡ Refused 35 0
 unfolding kindOf readingAt
 not-linear (Input n) value h = refl

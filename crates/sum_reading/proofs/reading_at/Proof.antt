@@ -3,8 +3,9 @@ use mathlib.Core.Path.{sym, ap, ap₂, _∙_}
 use native.Mathlib.Omega.{arith}
 use mir.Facts.{toZ-ofZ}
 use Rattle.rules.specs.SumReading.{readingAt, sumAnswer}
+use Rattle.lut.specs.Kinds.{sum-kind}
 use Rattle.lut.specs.View.{nodeOf, storeOf, at-store, store-length, is-node}
-use Rattle.sum_reading.specs.Nodes.{is-linear, not-linear, no-node}
+use Rattle.sum_reading.specs.Nodes.{not-linear, no-node}
 use borrow.Author.Needs.{needs}
 use Rattle.sum_reading.proofs.reading_at.Statement.{statement}
 use Rattle.sum_reading.proofs.reading_at.Tie as tie
@@ -41,7 +42,7 @@ reading-on-requires : tie.Need-reading-on-requires
 reading-on-requires c κs =
     let s = c .before .before .before in
     let n = nodeOf (s .args .nodes .now) (s .args .node) in
-    (is-node (s .args .nodes .now) (s .args .count) (s .args .node) (s .pre) (omega arith), is-linear n (omega (arith, c .before .kind-of .ensures)))
+    (is-node (s .args .nodes .now) (s .args .count) (s .args .node) (s .pre) (omega arith), sum-kind n (omega (arith, c .before .kind-of .ensures)))
 
 -- src/lib.rt:39:1
 returns-3 : tie.Need-returns-3

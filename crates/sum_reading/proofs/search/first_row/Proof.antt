@@ -23,9 +23,6 @@ sums-held coefs table d n rows long few e f =
     let m : length (take n coefs) ≡ n = length-take-le n coefs (omega arith) in
     rw f (take-over (linearTable (take n coefs)) d rows (linearTable-length (take n coefs) ∙ ap (λ j. 2 ^ j) m ∙ sym e))
 
-room : (n : ℕ) → n ≤ 11 → 2 ^ n ≤ 2048
-room n h = pow-mono {j = 11} h
-
 coefs-long : (c : tie.Start) → length (c .args .coefs) ≡ 11
 coefs-long c = search needs
 
@@ -38,7 +35,7 @@ slice-aggregate-values-of c = search needs
 
 -- src/search.rt:60:5
 values-of-requires : tie.Need-values-of-requires
-values-of-requires c κs = let s = c .before in (s .pre .0, (room (s .args .n) (s .pre .0), s .pre .1))
+values-of-requires c κs = let s = c .before in (s .pre .0, (pow-mono {j = 11} (s .pre .0), s .pre .1))
 
 -- src/search.rt:61:9
 rows-of-requires : tie.Need-rows-of-requires
@@ -48,7 +45,8 @@ rows-of-requires c κs = search needs
 array-share-prefix-table : tie.Need-array-share-prefix-table
 array-share-prefix-table c =
     let s = c .before .before .before .before in
-    omega (arith, table-long c, c .rows-of .ensures, room (s .args .n) (s .pre .0))
+    let fits : 2 ^ s .args .n ≤ 2048 = pow-mono {j = 11} (s .pre .0) in
+    omega (arith, table-long c, c .rows-of .ensures, fits)
 
 -- src/search.rt:62:17
 slice-aggregate-first-place : tie.Need-slice-aggregate-first-place
