@@ -1,4 +1,4 @@
-/* Wonkpecan for C and C++: the mapper, the admission check, the table builder and the two runs.
+/* Wonkpecan for C and C++: the mapper, the admission check, the table builder, the two runs and the reading of a sum.
  *
  *     rt staticlib exports                                       proves it and writes target/staticlib/libexports.a
  *     cc -Iinclude evaluator.c target/staticlib/libexports.a     x86-64 Linux; asks the C library for memcpy and memset
@@ -30,6 +30,7 @@ enum {
     FBS_TABLE_BITS = 32,      /* fbs_build_table's `out`: 34 never comes */
     FBS_INPUTS = 32,          /* bits of a run: no text has more inputs */
     FBS_OUTPUTS = 32,         /* `values` of a run: 101 never comes */
+    FBS_TERMS = 11,           /* places for the bits of a sum: no `lin` has more terms */
     FBS_STACK_BYTES = 262144
 };
 
@@ -49,7 +50,7 @@ enum fbs_number {
     FBS_NO_COMPOSITION = 9,   /* P = M = 2, AND */
     FBS_BAD_ENCODING = 10,    /* none known */
     FBS_SHORT_ANSWER = 11,    /* buffer of 0 bytes */
-    /* a network's text: fbs_admit; fbs_run_network has 21 and 22 alone */
+    /* a network's text: fbs_admit, fbs_sum_reading; fbs_run_network has 21 and 22 alone */
     FBS_NET_TEXT = 21,        /* (lin 0 (0 0)); empty text, line 1 */
     FBS_NET_NODE = 22,        /* (boot 9 01) as line 3 */
     FBS_NET_BOUNDS = 23,      /* (boot 0 001) on an input */
@@ -62,14 +63,18 @@ enum fbs_number {
     FBS_BAD_TRUTHS = 32,      /* value 0 with 0 and 1 */
     FBS_NO_COMPLETION = 33,   /* P = 2, values 0..3, truths 0001 */
     FBS_SHORT_TABLE = 34,     /* buffer of 0 bytes */
+    /* a wanted sum: fbs_sum_reading */
+    FBS_NO_SUM = 35,          /* node 0, an input */
     /* a run of either kind; document 01 has no number for these */
     FBS_NOT_BITS = 100,       /* two inputs, one bit; a bit that is 2 */
     FBS_SHORT_VALUES = 101,   /* one output, buffer of 0 values */
-    FBS_BROKEN_OFF = 102      /* fbs_run_network: (boot 2 01) where node 2 is 2. Never of an admitted network */
+    FBS_BROKEN_OFF = 102,     /* fbs_run_network: (boot 2 01) where node 2 is 2. Never of an admitted network */
+    /* a wanted sum; document 02 has no number for it */
+    FBS_NONE_GIVES = 103      /* (lin 0 (2 0)), value 1 */
 };
 
 /* Accepted: number 0, line 0, and how many places of the buffer were written. Refused: number, line from 1, count 0.
- * Line 0: the refusal belongs to no line (11, 30 to 34, 100 to 102, the builder's 2, and 8 from Basic's last check). */
+ * Line 0: the refusal belongs to no line (11, 30 to 35, 100 to 103, the builder's 2, and 8 from Basic's last check). */
 typedef struct fbs_reply {
     size_t number;
     size_t line;
@@ -88,6 +93,15 @@ typedef struct fbs_admission {
     size_t norm;    /* the largest squared norm of a node */
     size_t outputs;
 } fbs_admission;
+
+/* Found: number 0, line 0, how many terms the `lin` has, and a bit for each in their order. Else: number, line and count 0. Each place
+ * of `bits` that is none of theirs is 0. */
+typedef struct fbs_sum {
+    size_t number;
+    size_t line;
+    size_t count;
+    uint8_t bits[FBS_TERMS];
+} fbs_sum;
 
 /* A circuit's text mapped to a network's, written over the front of `out`. fbs_admit answers 0 to the bytes written, and on
  * all bits the network's outputs are the circuit's. Inputs that nothing needs are gone, so take bits by name. */
@@ -108,6 +122,11 @@ fbs_reply fbs_run_circuit(const uint8_t *text, size_t text_length, const uint8_t
                           size_t values_length);
 fbs_reply fbs_run_network(const uint8_t *text, size_t text_length, const uint8_t *bits, size_t bits_length, int64_t *values,
                           size_t values_length);
+
+/* A network's text, a `lin` node of it (its number, from 0 over `in`, `lin` and `boot` lines) and a wanted value: the first bits for the
+ * nodes that it adds with which its sum, CONST counted in, is the value; the first term's bit counts highest. 21 to 26 as fbs_admit,
+ * then 35; 103 only if no bits give the value. The least and the greatest sum are always found. */
+fbs_sum fbs_sum_reading(const uint8_t *text, size_t text_length, size_t node, int32_t value);
 
 /* The number in words. */
 static inline const char *fbs_phrase(size_t number) {
@@ -135,9 +154,11 @@ static inline const char *fbs_phrase(size_t number) {
     case FBS_BAD_TRUTHS: return "a truth is not a bit, or one value has two truths";
     case FBS_NO_COMPLETION: return "no table that a rotation gives has these truths";
     case FBS_SHORT_TABLE: return "the answer buffer is too short for the table";
+    case FBS_NO_SUM: return "the chosen node is not a sum";
     case FBS_NOT_BITS: return "not one bit for each input";
     case FBS_SHORT_VALUES: return "fewer places than outputs";
     case FBS_BROKEN_OFF: return "a bootstrap broke off";
+    case FBS_NONE_GIVES: return "no bits give the value";
     }
     return "not a number of this library";
 }

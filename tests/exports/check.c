@@ -305,6 +305,48 @@ static void check_network_run(void) {
     expect("2 - 3", values[0] == -1);
 }
 
+/* ---- The reading of a sum: 1 + 2c - b + 2a, the terms not in the nodes' order. */
+
+static const char *summed = "(net 4 8 none)\n(in a)\n(in b)\n(in c)\n(lin 1 (2 2) (-1 1) (2 0))\n(boot 0 01)\n(lin 0 (2 0))\n";
+
+static const struct {
+    const char *what;
+    size_t node;
+    int32_t value;
+    size_t number, count;
+    uint8_t bits[FBS_TERMS];
+} wanted[] = {
+    {"the least sum", 3, 0, 0, 3, {0, 1, 0}},
+    {"the greatest sum", 3, 5, 0, 3, {1, 0, 1}},
+    {"CONST alone", 3, 1, 0, 3, {0, 0, 0}},
+    {"the first of two", 3, 3, 0, 3, {0, 0, 1}},
+    {"below the least", 3, -1, 103, 0, {0}},
+    {"above the greatest", 3, 6, 103, 0, {0}},
+    {"in a gap", 5, 1, 103, 0, {0}},
+    {"past the gap", 5, 2, 0, 1, {1}},
+    {"the least number", 3, INT32_MIN, 103, 0, {0}},
+    {"the greatest number", 3, INT32_MAX, 103, 0, {0}},
+    {"35, an input", 0, 0, 35, 0, {0}},
+    {"35, a boot", 4, 0, 35, 0, {0}},
+    {"35, no node", 6, 0, 35, 0, {0}},
+    {"35, the greatest node", SIZE_MAX, 0, 35, 0, {0}},
+};
+
+static void check_sums(void) {
+    for (size_t i = 0; i < sizeof wanted / sizeof *wanted; i++) {
+        fbs_sum r = fbs_sum_reading(bytes(summed), strlen(summed), wanted[i].node, wanted[i].value);
+        int good = r.number == wanted[i].number && r.line == 0 && r.count == wanted[i].count;
+        expect(wanted[i].what, good && memcmp(r.bits, wanted[i].bits, FBS_TERMS) == 0);
+    }
+    for (size_t i = 0; i < sizeof judged / sizeof *judged; i++) {
+        fbs_sum r = fbs_sum_reading(bytes(judged[i].text), strlen(judged[i].text), 0, 0);
+        size_t number = judged[i].reply.number ? judged[i].reply.number : 35;
+        expect("admission first, then 35", r.number == number && r.line == judged[i].reply.line && r.count == 0);
+    }
+    fbs_sum r = fbs_sum_reading(NULL, 0, 0, 0);
+    expect("no text is the empty text", r.number == 21 && r.line == 1 && r.count == 0);
+}
+
 /* What is mapped is admitted and runs as its circuit does. */
 static void check_together(void) {
     for (size_t i = 0; i < 3; i++) {
@@ -375,6 +417,7 @@ int main(void) {
     check_builder();
     check_circuit_run();
     check_network_run();
+    check_sums();
     check_together();
     check_threads();
     expect("words for every number", strcmp(fbs_phrase(25), "a sum's norm is over the limit") == 0 && strcmp(fbs_phrase(12), fbs_phrase(99)) == 0);

@@ -24,8 +24,17 @@ mod wonkpecan {
         pub outputs: usize,
     }
 
+    #[repr(C)]
+    #[derive(Debug, PartialEq, Clone, Copy)]
+    pub struct Sum {
+        pub number: usize,
+        pub line: usize,
+        pub count: usize,
+        pub bits: [u8; 11],
+    }
+
     mod c {
-        use super::{Admission, Reply};
+        use super::{Admission, Reply, Sum};
 
         unsafe extern "C" {
             pub fn fbs_map(text: *const u8, text_length: usize, out: *mut u8, out_length: usize) -> Reply;
@@ -56,10 +65,11 @@ mod wonkpecan {
                 values: *mut i64,
                 values_length: usize,
             ) -> Reply;
+            pub fn fbs_sum_reading(text: *const u8, text_length: usize, node: usize, value: i32) -> Sum;
         }
     }
 
-    // SAFETY of all five: a slice's pointer and length are what the header asks for, and a `&mut` shares no place with another.
+    // SAFETY of all six: a slice's pointer and length are what the header asks for, and a `&mut` shares no place with another.
 
     pub fn map(text: &[u8], out: &mut [u8]) -> Reply {
         unsafe { c::fbs_map(text.as_ptr(), text.len(), out.as_mut_ptr(), out.len()) }
@@ -80,11 +90,15 @@ mod wonkpecan {
     pub fn run_network(text: &[u8], bits: &[u8], values: &mut [i64]) -> Reply {
         unsafe { c::fbs_run_network(text.as_ptr(), text.len(), bits.as_ptr(), bits.len(), values.as_mut_ptr(), values.len()) }
     }
+
+    pub fn sum_reading(text: &[u8], node: usize, value: i32) -> Sum {
+        unsafe { c::fbs_sum_reading(text.as_ptr(), text.len(), node, value) }
+    }
 }
 
 use std::fmt::Debug;
 use std::sync::atomic::{AtomicUsize, Ordering};
-use wonkpecan::{Admission, Reply, admit, build_table, map, run_circuit, run_network};
+use wonkpecan::{Admission, Reply, Sum, admit, build_table, map, run_circuit, run_network, sum_reading};
 
 static CHECKS: AtomicUsize = AtomicUsize::new(0);
 
@@ -107,6 +121,21 @@ fn rejected(number: usize, line: usize) -> Admission {
 
 const AND: &[u8] = b"(fbs 4 8 10 none span one)\n(in a)\n(in b)\n(gate g 0001 (n 0) (n 1))\n(out y (n 2))\n";
 const NETWORK: &[u8] = b"(net 4 8 none)\n(in a)\n(in b)\n(lin 0 (1 0) (1 1))\n(boot 2 001)\n(out y (n 3))\n";
+
+fn check_sums() {
+    let bits = |front: &[u8]| {
+        let mut bits = [0; 11];
+        bits[..front.len()].copy_from_slice(front);
+        bits
+    };
+    let no = |number, line| Sum { number, line, count: 0, bits: bits(&[]) };
+    same("the least sum", sum_reading(NETWORK, 2, 0), Sum { number: 0, line: 0, count: 2, bits: bits(&[0, 0]) });
+    same("the first of two", sum_reading(NETWORK, 2, 1), Sum { number: 0, line: 0, count: 2, bits: bits(&[0, 1]) });
+    same("the greatest sum", sum_reading(NETWORK, 2, 2), Sum { number: 0, line: 0, count: 2, bits: bits(&[1, 1]) });
+    same("103", sum_reading(NETWORK, 2, 3), no(103, 0));
+    same("35", sum_reading(NETWORK, 3, 0), no(35, 0));
+    same("21, the empty text", sum_reading(&[], 2, 0), no(21, 1));
+}
 
 fn check_map() {
     let mut out = vec![0xa5; 65536];
@@ -184,6 +213,7 @@ fn check_runs() {
 
 fn check_all() {
     check_map();
+    check_sums();
     check_admit();
     check_builder();
     check_runs();

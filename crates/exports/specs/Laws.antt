@@ -6,8 +6,11 @@ use Rattle.rules.specs.Builder.{builderReply}
 use Rattle.rules.specs.Outcome.{Answer, Outcome, outcome}
 use Rattle.rules.specs.Runs.{RunAnswer, Numbered, RunOutcome, ran}
 use Rattle.rules.specs.declared.BuilderReply.{BuilderReply}
+use Rattle.rules.specs.declared.SumAnswer.{SumAnswer}
 use Rattle.rules.specs.declared.BuilderReply.the-variants.{Written, BadSettings, BadLengths, SpanOverM, Conflict, NoCompletion, ShortBuffer}
-use Rattle.exports.specs.Numbers.{answer, runNumbers, numbered}
+use Rattle.exports.specs.Numbers.{answer, runNumbers, numbered, sumNumbers, sumPlaces}
+use Rattle.exports.specs.declared.FbsReply.{FbsReply}
+use Rattle.exports.specs.declared.FbsSum.{FbsSum}
 
 pub answered : (a b : Answer) (s : List ℕ) (o : Outcome) → a ≡ b → outcome b s ≡ o → outcome a s ≡ o
 answered a b s o e f = ap (λ (t : Answer). outcome t s) e ∙ f
@@ -31,3 +34,8 @@ places n l k a e f g = ap₂ (λ (x y : ℕ). answer (record { number = x; line 
 
 pub builder-answer : (r : BuilderReply) (n k : ℕ) → n ≡ (builderReply r) .number → k ≡ (builderReply r) .count → answer (record { number = n; line = 0; count = k }) ≡ builderReply r
 builder-answer r n k e f = places n 0 k (builderReply r) e (builder-line r) f
+
+pub sum-placed : (a b : SumAnswer) (r : FbsReply) → a ≡ b → answer r ≡ sumNumbers (a .reply)
+    → _≡_ {A = FbsSum} (record { number = r .number; line = r .line; count = r .count; bits = a .bits }) (sumPlaces b)
+unfolding sumPlaces
+sum-placed a b r e f = ap {B = FbsSum} (λ (n : Answer). record { number = n .number; line = n .line; count = n .count; bits = a .bits }) f ∙ ap sumPlaces e

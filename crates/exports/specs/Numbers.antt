@@ -1,11 +1,15 @@
--- Document 01's answers as numbers: what each place of the two reply structs holds.
+-- The answers as numbers: what each place of the reply structs holds.
 use mathlib.Core.Option.{Option, none, some}
-use Rattle.rules.specs.Outcome.{Answer, refused}
+use Rattle.rules.specs.Outcome.{Answer, written, refused}
 use Rattle.rules.specs.NetworkText.{Admission}
 use Rattle.rules.specs.Runs.{RunAnswer, Numbered, NotBits, NoRoom, BreakOff, RunOutcome, ran}
 use Rattle.rules.specs.declared.Stats.{Stats}
+use Rattle.rules.specs.declared.SumAnswer.{SumAnswer}
+use Rattle.rules.specs.declared.SumReply.{SumReply}
+use Rattle.rules.specs.declared.SumReply.the-variants as Sum
 use Rattle.exports.specs.declared.FbsReply.{FbsReply}
 use Rattle.exports.specs.declared.FbsAdmission.{FbsAdmission}
+use Rattle.exports.specs.declared.FbsSum.{FbsSum}
 
 -- Number, line and count, place by place.
 abbrev pub answer : FbsReply → Answer
@@ -41,3 +45,14 @@ admissionNumbers a =
       norm = s .norm;
       outputs = s .outputs;
     }
+
+-- A wanted sum that no bits give: 103, a number of ours, line 0.
+unfoldable pub sumNumbers : SumReply → Answer
+sumNumbers (Sum.Shown n) = written n
+sumNumbers Sum.NoneGives = refused 103 0
+sumNumbers (Sum.Refused k i) = refused k i
+
+unfoldable pub sumPlaces : SumAnswer → FbsSum
+sumPlaces a =
+    let n = sumNumbers (a .reply) in
+    record { number = n .number; line = n .line; count = n .count; bits = a .bits }

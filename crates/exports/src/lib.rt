@@ -5,13 +5,15 @@ use crate::numbers::admission_numbers;
 use crate::numbers::builder_numbers;
 use crate::numbers::map_numbers;
 use crate::numbers::run_numbers;
+use crate::numbers::sum_numbers;
 ghost use mathlib.Core.Path.{_≡_};
 ghost use Rattle.rules.specs.Builder.{builder};
 ghost use Rattle.rules.specs.Mapper.{mapper};
 ghost use Rattle.rules.specs.NetworkText.{admission};
 ghost use Rattle.rules.specs.Outcome.{outcome};
 ghost use Rattle.rules.specs.Runs.{Numbered, ran, runCircuit, runNetwork};
-ghost use Rattle.exports.specs.Numbers.{answer, admissionNumbers, numbered};
+ghost use Rattle.rules.specs.SumReading.{sumReading, sumAnswer};
+ghost use Rattle.exports.specs.Numbers.{answer, admissionNumbers, numbered, sumPlaces};
 
 // 0 and the count of bytes or values written, or the number and the line of the refusal.
 #[repr(C)]
@@ -34,6 +36,15 @@ pub struct FbsAdmission {
     pub longest: usize,
     pub norm: usize,
     pub outputs: usize,
+}
+
+// 0 and the count of bits, or the number and the line; the bits of the terms in their order, 0 in each place that is none of theirs.
+#[repr(C)]
+pub struct FbsSum {
+    pub number: usize,
+    pub line: usize,
+    pub count: usize,
+    pub bits: [u8; 11],
 }
 
 // A circuit's text mapped to a network's.
@@ -85,4 +96,21 @@ pub extern "C" fn fbs_run_network(text: &[u8], bits: &[u8], values: &mut [i64]) 
 {
     let r = network_run::run_network(text, bits, values);
     run_numbers(r)
+}
+
+// The first bits for the nodes that a `lin` adds with which its sum is the value.
+#[no_mangle]
+pub extern "C" fn fbs_sum_reading(text: &[u8], node: usize, value: i32) -> FbsSum
+    ensures { λ r. ⌜ r ≡ sumPlaces (sumAnswer (sumReading (now (text .entry)) node value)) ⌝ }
+{
+    let a = sum_reading::sum_reading(text, node, value);
+    let reply = a.reply;
+    let bits = a.bits;
+    let r = sum_numbers(reply);
+    FbsSum {
+        number: r.number,
+        line: r.line,
+        count: r.count,
+        bits,
+    }
 }

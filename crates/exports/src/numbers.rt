@@ -5,13 +5,14 @@ use rules::AdmitReply;
 use rules::BuilderReply;
 use rules::MapReply;
 use rules::RunReply;
+use rules::SumReply;
 ghost use mathlib.Core.Path.{_≡_};
 ghost use Rattle.rules.specs.Builder.{builderReply};
 ghost use Rattle.rules.specs.Mapper.{mapReply};
 ghost use Rattle.rules.specs.NetworkText.{admitReply};
 ghost use Rattle.rules.specs.Runs.{runReply};
 ghost use Rattle.rules.specs.Outcome.{written, refused};
-ghost use Rattle.exports.specs.Numbers.{answer, runNumbers, admissionNumbers};
+ghost use Rattle.exports.specs.Numbers.{answer, runNumbers, admissionNumbers, sumNumbers};
 
 fn accepted(count: usize) -> FbsReply
     ensures { λ r. ⌜ answer r ≡ written count ⌝ }
@@ -62,6 +63,17 @@ pub fn run_numbers(reply: RunReply) -> FbsReply
         RunReply::BadBits => turned_away(100, 0),
         RunReply::ShortBuffer => turned_away(101, 0),
         RunReply::BrokenOff => turned_away(102, 0),
+    }
+}
+
+// No document has a number for the second: 103 is ours.
+pub fn sum_numbers(reply: SumReply) -> FbsReply
+    ensures { λ r. ⌜ answer r ≡ sumNumbers reply ⌝ }
+{
+    match reply {
+        SumReply::Shown(count) => accepted(count),
+        SumReply::NoneGives => turned_away(103, 0),
+        SumReply::Refused(number, line) => turned_away(number, line),
     }
 }
 

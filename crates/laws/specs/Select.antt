@@ -1,7 +1,8 @@
 -- The elements of a list at which a test holds.
 use mathlib.Core.Path.{_≡_, refl}
 use mathlib.Core.Bool.{Bool, true, false, not, _&&_, _||_}
-use mathlib.Core.List.{List, [], _∷_, _++_}
+use mathlib.Core.List.{List, [], _∷_, _++_, map}
+use mathlib.Core.Option.{Option, none, some, Option·map}
 use Prim.Native.Nat.{ℕ, zero, suc, _+_, _≤_, _<_, zero-le}
 use native.Mathlib.Nat.{not-suc-le-zero, le-of-suc-le-suc}
 use native.Mathlib.Omega.{arith}
@@ -21,6 +22,11 @@ module _ {ℓ} {A : Type ℓ} where
   unfoldable pub all : (A → Bool) → List A → Bool
   all f [] = true
   all f (x ∷ l) = let r = all f l in f x && r
+
+  -- the first of them
+  unfoldable pub firstOf : (A → Bool) → List A → Option A
+  firstOf f [] = none
+  firstOf f (x ∷ l) = let r = firstOf f l in if f x then some x else r
 
 module _ {A : Type 0} where
   pub all-at : (f : A → Bool) (l : List A) (d : A) → all f l ≡ true → (i : ℕ) → i < length l → f (getD l i d) ≡ true
@@ -78,3 +84,29 @@ module _ {A : Type 0} (f g : A → Bool) where
       by true false r = omega arith
       by false true r = omega arith
       by false false r = r
+
+-- ---- The first of two lists, and of a list of images.
+
+unfoldable pub orElse : {A : Type 0} → Option A → Option A → Option A
+orElse none r = r
+orElse (some x) r = some x
+
+pub first-append : {A : Type 0} (f : A → Bool) (s t : List A) → firstOf f (s ++ t) ≡ orElse (firstOf f s) (firstOf f t)
+unfolding firstOf orElse
+first-append f [] t = refl
+first-append f (x ∷ s) t = by (f x) (first-append f s t)
+  where
+    by : (b : Bool) → firstOf f (s ++ t) ≡ orElse (firstOf f s) (firstOf f t)
+        → (if b then some x else firstOf f (s ++ t)) ≡ orElse (if b then some x else firstOf f s) (firstOf f t)
+    by true e = refl
+    by false e = e
+
+pub first-map : {A B : Type 0} (f : B → Bool) (g : A → B) (l : List A) → firstOf f (map g l) ≡ Option·map g (firstOf (λ x. f (g x)) l)
+unfolding firstOf
+first-map f g [] = refl
+first-map f g (x ∷ l) = by (f (g x)) (first-map f g l)
+  where
+    by : (b : Bool) → firstOf f (map g l) ≡ Option·map g (firstOf (λ x. f (g x)) l)
+        → (if b then some (g x) else firstOf f (map g l)) ≡ Option·map g (if b then some x else firstOf (λ x. f (g x)) l)
+    by true e = refl
+    by false e = e

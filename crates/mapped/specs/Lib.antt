@@ -36,3 +36,4 @@ pub mod TwoSources
 pub mod Agrees
 pub mod Proved
 pub mod TwoSourcesMet
+pub mod SumRun

@@ -1,4 +1,4 @@
--- The rules of document 01 as definitions, a file for each part of it.
+-- The rules of document 01 as definitions, a file for each part of it, and those that document 02 adds.
 pub mod Outcome
 pub mod Rotation
 pub mod Span
@@ -16,4 +16,5 @@ pub mod Store
 pub mod Composition
 pub mod Mapper
 pub mod Service
+pub mod SumReading
 pub mod Computed

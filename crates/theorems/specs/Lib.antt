@@ -37,3 +37,7 @@ pub mod Interned
 pub mod Decimals
 pub mod Pieces
 pub mod PlainPieces
+pub mod FirstAssignment
+pub mod SumBounds
+pub mod SumLine
+pub mod SumReadingExact
