@@ -16,8 +16,8 @@ use Rattle.rules.specs.declared.Stats.{Stats}
 use Rattle.rules.specs.Network.{LutNode, Input, Linear, Bootstrap, isInput, isLinear, isBootstrap, tableLength, nodeNorm, count, largest, bootSources, member, different}
 use Rattle.rules.specs.Store.{needs}
 use Rattle.theorems.specs.Counts.{count-snoc, count-most}
-use Rattle.lut.specs.Nodes.{kindOf, bytesIn, source-before}
-use Rattle.lut.specs.View.{Fine, nodeOf, storeOf, store-length}
+use Rattle.nodes.specs.Nodes.{kindOf, bytesIn, source-before}
+use Rattle.nodes.specs.View.{Fine, nodeOf, storeOf, store-length}
 
 -- The statistics of these nodes, with n outputs.
 unfoldable pub statsOf : List LutNode → ℕ → Stats

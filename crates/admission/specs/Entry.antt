@@ -6,9 +6,9 @@ use Rattle.laws.specs.Tabulate.{tabulate-length}
 use Rattle.rules.specs.declared.Stats.{Stats}
 use Rattle.rules.specs.Network.{stats}
 use Rattle.rules.specs.NetworkText.{readAdmitted, admitted, rejected, admissionOf, admission}
-use Rattle.lut.specs.View.{storeOf, IsStore}
+use Rattle.nodes.specs.View.{storeOf, IsStore}
 use Rattle.network.specs.View.{outputsOf, networkOf, readingOf, Held}
-use Rattle.network.specs.declared.Header.{Header}
+use Rattle.network_judge.specs.declared.Header.{Header}
 use Rattle.network.specs.declared.Reading.{Reading}
 use Rattle.network.specs.declared.Reading.the-variants.{Good, Refused}
 use Rattle.admission.specs.Count.{statsOf}

@@ -3,14 +3,14 @@ ghost use mathlib.Core.Path.{_≡_};
 ghost use Prim.Native.Nat.{_+_, _≤_, max};
 ghost use lib.ListN.{length};
 ghost use Rattle.laws.specs.Test.{if_then_else_};
-ghost use Rattle.lut.specs.View.{nodeOf, storeOf, IsNode, IsStore};
+ghost use Rattle.nodes.specs.View.{nodeOf, storeOf, IsNode, IsStore};
 ghost use Rattle.admission.specs.Count.{statsOf, noStats, withInput, withSum, withBoot, nodeStats, takenWith, Room};
-use lut::node::INPUT;
-use lut::node::LINEAR;
-use lut::node::kind_of;
-use lut::node::source_of;
-use lut::node::table_of;
-use lut::norm::node_norm;
+use nodes::node::INPUT;
+use nodes::node::LINEAR;
+use nodes::node::kind_of;
+use nodes::node::source_of;
+use nodes::node::table_of;
+use nodes::norm::node_norm;
 use rules::Stats;
 
 fn no_stats(outputs: usize) -> Stats

@@ -1,4 +1,4 @@
-// Admission: a network's text judged (21 to 26), and its statistics.
+// Admission: a network's text judged (21 to 26), and its statistics. It leans on the reader (`network`).
 mod count;
 
 ghost use mathlib.Core.Path.{_≡_};

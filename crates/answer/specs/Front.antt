@@ -9,7 +9,7 @@ use Rattle.rules.specs.Form.{bytes}
 use Rattle.rules.specs.Service.{endLine, refusalText}
 use Rattle.rules.specs.Writing.{digits}
 use Rattle.theorems.specs.Decimals.{digits-within}
-use Rattle.writer.specs.Put.{Put, Room}
+use Rattle.lines.specs.Put.{Put, Room}
 
 -- The first n bytes of the buffer are the text.
 pub record Front (text : List ℕ) (n : ℕ) (out : List ℕ) : Type 0 where

@@ -1,19 +1,19 @@
 // What the service prints, in one buffer, so that the program writes it by one call: the answer to a job, or a refusal,
-// and `(end)` behind it.
+// and `(end)` behind it. It leans on `mapper` and `framing`.
 use framing::Event;
 use framing::Feed;
+use lines::put::put;
+use lines::put::put_all;
+use lines::put::put_number;
 use mapper::map;
 use rules::MapReply;
-use writer::put::put;
-use writer::put::put_all;
-use writer::put::put_number;
 ghost use mathlib.Core.List.{_++_};
 ghost use Prim.Native.Nat.{_≤_};
 ghost use lib.ListN.{length, take};
 ghost use Rattle.framing.specs.Step.{Within};
 ghost use Rattle.framing.specs.Feeding.{said, closing};
 ghost use Rattle.rules.specs.Service.{endLine, refusalText, mapperAnswer};
-ghost use Rattle.writer.specs.Put.{Put};
+ghost use Rattle.lines.specs.Put.{Put};
 ghost use Rattle.answer.specs.Front.{Front};
 
 // `(no NUMBER LINE)`.

@@ -1,4 +1,4 @@
-// The bits that a run is handed.
+// The bits that a run is handed. It leans on no other code.
 ghost use mathlib.Core.Path.{_≡_};
 ghost use Rattle.rules.specs.Runs.{bitsFor};
 

@@ -23,9 +23,9 @@ use Rattle.cone.specs.declared.Cone.{Cone}
 use Rattle.cone.specs.View.{coneOf, IsCone, small, low-small}
 use Rattle.lut.specs.declared.Linked.{Linked}
 use Rattle.lut.specs.declared.Signal.the-variants as Signals
-use Rattle.lut.specs.declared.Terms.{Terms}
+use Rattle.nodes.specs.declared.record.Terms.{Terms}
 use Rattle.lut.specs.Store.{Interns, Bootstraps}
-use Rattle.lut.specs.View.{term, termsIn, FineTerms, GoodTerms, storeOf, store-length}
+use Rattle.nodes.specs.View.{term, termsIn, FineTerms, GoodTerms, storeOf, store-length}
 use Rattle.bootstrap.specs.View.{Below, Stands, Boots, bootedOf}
 
 -- The terms stand for the cone's sum.

@@ -27,7 +27,7 @@ use Rattle.theorems.specs.ConeValues.{linearTable-length}
 use Rattle.cone.specs.View.{coneOf, IsCone, truth-length, truth-entry, view-rows}
 use Rattle.lut.specs.declared.forms.Aligned.{Aligned}
 use Rattle.lut.specs.Forms.{formTerms, FormOf, NodesTo}
-use Rattle.lut.specs.View.{nodeOf, Fine, FineTerms}
+use Rattle.nodes.specs.View.{nodeOf, Fine, FineTerms}
 use Rattle.bootstrap.specs.declared.form.Entered.{Entered}
 use Rattle.bootstrap.specs.declared.form.Form.{Form}
 

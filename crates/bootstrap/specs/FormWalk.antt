@@ -17,7 +17,7 @@ use Rattle.rules.specs.Store.{termsOf, sameSources, bootstrapInputs, bootstrapF
 use Rattle.cone.specs.declared.Cone.{Cone}
 use Rattle.cone.specs.View.{coneOf, IsCone}
 use Rattle.lut.specs.Forms.{formTerms}
-use Rattle.lut.specs.View.{nodeOf, storeOf, store-from, store-length, at-store, Fine, IsStore}
+use Rattle.nodes.specs.View.{nodeOf, storeOf, store-from, store-length, at-store, Fine, IsStore}
 use Rattle.bootstrap.specs.declared.form.Form.{Form}
 use Rattle.bootstrap.specs.View.{Stands}
 use Rattle.bootstrap.specs.Form.{candidateIn, Kept, fitting, betterOf, turned}

@@ -10,7 +10,7 @@ use Rattle.rules.specs.Cone.{Result, ok, err}
 use Rattle.rules.specs.Store.{Stored}
 use Rattle.cone.specs.declared.Cone.{Cone}
 use Rattle.cone.specs.View.{coneOf, IsCone}
-use Rattle.lut.specs.View.{storeOf, IsStore}
+use Rattle.nodes.specs.View.{storeOf, IsStore}
 use Rattle.bootstrap.specs.declared.boot.Booted.{Booted}
 
 -- ---- Cones beside the store.

@@ -2,7 +2,7 @@
 use crate::form::realign;
 use cone::Cone;
 use lut::Signal;
-use lut::Terms;
+use nodes::record::Terms;
 use rules::Settings;
 ghost use mathlib.Core.Path.{_≡_};
 ghost use mathlib.Core.Bool.{true};
@@ -11,7 +11,7 @@ ghost use Rattle.rules.specs.Cone.{bootstrapTable};
 ghost use Rattle.rules.specs.CircuitText.{inLimits};
 ghost use Rattle.rules.specs.Store.{bootstrapCone, bootstrapped};
 ghost use Rattle.cone.specs.View.{coneOf, IsCone};
-ghost use Rattle.lut.specs.View.{storeOf, IsStore};
+ghost use Rattle.nodes.specs.View.{storeOf, IsStore};
 ghost use Rattle.bootstrap.specs.View.{Stands, Boots, bootedOf};
 ghost use Rattle.bootstrap.specs.Boot.{SumOf};
 

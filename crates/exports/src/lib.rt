@@ -1,4 +1,5 @@
 // The entries for an evaluator in C, C++ or Rust: include/wonkpecan.h says how to call them. A reply is numbers in a struct, by value.
+// It leans on the entries and on nothing below them.
 mod numbers;
 
 use crate::numbers::admission_numbers;
@@ -76,7 +77,7 @@ pub extern "C" fn fbs_build_table(
 ) -> FbsReply
     ensures { λ r. ⌜ outcome (answer r) (now (out .exit)) ≡ builder p m (now (values .entry)) (now (truths .entry)) (now (out .entry)) ⌝ }
 {
-    let r = rotation::composed_bootstrap_table(p, m, values, truths, out);
+    let r = builder::composed_bootstrap_table(p, m, values, truths, out);
     builder_numbers(r)
 }
 

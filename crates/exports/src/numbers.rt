@@ -47,9 +47,9 @@ pub fn builder_numbers(reply: BuilderReply) -> FbsReply
     ensures { λ r. ⌜ answer r ≡ builderReply reply ⌝ }
 {
     FbsReply {
-        number: rotation::reply_number(reply),
+        number: builder::reply_number(reply),
         line: 0,
-        count: rotation::reply_count(reply),
+        count: builder::reply_count(reply),
     }
 }
 

@@ -1,4 +1,4 @@
-// The service's framing: jobs cut out of a stream of bytes, each closed by a line that is exactly `(end)`.
+// The service's framing: jobs cut out of a stream of bytes, each closed by a line that is exactly `(end)`. It leans on no other code.
 ghost use mathlib.Core.Path.{_≡_};
 ghost use Prim.Native.Nat.{_+_, _<_, min};
 ghost use lib.Dec.{ltb};

@@ -20,7 +20,7 @@ use Rattle.cone.specs.declared.Cone.{Cone}
 use Rattle.cone.specs.declared.order.Sides.{Sides}
 use Rattle.cone.specs.Order.{sideOf, sidesOf}
 use Rattle.cone.specs.View.{coneOf, IsCone, view-sources}
-use Rattle.lut.specs.View.{storeOf, IsStore}
+use Rattle.nodes.specs.View.{storeOf, IsStore}
 use Rattle.bootstrap.specs.declared.boot.Booted.{Booted}
 use Rattle.gate.specs.declared.map.Limited.{Limited}
 use Rattle.bootstrap.specs.View.{Stands, Boots, bootedOf}

@@ -23,12 +23,13 @@ use Rattle.cone.specs.declared.order.Sides.{Sides}
 use Rattle.cone.specs.Order.{sideOf, sidesOf}
 use Rattle.cone.specs.declared.Constant.the-variants.{Bit, No}
 use Rattle.cone.specs.View.{coneOf, IsCone, constantOf}
-use Rattle.lut.specs.View.{storeOf, IsStore}
+use Rattle.nodes.specs.View.{storeOf, IsStore}
 use Rattle.gate.specs.declared.map.Limited.{Limited}
 use Rattle.gate.specs.declared.map.Mapped.{Mapped}
-use Rattle.gate.specs.declared.pair.Tried.{Tried}
+use Rattle.attempt.specs.declared.Tried.{Tried}
 use Rattle.bootstrap.specs.View.{Below, Stands, Grown}
-use Rattle.gate.specs.View.{StandsBoth, Maps, limitedOf, triedOf, mappedOf}
+use Rattle.gate.specs.View.{StandsBoth, Maps, limitedOf, mappedOf}
+use Rattle.attempt.specs.Tried.{triedOf}
 use Rattle.gate.specs.Gate.{room, roomOf, roomOf-most, Ready, Steps, Same}
 
 -- ---- the inputs limit

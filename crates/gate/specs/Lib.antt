@@ -1,8 +1,4 @@
 -- What the structs of a gate stand for, and the laws that its code is proved by.
 pub mod View
-pub mod Merged
-pub mod Pair
-pub mod PairSources
-pub mod PairTrial
 pub mod Gate
 pub mod GateSteps

@@ -1,7 +1,6 @@
 -- What the structs of a gate stand for, and what holds of them on the way.
 use mathlib.Core.Path.{_≡_}
 use mathlib.Core.List.{List}
-use mathlib.Core.Option.{Option, none, some}
 use Prim.Native.Nat.{ℕ}
 use lib.Dec.{eqb}
 use Rattle.laws.specs.Test.{if_then_else_}
@@ -11,20 +10,14 @@ use Rattle.rules.specs.Mapper as M
 use Rattle.cone.specs.declared.order.Sides.{Sides}
 use Rattle.cone.specs.View.{coneOf}
 use Rattle.cone.specs.Order.{sideOf, sidesOf}
-use Rattle.lut.specs.View.{storeOf}
+use Rattle.nodes.specs.View.{storeOf}
 use Rattle.bootstrap.specs.View.{Stands, Grown}
-use Rattle.gate.specs.declared.pair.Tried.{Tried}
 use Rattle.gate.specs.declared.map.Limited.{Limited}
 use Rattle.gate.specs.declared.map.Mapped.{Mapped}
 
 pub record StandsBoth (count : ℕ) (s : Sides) : Type 0 where
   pub left : Stands count (s .left .cone)
   pub right : Stands count (s .right .cone)
-
--- ---- One attempt: 0 no composition, 1 a cone, else the number of the refusal.
-
-unfoldable pub triedOf : Tried → Option (Result C.Cone)
-triedOf t = if eqb (t .state) 0 then none else if eqb (t .state) 1 then some (ok (coneOf (t .cone))) else some (err (t .state))
 
 -- ---- The two sides of a gate on the way.
 

@@ -1,10 +1,10 @@
 // One gate: unary, with a constant side, or binary.
-use crate::pair::Tried;
-use crate::pair::attempt;
 use crate::sides::bootstrap_left;
 use crate::sides::bootstrap_right;
 use crate::sides::limit_sources;
 use crate::sides::sides_of;
+use attempt::Tried;
+use attempt::attempt;
 use cone::Cone;
 use cone::Constant;
 use cone::order::Side;
@@ -26,9 +26,10 @@ ghost use Rattle.rules.specs.Mapper.{unchanged, mapUnaryGate, attempt as attemp
 ghost use Rattle.rules.specs.Mapper.{Mapped as Gives};
 ghost use Rattle.cone.specs.View.{coneOf};
 ghost use Rattle.cone.specs.Order.{sidesOf};
-ghost use Rattle.lut.specs.View.{storeOf, IsStore};
+ghost use Rattle.nodes.specs.View.{storeOf, IsStore};
 ghost use Rattle.bootstrap.specs.View.{Stands, Grown};
-ghost use Rattle.gate.specs.View.{StandsBoth, Maps, mappedOf, triedOf};
+ghost use Rattle.gate.specs.View.{StandsBoth, Maps, mappedOf};
+ghost use Rattle.attempt.specs.Tried.{triedOf};
 ghost use Rattle.gate.specs.Gate.{roomOf, Ready};
 
 // The gate's cone, and both sides, the first input left, with those that were bootstrapped.

@@ -22,7 +22,7 @@ ghost use Rattle.rules.specs.Store.{bootstrapCone};
 ghost use Rattle.rules.specs.Mapper.{sides, largerFirst, overLimit as isOver, bootstrapLeft, bootstrapRight, limitSecond, limitSources};
 ghost use Rattle.cone.specs.View.{coneOf, IsCone};
 ghost use Rattle.cone.specs.Order.{sidesOf};
-ghost use Rattle.lut.specs.View.{storeOf, IsStore};
+ghost use Rattle.nodes.specs.View.{storeOf, IsStore};
 ghost use Rattle.bootstrap.specs.View.{Stands, bootedOf};
 ghost use Rattle.gate.specs.View.{limitedOf};
 ghost use Rattle.gate.specs.Gate.{room, Spends, Ready, Steps, Same};

@@ -20,9 +20,9 @@ use Rattle.rules.specs.Network.{Term, LutNode, Input, Linear, Bootstrap, member
 use Rattle.rules.specs.NetworkText.{sources}
 use Rattle.rules.specs.Store.{needs, termsOf, coefficientOf, sameSources}
 use Rattle.lut.specs.declared.forms.Aligned.{Aligned}
-use Rattle.lut.specs.Nodes.{kindOf, sources-at}
+use Rattle.nodes.specs.Nodes.{kindOf, sources-at}
 use Rattle.theorems.specs.Terms.{sources-length}
-use Rattle.lut.specs.View.{term, nodeOf, IsNode}
+use Rattle.nodes.specs.View.{term, nodeOf, IsNode}
 
 -- the number of the first term of this source; as many as there are where it has none
 unfoldable pub placeOf : List Term → ℕ → ℕ
@@ -53,12 +53,6 @@ unfolding kindOf termsOf
 terms-none (Input name) h = refl
 terms-none (Linear c ts) h = absurd (h refl)
 terms-none (Bootstrap j table) h = refl
-
-pub terms-all : (n : LutNode) → kindOf n ≡ 1 → length (needs n) ≡ length (termsOf n)
-unfolding kindOf termsOf needs
-terms-all (Input name) h = absurd (omega arith)
-terms-all (Linear c ts) h = sources-length ts
-terms-all (Bootstrap j table) h = absurd (omega arith)
 
 pub terms-need : (n : LutNode) (k : ℕ) → k < length (termsOf n) → (k < length (needs n)) × (getD (needs n) k 0 ≡ getD (termsOf n) k (term (pos 0) 0) .node)
 unfolding termsOf needs

@@ -12,9 +12,9 @@ use Rattle.rules.specs.CircuitText.{sameName}
 use Rattle.rules.specs.Network.{LutNode, Input, Linear, Bootstrap, bootSources}
 use Rattle.rules.specs.NetworkText.{nodeAt}
 use Rattle.rules.specs.Store.{sameNode, needs, bootstrapInputs, hasBootstrap}
-use Rattle.lut.specs.Nodes.{kindOf}
+use Rattle.nodes.specs.Nodes.{kindOf}
 use Rattle.lut.specs.Store.{IsRecord, same-here}
-use Rattle.lut.specs.View.{Fine, IsStore, nodeIn, nodeOf, recordAt, storeOf, at-store}
+use Rattle.nodes.specs.View.{Fine, IsStore, nodeIn, nodeOf, recordAt, storeOf, at-store}
 
 -- a bootstrap of a node with this record
 unfoldable pub takesRecord : List ℕ → List ℕ → LutNode → Bool

@@ -19,10 +19,10 @@ use Rattle.theorems.specs.Interned.{number-here, number-on, number-end, number-
 use Rattle.theorems.specs.Completions.{completion-is}
 use Rattle.lut.specs.declared.Linked.{Linked}
 use Rattle.lut.specs.declared.Signal.the-variants as Signals
-use Rattle.lut.specs.declared.Terms.{Terms}
+use Rattle.nodes.specs.declared.record.Terms.{Terms}
 use Rattle.lut.specs.Order.{Arranged}
-use Rattle.lut.specs.Sums.{in-length, fine-linear, fine-more}
-use Rattle.lut.specs.View.{GoodTerms, FineTerms, termsIn, Fine, IsStore, nodeIn, nodeOf, recordOf, recordAt, storeOf, putAt, record-length, node-back, same-record, at-store, store-length, put-store, put-is-store}
+use Rattle.nodes.specs.Sums.{in-length, fine-linear, fine-more}
+use Rattle.nodes.specs.View.{GoodTerms, FineTerms, termsIn, Fine, IsStore, nodeIn, nodeOf, recordOf, recordAt, storeOf, putAt, record-length, node-back, same-record, at-store, store-length, put-store, put-is-store}
 
 -- 38 bytes that are the record of a node that may stand at a place
 pub record IsRecord (i : ℕ) (r : List ℕ) : Type 0 where

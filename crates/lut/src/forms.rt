@@ -3,14 +3,14 @@ ghost use mathlib.Core.Path.{_≡_};
 ghost use Prim.Native.Nat.{_≤_};
 ghost use lib.ListN.{length};
 ghost use Rattle.rules.specs.Store.{termsOf};
-ghost use Rattle.lut.specs.View.{nodeOf, IsNode};
+ghost use Rattle.nodes.specs.View.{nodeOf, IsNode};
 ghost use Rattle.lut.specs.Forms.{placeOf, AlignedTo, FormOf, formTerms, NodesTo};
-use crate::node::BOOTSTRAP;
-use crate::node::LINEAR;
-use crate::node::coef_of;
-use crate::node::kind_of;
-use crate::node::size_of;
-use crate::node::source_of;
+use nodes::node::BOOTSTRAP;
+use nodes::node::LINEAR;
+use nodes::node::coef_of;
+use nodes::node::kind_of;
+use nodes::node::size_of;
+use nodes::node::source_of;
 
 // The coefficients of a sum over a support; not ok where it has other sources.
 pub struct Aligned {

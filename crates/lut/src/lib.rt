@@ -1,19 +1,11 @@
-// The node store (src/lut.rs): inputs, sums and bootstraps, equal nodes shared. One lent array, 38 bytes for each node, and a count:
-//   0   kind
-//   1   how many sources (an input: 0, a bootstrap: 1)
-//   2   an input: the length of its name; a sum: its constant + 32; a bootstrap: the length of its table
-//   3   three bytes for each source: its coefficient + 32, its node's number / 256 and % 256 (a bootstrap: coefficient 1)
-//   6   an input's name, a bootstrap's table
-// Bytes that are not used are 0, so equal nodes have equal records.
+// The node store (src/lut.rs): the records of `nodes` and a count, equal nodes shared, sums with their terms in order, what is bootstrapped already.
+// It leans on `nodes`.
 pub mod forms;
-pub mod node;
-pub mod norm;
 mod order;
-pub mod prune;
-pub mod record;
 pub mod reuse;
 pub mod store;
 
+use nodes::record::Terms;
 use rotation::complete;
 ghost use mathlib.Core.Path.{_≡_};
 ghost use Prim.Native.Nat.{_≤_, _<_};
@@ -21,16 +13,8 @@ ghost use lib.ListN.{length};
 ghost use Rattle.rules.specs.Network.{Linear, Bootstrap};
 ghost use Rattle.rules.specs.Builder.{Entries, completion};
 ghost use Rattle.rules.specs.Store.{linearTerms};
-ghost use Rattle.lut.specs.View.{termsIn, GoodTerms, Fine, IsStore};
+ghost use Rattle.nodes.specs.View.{termsIn, GoodTerms, Fine, IsStore};
 ghost use Rattle.lut.specs.Store.{Interns, Bootstraps};
-
-// The terms of a sum: the first n.
-pub struct Terms {
-    pub n: usize,
-    pub constant: i64,
-    pub coefs: [i64; 11],
-    pub sources: [usize; 11],
-}
 
 pub enum Signal {
     Node(usize),
@@ -49,7 +33,7 @@ pub fn linear(nodes: &mut [u8; 25536], count: usize, many: bool, t: Terms) -> Li
     ensures { λ r. ⌜ Interns (Linear (t .constant) (linearTerms many (termsIn t))) (now (nodes .entry)) count (now (nodes .exit)) r ⌝ }
 {
     let arranged = order::linear_terms(many, t);
-    let bytes = record::sum(arranged);
+    let bytes = nodes::record::sum(arranged);
     store::intern(nodes, count, &bytes)
 }
 
@@ -58,7 +42,7 @@ fn put_bootstrap(nodes: &mut [u8; 25536], count: usize, source: usize, table: &[
     requires { ⌜ IsStore (now nodes) count × (count < 672) × Fine count (Bootstrap source (now table)) ⌝ }
     ensures { λ r. ⌜ Interns (Bootstrap source (now (table .entry))) (now (nodes .entry)) count (now (nodes .exit)) r ⌝ }
 {
-    let bytes = record::boot(source, table);
+    let bytes = nodes::record::boot(source, table);
     store::intern(nodes, count, &bytes)
 }
 

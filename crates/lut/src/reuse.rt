@@ -5,16 +5,16 @@ ghost use Prim.Native.Nat.{_<_};
 ghost use lib.ListN.{length};
 ghost use Rattle.rules.specs.Network.{Linear};
 ghost use Rattle.rules.specs.Store.{linearTerms, hasBootstrap};
-ghost use Rattle.lut.specs.View.{nodeIn, nodeOf, storeOf, termsIn, GoodTerms, IsNode, IsStore};
+ghost use Rattle.nodes.specs.View.{nodeIn, nodeOf, storeOf, termsIn, GoodTerms, IsNode, IsStore};
 ghost use Rattle.lut.specs.Store.{IsRecord};
 ghost use Rattle.lut.specs.Reuse.{takesRecord};
-use crate::Terms;
-use crate::node::BOOTSTRAP;
-use crate::node::kind_of;
-use crate::node::source_of;
 use crate::order::linear_terms;
-use crate::record;
 use crate::store::is_record;
+use nodes::node::BOOTSTRAP;
+use nodes::node::kind_of;
+use nodes::node::source_of;
+use nodes::record;
+use nodes::record::Terms;
 
 // Whether node i is a bootstrap of the node with this record.
 fn takes(nodes: &[u8; 25536], i: usize, bytes: &[u8; 38]) -> bool

@@ -6,11 +6,11 @@ ghost use lib.ListN.{length};
 ghost use Rattle.rules.specs.CircuitText.{sameName};
 ghost use Rattle.rules.specs.Network.{Input};
 ghost use Rattle.rules.specs.Store.{numberOf};
-ghost use Rattle.lut.specs.View.{nodeIn, recordAt, storeOf, putAt, IsStore};
+ghost use Rattle.nodes.specs.View.{nodeIn, recordAt, storeOf, putAt, IsStore};
 ghost use Rattle.lut.specs.Store.{IsRecord, Interns};
 use crate::Linked;
 use crate::Signal;
-use crate::record;
+use nodes::record;
 
 pub fn is_record(nodes: &[u8; 25536], i: usize, bytes: &[u8; 38]) -> bool
     requires { ⌜ (length (now nodes) ≡ 25536) × (i < 672) × (length (now bytes) ≡ 38) ⌝ }

@@ -25,13 +25,13 @@ use Rattle.circuit.specs.declared.Reading.{Reading}
 use Rattle.circuit.specs.declared.Reading.the-variants.{Good, Refused}
 use Rattle.circuit.specs.Fits.{Fits, answer-bits, read-fits}
 use Rattle.circuit.specs.View.{gatesIn, inputName, inputNames, outputsIn, circuitOf, readingOf, Held}
-use Rattle.mapper.specs.declared.gates.Work.{Work}
-use Rattle.mapper.specs.Wired.{SlotIn, stateOf}
-use Rattle.mapper.specs.Gates.{GoodGates}
-use Rattle.mapper.specs.Outputs.{PortIn, GoodPorts, Done}
-use Rattle.mapper.specs.Start.{Inputs, Started}
+use Rattle.gates.specs.declared.Work.{Work}
+use Rattle.gates.specs.Wired.{SlotIn, stateOf}
+use Rattle.gates.specs.Gates.{GoodGates}
+use Rattle.outputs.specs.Outputs.{PortIn, GoodPorts, Done}
+use Rattle.gates.specs.Start.{Inputs, Started}
 use Rattle.mapper.specs.Once.{outputsAfter, mapOnce, doneRead}
-use Rattle.mapper.specs.Conclude.{concluded, Finishable}
+use Rattle.conclude.specs.Conclude.{concluded, Finishable}
 
 -- The arrays and the counts are what the text says.
 pub record Read (s gs ps : List ℕ) (c : Circuit) : Type 0 where

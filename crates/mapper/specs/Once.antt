@@ -12,12 +12,12 @@ use Rattle.rules.specs.Circuit.{Gate, Output}
 use Rattle.rules.specs.Form.{Reading, Good, Refused}
 use Rattle.rules.specs.Mapper.{State, Outputs, atLine, andThen, mapGates, mapOutputs}
 use Rattle.circuit.specs.View.{outputsIn}
-use Rattle.lut.specs.View.{storeOf}
-use Rattle.mapper.specs.declared.gates.Work.{Work}
-use Rattle.mapper.specs.View.{conesIn}
-use Rattle.mapper.specs.Wired.{stateOf}
-use Rattle.mapper.specs.Gates.{stateRead, read-ok, read-err}
-use Rattle.mapper.specs.Outputs.{started, outputsRead, Done}
+use Rattle.nodes.specs.View.{storeOf}
+use Rattle.gates.specs.declared.Work.{Work}
+use Rattle.gates.specs.View.{conesIn}
+use Rattle.gates.specs.Wired.{stateOf}
+use Rattle.gates.specs.Gates.{stateRead, read-ok, read-err}
+use Rattle.outputs.specs.Outputs.{started, outputsRead, Done}
 
 -- The outputs in turn, after the gates.
 unfoldable pub outputsAfter : Settings → List Output → State → Reading Outputs

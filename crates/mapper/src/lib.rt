@@ -1,19 +1,13 @@
-// The mapper: the gates and the outputs in turn, what is kept of the nodes, and the network's text.
-mod conclude;
-pub mod gates;
-pub mod live;
-pub mod norm;
+// The mapper, from a circuit's text to a network's: the text read, gates and outputs in turn, the end. It leans on `circuit`, `gates`, `outputs` and `conclude`.
 mod once;
-pub mod outputs;
-mod start;
 
-use crate::conclude::conclude;
-use crate::gates::used;
 use crate::once::map_once;
-use crate::start::start;
 use circuit::Circuit;
 use circuit::Reading;
 use circuit::read;
+use conclude::conclude;
+use gates::start::start;
+use gates::used;
 use rules::MapReply;
 ghost use mathlib.Core.Path.{_≡_};
 ghost use Rattle.rules.specs.Mapper.{mapCircuit, answerWith, mapReply, mapper};

@@ -1,7 +1,7 @@
 // map_once: the gates in turn, then the outputs.
-use crate::gates::Work;
-use crate::gates::map_gates;
-use crate::outputs::map_outputs;
+use gates::Work;
+use gates::map_gates;
+use outputs::map_outputs;
 use rules::Settings;
 ghost use mathlib.Core.Path.{_≡_};
 ghost use mathlib.Core.Bool.{true};
@@ -9,9 +9,9 @@ ghost use mathlib.Core.List.{List};
 ghost use Prim.Native.Nat.{ℕ, _+_, _≤_};
 ghost use Rattle.rules.specs.CircuitText.{inLimits};
 ghost use Rattle.circuit.specs.View.{gatesIn, outputsIn};
-ghost use Rattle.mapper.specs.Wired.{Wired, stateOf};
-ghost use Rattle.mapper.specs.Gates.{GoodGates};
-ghost use Rattle.mapper.specs.Outputs.{GoodPorts, Done};
+ghost use Rattle.gates.specs.Wired.{Wired, stateOf};
+ghost use Rattle.gates.specs.Gates.{GoodGates};
+ghost use Rattle.outputs.specs.Outputs.{GoodPorts, Done};
 ghost use Rattle.mapper.specs.Once.{mapOnce, doneRead};
 
 // Asks that the inputs are the first nodes, each in its slot.

@@ -21,7 +21,7 @@ use Rattle.rules.specs.NetworkText.{Net, NetworkLine, NetLine, NodeLine, OutLin
 use Rattle.text.specs.Name.{Named}
 use Rattle.theorems.specs.LineBits.{WireBit, LineBits, line-bits}
 use Rattle.lut.specs.Ports.{portOutput}
-use Rattle.lut.specs.View.{storeOf, store-length}
+use Rattle.nodes.specs.View.{storeOf, store-length}
 use Rattle.network_text.specs.Lines.{lineIn, lineOf, goodLine, Within, LineRead}
 use Rattle.network_text.specs.Terms.{termsOf}
 use Rattle.network_text.specs.declared.line.Line.{Line}
@@ -30,10 +30,10 @@ use Rattle.network_text.specs.declared.line.Read.{Read}
 use Rattle.network_text.specs.declared.sum.Lin.{Lin}
 use Rattle.network.specs.Numbers.{Says}
 use Rattle.network.specs.Put.{Adds, signalOf, withPort, withNet, withNode, withInput, withOutput, Follows}
-use Rattle.network.specs.Table.{table-length}
+use Rattle.network_bounds.specs.Table.{table-length}
 use Rattle.network.specs.Verdict.{refusal, good-same, net-limits, inputs-only, sum-sound, out-known}
 use Rattle.network.specs.View.{outputsOf, netOf, prefixOf, Sound, Holds}
-use Rattle.network.specs.declared.Header.{Header}
+use Rattle.network_judge.specs.declared.Header.{Header}
 use Rattle.network.specs.NodeAdded.{holds-node, holds-input}
 use Rattle.network.specs.OutputAdded.{outputs-more, new-output, holds-output}
 

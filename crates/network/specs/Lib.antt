@@ -1,9 +1,5 @@
 -- How a network that was read stands for the definitions of crates/rules, and what the code does on the way.
 pub mod View
-pub mod Bounds
-pub mod Table
-pub mod Scans
-pub mod Conditions
 pub mod Verdict
 pub mod Put
 pub mod Numbers

@@ -14,10 +14,10 @@ use Rattle.rules.specs.Network as W
 use Rattle.rules.specs.Network.{LutNode, Input, isInput}
 use Rattle.rules.specs.NetworkText.{nodeAt}
 use Rattle.theorems.specs.Counts.{count-snoc, count-most}
-use Rattle.lut.specs.View.{nodeOf, storeOf, at-store, store-length}
+use Rattle.nodes.specs.View.{nodeOf, storeOf, at-store, store-length}
 use Rattle.network.specs.Put.{Adds, withNode, withInput}
 use Rattle.network.specs.View.{Sound, IsSignal, Holds}
-use Rattle.network.specs.declared.Header.{Header}
+use Rattle.network_judge.specs.declared.Header.{Header}
 
 module _ (nodes after : List ℕ) (count : ℕ) (n : LutNode) (k : Adds n nodes count after) where
   old-node : (i : ℕ) → i < count → nodeOf after i ≡ nodeOf nodes i

@@ -21,19 +21,19 @@ use Rattle.rules.specs.Network.{Term, LutNode, Input, Linear, Bootstrap, leastO
 use Rattle.rules.specs.NetworkText as N
 use Rattle.rules.specs.NetworkText.{Net, NetLine, NodeLine, OutLine, NetPrefix, networkLine, allInputs, unknown, nodeAt, sources, anyBadSource, ending, settingsOf, fitsTable, safetyConditions}
 use Rattle.text.specs.Judged.{lowest, unmet}
-use Rattle.lut.specs.View.{FineTerms}
+use Rattle.nodes.specs.View.{FineTerms}
 use Rattle.network_text.specs.Lines.{lineIn, lineOf, TablePlace, Within, LineRead}
 use Rattle.network_text.specs.Terms.{termsFrom, termsAt, termsOf, Small}
 use Rattle.network_text.specs.declared.line.Line.{Line}
 use Rattle.network_text.specs.declared.line.Line.the-variants.{Bad, Net as NetRead, In, Lin as Sum, Boot, Out}
 use Rattle.network_text.specs.declared.line.Read.{Read}
 use Rattle.network_text.specs.declared.sum.Lin.{Lin}
-use Rattle.network.specs.Bounds.{fitOf, nodeFit, coefNorm}
-use Rattle.network.specs.Conditions.{inConditions, nodeConditions, linConditions, bootConditions, wireConditions, outConditions, lineConditions}
+use Rattle.network_bounds.specs.Bounds.{fitOf, nodeFit, coefNorm}
+use Rattle.network_judge.specs.Conditions.{inConditions, nodeConditions, linConditions, bootConditions, wireConditions, outConditions, lineConditions}
 use Rattle.network.specs.Put.{RoomFor}
-use Rattle.network.specs.Table.{table-length}
+use Rattle.network_bounds.specs.Table.{table-length}
 use Rattle.network.specs.Verdict.{refusal, goodRefusal, laterConditions, safety, good-refusal}
-use Rattle.network.specs.declared.Header.{Header}
+use Rattle.network_judge.specs.declared.Header.{Header}
 
 -- The header and the nodes are those of the lines so far.
 pub record Says (h : Header) (w : NetPrefix) : Type 0 where

@@ -18,10 +18,10 @@ use Rattle.rules.specs.CircuitText.{noNode}
 use Rattle.text.specs.Name.{Named}
 use Rattle.theorems.specs.LineBits.{WireBit}
 use Rattle.lut.specs.Ports.{signalWire, outputAt, portOutput}
-use Rattle.lut.specs.View.{part-drop}
+use Rattle.nodes.specs.View.{part-drop}
 use Rattle.network.specs.Put.{signalOf, withPort, withOutput}
 use Rattle.network.specs.View.{outputsOf, IsSignal, Holds}
-use Rattle.network.specs.declared.Header.{Header}
+use Rattle.network_judge.specs.declared.Header.{Header}
 
 -- an output's name in its line, and in the text
 name-within : (text : List ℕ) (at end a e : ℕ) → a ≤ e → e ≤ end - at → take (e - a) (drop a (take (end - at) (drop at text))) ≡ take (at + e - (at + a)) (drop (at + a) text)

@@ -12,19 +12,19 @@ use Rattle.rules.specs.declared.Wire.{Wire}
 use Rattle.rules.specs.declared.Wire.the-variants.{Const, Node}
 use Rattle.rules.specs.Form.{bitsFrom}
 use Rattle.rules.specs.Network.{Term, LutNode, Input, Linear, Bootstrap}
-use Rattle.lut.specs.declared.Terms.{Terms}
+use Rattle.nodes.specs.declared.record.Terms.{Terms}
 use Rattle.text.specs.Name.{Named}
 use Rattle.theorems.specs.Bits.{bit-at}
 use Rattle.lut.specs.Store.{put-new}
-use Rattle.lut.specs.Sums.{in-length, fine-more}
-use Rattle.lut.specs.View.{recordOf, storeOf, putAt, term, termsOver, termsIn, FineTerms, Fine, GoodTerms, IsStore}
+use Rattle.nodes.specs.Sums.{in-length, fine-more}
+use Rattle.nodes.specs.View.{recordOf, storeOf, putAt, term, termsOver, termsIn, FineTerms, Fine, GoodTerms, IsStore}
 use Rattle.network_text.specs.Lines.{TablePlace, Within}
 use Rattle.network_text.specs.Terms.{termsFrom, termsAt, termsOf, Small}
 use Rattle.network_text.specs.declared.line.Line.{Line}
 use Rattle.network_text.specs.declared.line.Line.the-variants.{Bad, Net as NetRead, In, Lin as Sum, Boot, Out}
 use Rattle.network_text.specs.declared.sum.Lin.{Lin}
-use Rattle.network.specs.Table.{TableIs, table-length, lent}
-use Rattle.network.specs.declared.Header.{Header}
+use Rattle.network_bounds.specs.Table.{TableIs, table-length, lent}
+use Rattle.network_judge.specs.declared.Header.{Header}
 
 -- The store with one node more.
 pub record Adds (n : LutNode) (nodes : List ℕ) (count : ℕ) (after : List ℕ) : Type 0 where

@@ -16,16 +16,16 @@ use Rattle.rules.specs.NetworkText.{NetworkLine, networkLine, noNetwork, withNe
 use Rattle.laws.specs.Tabulate.{tabulate}
 use Rattle.text.specs.Judged.{lowest}
 use Rattle.text.specs.Line.{LineEnd}
-use Rattle.lut.specs.View.{storeOf}
+use Rattle.nodes.specs.View.{storeOf}
 use Rattle.network_text.specs.Lines.{LineRead}
 use Rattle.network_text.specs.declared.line.Read.{Read}
 use Rattle.network.specs.Added.{holds-says, added}
-use Rattle.network.specs.Conditions.{Kept, lineConditions}
+use Rattle.network_judge.specs.Conditions.{Kept, lineConditions}
 use Rattle.network.specs.Numbers.{number-is, room-for}
 use Rattle.network.specs.Put.{Ready, Follows}
 use Rattle.network.specs.Verdict.{refusal, networkFrom, network-read, network-admitted, network-end, line-refused, line-next}
 use Rattle.network.specs.View.{outputsOf, netOf, networkOf, prefixOf, Holds, Held}
-use Rattle.network.specs.declared.Header.{Header}
+use Rattle.network_judge.specs.declared.Header.{Header}
 use Rattle.network.specs.declared.Reading.the-variants.{Good, Refused}
 use Rattle.network.specs.declared.put.Step.{Step}
 

@@ -26,7 +26,7 @@ use Rattle.text.specs.Judged.{lowest, Numbered, unmet, readFrom, read-end, read
 use Rattle.text.specs.Line.{LineEnd}
 use Rattle.forms.specs.Wire.{capWire}
 use Rattle.network_text.specs.Lines.{capTerm, capTerms, goodForm, goodLine}
-use Rattle.network.specs.Bounds.{coefNorm}
+use Rattle.network_bounds.specs.Bounds.{coefNorm}
 
 -- Admission judges 21 to 26, a run 21 and 22.
 unfoldable pub conditionsOf : Bool → NetPrefix → NetworkLine → List Condition

@@ -15,8 +15,8 @@ use Rattle.rules.specs.Network.{LutNode, Input, Linear, Bootstrap, Network, isI
 use Rattle.rules.specs.NetworkText.{Net, NetPrefix, sources, goodSum, anyBadSource}
 use Rattle.text.specs.Name.{Named}
 use Rattle.lut.specs.Ports.{portOutput}
-use Rattle.lut.specs.View.{nodeOf, storeOf, IsStore}
-use Rattle.network.specs.declared.Header.{Header}
+use Rattle.nodes.specs.View.{nodeOf, storeOf, IsStore}
+use Rattle.network_judge.specs.declared.Header.{Header}
 use Rattle.network.specs.declared.Reading.{Reading}
 use Rattle.network.specs.declared.Reading.the-variants.{Good, Refused}
 

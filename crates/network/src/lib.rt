@@ -1,25 +1,14 @@
 // A network's text read once: judged line by line (21 and 22, or 21 to 26), its nodes put into the node store, its outputs among the ports.
-mod bounds;
-mod judge;
+// It leans on `network_judge`, one line's reader (`network_text`) and the store (`lut`).
 mod put;
-mod table;
 
+use network_judge::Header;
 ghost use mathlib.Core.Path.{_≡_};
 ghost use lib.ListN.{length};
 ghost use Rattle.laws.specs.Test.{if_then_else_};
 ghost use Rattle.rules.specs.NetworkText.{readNetwork, readAdmitted};
 ghost use Rattle.network.specs.View.{readingOf, Held};
 use rules::Limit;
-
-// P, M and NORM of the `net` line, and how many nodes, inputs and outputs there are; P is 0 before the `net` line.
-pub struct Header {
-    pub p: usize,
-    pub m: usize,
-    pub norm: Limit,
-    pub count: usize,
-    pub inputs: usize,
-    pub outputs: usize,
-}
 
 // What a text says: its network, or the number and the line of its refusal.
 pub enum Reading {

@@ -6,13 +6,13 @@ ghost use Rattle.rules.specs.Form.{bitsFrom};
 ghost use Rattle.rules.specs.Network.{Input, Linear, Bootstrap};
 ghost use Rattle.text.specs.Name.{Named};
 ghost use Rattle.text.specs.Line.{LineEnd};
-ghost use Rattle.lut.specs.View.{FineTerms, IsStore};
+ghost use Rattle.nodes.specs.View.{FineTerms, IsStore};
 ghost use Rattle.network_text.specs.Lines.{TablePlace};
 ghost use Rattle.network_text.specs.Terms.{Small, termsOf};
 ghost use Rattle.network.specs.View.{Holds};
 ghost use Rattle.network.specs.Put.{Adds, sumTerms, signalOf, withPort, withNode, withInput, withOutput, Ready, Follows};
 ghost use Rattle.network.specs.Step.{Stepped};
-use crate::Header;
+use network_judge::Header;
 use network_text::Lin;
 use network_text::Line;
 use network_text::Read;
@@ -49,13 +49,13 @@ fn with_output(h: Header) -> Header
     r
 }
 
-fn terms_of(lin: Lin) -> lut::Terms
+fn terms_of(lin: Lin) -> nodes::record::Terms
     requires { ⌜ Small lin ⌝ }
     ensures { λ r. ⌜ r ≡ sumTerms lin ⌝ }
 {
     let coefs = lin.coefs;
     let sources = lin.sources;
-    lut::Terms {
+    nodes::record::Terms {
         n: lin.n,
         constant: lin.constant,
         coefs,
@@ -67,7 +67,7 @@ fn put_sum(nodes: &mut [u8; 25536], count: usize, lin: Lin)
     requires { ⌜ IsStore (now nodes) count × (count < 672) × Small lin × FineTerms count (termsOf lin) ⌝ }
     ensures { λ _. ⌜ Adds (Linear (lin .constant) (termsOf lin)) (now (nodes .entry)) count (now (nodes .exit)) ⌝ }
 {
-    let bytes = lut::record::sum(terms_of(lin));
+    let bytes = nodes::record::sum(terms_of(lin));
     lut::store::put_record(nodes, count, &bytes);
 }
 
@@ -75,9 +75,9 @@ fn put_boot(nodes: &mut [u8; 25536], count: usize, source: usize, l: &[u8], a: u
     requires { ⌜ IsStore (now nodes) count × (count < 672) × (source < count) × TablePlace (now l) a e ⌝ }
     ensures { λ _. ⌜ Adds (Bootstrap source (bitsFrom (take (e - a) (drop a (now (l .entry)))))) (now (nodes .entry)) count (now (nodes .exit)) ⌝ }
 {
-    let table = crate::table::table_of(l, a, e);
+    let table = network_bounds::table::table_of(l, a, e);
     let t = &table[..];
-    let bytes = lut::record::boot(source, &t[0..e - a]);
+    let bytes = nodes::record::boot(source, &t[0..e - a]);
     lut::store::put_record(nodes, count, &bytes);
 }
 
@@ -178,7 +178,7 @@ pub fn take_line(
 {
     let l = &text[at..end];
     let r = network_text::read_line(l);
-    let number = crate::judge::line_number(judge, h, nodes, l, r);
+    let number = network_judge::line_number(judge, h, nodes, l, r);
     if number != 0 {
         return Step { number, header: h };
     }

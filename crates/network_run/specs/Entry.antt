@@ -20,9 +20,9 @@ use Rattle.rules.specs.Outcome.{written, refused}
 use Rattle.rules.specs.Runs.{RunOutcome, Numbered, NotBits, NoRoom, BreakOff, ran, bitsFor, withValues, runOn, runNetworkOn, runNetwork}
 use Rattle.rules.specs.Store.{termsOf}
 use Rattle.bits.specs.Bits.{bad-bits, short-buffer}
-use Rattle.lut.specs.View.{nodeOf, storeOf, term, at-store, store-length, IsStore}
+use Rattle.nodes.specs.View.{nodeOf, storeOf, term, at-store, store-length, IsStore}
 use Rattle.network.specs.View.{outputsOf, networkOf, readingOf, Sound, IsSignal, Holds, Held}
-use Rattle.network.specs.declared.Header.{Header}
+use Rattle.network_judge.specs.declared.Header.{Header}
 use Rattle.network.specs.declared.Reading.{Reading}
 use Rattle.network.specs.declared.Reading.the-variants.{Good, Refused}
 use Rattle.network_run.specs.Nodes.{Flat, valuesIn}

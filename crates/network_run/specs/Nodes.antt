@@ -16,8 +16,8 @@ use Rattle.rules.specs.Network.{LutNode, Input, isLinear, nodeValue, nodeValues
 use Rattle.rules.specs.NetworkText.{nodeAt}
 use Rattle.rules.specs.Store.{termsOf}
 use Rattle.lut.specs.Forms.{terms-need}
-use Rattle.lut.specs.Nodes.{source-before}
-use Rattle.lut.specs.View.{nodeOf, storeOf, term, IsStore, is-node, at-store, store-length, store-from}
+use Rattle.nodes.specs.Nodes.{source-before}
+use Rattle.nodes.specs.View.{nodeOf, storeOf, term, IsStore, is-node, at-store, store-length, store-from}
 use Rattle.network_run.specs.Value.{turns, valueAt, value-is, value-none, Before}
 
 -- No `lin` on a `lin`.

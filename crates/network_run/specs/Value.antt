@@ -21,8 +21,8 @@ use Rattle.rules.specs.Network.{Term, LutNode, Input, Linear, Bootstrap, isLine
 use Rattle.rules.specs.Rotation.{centre, rotatable, rotated}
 use Rattle.rules.specs.Store.{needs, termsOf}
 use Rattle.theorems.specs.RotationRule.{rotation-rule}
-use Rattle.lut.specs.Nodes.{kindOf, constantOf, bytesIn}
-use Rattle.lut.specs.View.{nodeOf, term, Fine, FineTerms, IsNode}
+use Rattle.nodes.specs.Nodes.{kindOf, constantOf, bytesIn}
+use Rattle.nodes.specs.View.{nodeOf, term, Fine, FineTerms, IsNode}
 use Rattle.network_run.specs.declared.value.Value.{Value}
 use Rattle.network_run.specs.declared.value.Value.the-variants.{At, Broken}
 

@@ -1,6 +1,6 @@
-// A network run: its text read into the node store, its nodes run in order, its outputs' values written.
-mod nodes;
+// A network run: its text read into the node store, its nodes run in order, its outputs' values written. It leans on the reader (`network`).
 mod value;
+mod walk;
 mod write;
 
 ghost use mathlib.Core.Path.{_≡_};
@@ -10,12 +10,12 @@ ghost use Rattle.rules.specs.Form.{Good};
 ghost use Rattle.rules.specs.Runs.{runReply, ran, runNetworkOn, runNetwork};
 ghost use Rattle.network.specs.View.{networkOf};
 ghost use Rattle.network_run.specs.Entry.{Runnable};
-use network::Header;
 use network::Reading;
-pub use nodes::are_rotatable;
-pub use nodes::run_nodes;
-pub use nodes::run_rotatable;
+use network_judge::Header;
 use rules::RunReply;
+pub use walk::are_rotatable;
+pub use walk::run_nodes;
+pub use walk::run_rotatable;
 
 // A network that was read, run on a bit for each input. Its names do not matter.
 pub fn run_read(

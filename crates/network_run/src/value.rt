@@ -6,17 +6,17 @@ ghost use lib.IntN.{pos, natAbs, _*ℤ_};
 ghost use lib.ListN.{getD};
 ghost use Rattle.rules.specs.Network.{isLinear, sumFrom};
 ghost use Rattle.rules.specs.Store.{termsOf};
-ghost use Rattle.lut.specs.Nodes.{constantOf};
-ghost use Rattle.lut.specs.View.{nodeOf};
+ghost use Rattle.nodes.specs.Nodes.{constantOf};
+ghost use Rattle.nodes.specs.View.{nodeOf};
 ghost use Rattle.network_run.specs.Value.{valueOf, SmallValue, looked, Before, Valued};
-use lut::node::INPUT;
-use lut::node::LINEAR;
-use lut::node::coef_of;
-use lut::node::constant_of;
-use lut::node::kind_of;
-use lut::node::size_of;
-use lut::node::source_of;
-use lut::node::table_of;
+use nodes::node::INPUT;
+use nodes::node::LINEAR;
+use nodes::node::coef_of;
+use nodes::node::constant_of;
+use nodes::node::kind_of;
+use nodes::node::size_of;
+use nodes::node::source_of;
+use nodes::node::table_of;
 
 // A node's value, or that its boot breaks off.
 pub enum Value {

@@ -1,4 +1,4 @@
-// The lines of a network's text.
+// The lines of a network's text. It leans on what both texts are made of (`forms`, `text`).
 mod line;
 mod sum;
 

@@ -12,9 +12,9 @@ use Rattle.rules.specs.declared.Settings.{Settings}
 use Rattle.rules.specs.Builder.{knownEntries}
 use Rattle.rules.specs.Cone.{Cone, Candidate, values, coneSpan, less, better}
 use Rattle.rules.specs.Composition.{scales, mergedCoefficients}
-use Rattle.search.specs.declared.score.Score.{Score}
-use Rattle.search.specs.Pair.{Scaling}
-use Rattle.search.specs.Score.{scoreList, betterScore}
+use Rattle.scale_pair.specs.declared.score.Score.{Score}
+use Rattle.scale_pair.specs.Pair.{Scaling}
+use Rattle.scale_pair.specs.Score.{scoreList, betterScore}
 use Rattle.search.specs.Search.{coneBy}
 
 -- The merged cone of a pair, and the candidate that a score stands for.

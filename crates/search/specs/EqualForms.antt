@@ -28,13 +28,13 @@ use Rattle.theorems.specs.Truths.{allEqual-true}
 use Rattle.theorems.specs.FittingCones.{fits-consistent}
 use Rattle.scale.specs.Divisor.{divisor-not-zero}
 use Rattle.compose.specs.Basis.{coefficientsOver}
-use Rattle.search.specs.MergedIntegers.{add-mul, quot-of}
-use Rattle.search.specs.MergedValues.{combined, times, table-times, table-divided, merged-coefficients}
+use Rattle.merged_rows.specs.MergedIntegers.{add-mul, quot-of}
+use Rattle.merged_rows.specs.MergedValues.{combined, times, table-times, table-divided, merged-coefficients}
 use Rattle.search.specs.Pairs.{tried, triedAt, pairs-walked}
-use Rattle.search.specs.Score.{less-same, less-differ-number}
+use Rattle.scale_pair.specs.Score.{less-same, less-differ-number}
 use Rattle.search.specs.Search.{coneBy}
 use Rattle.search.specs.Walk.{walkRow, walk}
-use Rattle.search.specs.Factor.{positive-of, normalised-same}
+use Rattle.scale_pair.specs.Factor.{positive-of, normalised-same}
 
 -- Whether two rows of coefficients are the same.
 unfoldable pub sameRow : List ℤ → List ℤ → Bool

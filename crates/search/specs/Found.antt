@@ -26,16 +26,16 @@ use Rattle.theorems.specs.Spans.{offset-lt}
 use Rattle.compose.specs.Basis.{coefficientsOver}
 use Rattle.theorems.specs.ConeValues.{linearTable-length}
 use Rattle.search.specs.declared.Ranges.{Ranges}
-use Rattle.search.specs.declared.energy.Moments.{Moments}
-use Rattle.search.specs.declared.pair.Pair.{Pair}
-use Rattle.search.specs.declared.score.Score.{Score}
-use Rattle.search.specs.EnergyMoments.{byMoments, energy-by-moments}
-use Rattle.search.specs.EnergyRows.{momentsOf, moments-compacted}
-use Rattle.search.specs.MergedValues.{mergedValue, merged-values, merged-coefficients}
-use Rattle.search.specs.Pair.{Scaling, mergedRow, merged, weighed, measured, noPair, pairOf, scaling-at}
+use Rattle.merged_rows.specs.declared.energy.Moments.{Moments}
+use Rattle.scale_pair.specs.declared.pair.Pair.{Pair}
+use Rattle.scale_pair.specs.declared.score.Score.{Score}
+use Rattle.merged_rows.specs.EnergyMoments.{byMoments, energy-by-moments}
+use Rattle.merged_rows.specs.EnergyRows.{momentsOf, moments-compacted}
+use Rattle.merged_rows.specs.MergedValues.{mergedValue, merged-values, merged-coefficients}
+use Rattle.scale_pair.specs.Pair.{Scaling, mergedRow, merged, weighed, measured, noPair, pairOf, scaling-at}
 use Rattle.search.specs.Pairs.{tried, triedAt}
-use Rattle.search.specs.RowsCompacted.{Compacted, known-compacted}
-use Rattle.search.specs.Score.{scoreList, noScore, betterScore}
+use Rattle.merged_rows.specs.RowsCompacted.{Compacted, known-compacted}
+use Rattle.scale_pair.specs.Score.{scoreList, noScore, betterScore}
 use Rattle.search.specs.Search.{Context, context, rowValues, enteredFrom, energyBy, coneBy, reuseOf, scoreOf, considered, stepOf, stepAt, InSpans}
 use Rattle.search.specs.Walk.{walk, walks-keep}
 use Rattle.search.specs.Candidates.{mergedCone, candidateOf, Found, one, better-candidate, found-better}

@@ -26,15 +26,15 @@ use Rattle.theorems.specs.Spans.{span-is}
 use Rattle.compose.specs.declared.Basis.{Basis}
 use Rattle.compose.specs.Basis.{coefficientsOver, IsBasis}
 use Rattle.search.specs.declared.Ranges.{Ranges}
-use Rattle.search.specs.declared.energy.Moments.{Moments}
-use Rattle.search.specs.declared.score.Score.{Score}
-use Rattle.search.specs.EnergyRows.{momentsOf}
+use Rattle.merged_rows.specs.declared.energy.Moments.{Moments}
+use Rattle.scale_pair.specs.declared.score.Score.{Score}
+use Rattle.merged_rows.specs.EnergyRows.{momentsOf}
 use Rattle.search.specs.Candidates.{candidateOf, Found}
 use Rattle.search.specs.EqualForms.{first-best}
 use Rattle.search.specs.Found.{walks-same}
 use Rattle.search.specs.Pairs.{tried, triedAt, pairs-walked}
-use Rattle.search.specs.RowsCompacted.{Compacted}
-use Rattle.search.specs.Score.{noScore}
+use Rattle.merged_rows.specs.RowsCompacted.{Compacted}
+use Rattle.scale_pair.specs.Score.{noScore}
 use Rattle.search.specs.Search.{context, coneBy, stepAt, InSpans}
 use Rattle.search.specs.Walk.{walkRow, walk}
 

@@ -15,10 +15,10 @@ use Rattle.rules.specs.Store.{terms, linearTerms, linearOf, hasBootstrap}
 use Rattle.scale.specs.Limits.{Within}
 use Rattle.linear.specs.Span.{within-total}
 use Rattle.theorems.specs.LinearTables.{span-table}
-use Rattle.lut.specs.declared.Terms.{Terms}
-use Rattle.lut.specs.View.{IsStore, GoodTerms, FineTerms, term, termsOver, termsIn}
-use Rattle.search.specs.declared.pair.Pair.{Pair}
-use Rattle.search.specs.Pair.{Rows, merged}
+use Rattle.nodes.specs.declared.record.Terms.{Terms}
+use Rattle.nodes.specs.View.{IsStore, GoodTerms, FineTerms, term, termsOver, termsIn}
+use Rattle.scale_pair.specs.declared.pair.Pair.{Pair}
+use Rattle.scale_pair.specs.Pair.{Rows, merged}
 use Rattle.search.specs.Search.{Context, coneBy, reuseOf, Scored, Merges}
 
 -- A node store that has the sources.

@@ -14,15 +14,15 @@ use Rattle.rules.specs.Cone.{Cone, linearTable}
 use Rattle.rules.specs.Composition.{reuseCost}
 use Rattle.rules.specs.Network.{LutNode}
 use Rattle.rules.specs.Span.{least, span}
-use Rattle.search.specs.declared.energy.Moments.{Moments}
-use Rattle.search.specs.declared.pair.Pair.{Pair}
-use Rattle.search.specs.declared.score.Score.{Score}
+use Rattle.merged_rows.specs.declared.energy.Moments.{Moments}
+use Rattle.scale_pair.specs.declared.pair.Pair.{Pair}
+use Rattle.scale_pair.specs.declared.score.Score.{Score}
 use Rattle.search.specs.declared.Ranges.{Ranges}
-use Rattle.search.specs.EnergyMoments.{byMoments}
-use Rattle.search.specs.EnergyRows.{Small}
-use Rattle.search.specs.MergedValues.{mergedValue}
-use Rattle.search.specs.Pair.{Rows, Scaling, merged, pairOf}
-use Rattle.search.specs.Score.{betterScore}
+use Rattle.merged_rows.specs.EnergyMoments.{byMoments}
+use Rattle.merged_rows.specs.EnergyRows.{Small}
+use Rattle.merged_rows.specs.MergedValues.{mergedValue}
+use Rattle.scale_pair.specs.Pair.{Rows, Scaling, merged, pairOf}
+use Rattle.scale_pair.specs.Score.{betterScore}
 
 -- What a pair is scored by: the settings, the node store, the sources, both rows of coefficients over them, and the rows' moments.
 pub record Context : Type 0 where

@@ -28,13 +28,13 @@ use Rattle.linear.specs.Span.{table-within-total}
 use Rattle.theorems.specs.ConeValues.{linearTable-length}
 use Rattle.theorems.specs.Rows.{enter-turn, enter-stop, enter-end, entered-entries, unknown-entries}
 use Rattle.theorems.specs.Spans.{least-le, offset-lt}
-use Rattle.search.specs.declared.energy.Moments.{Moments}
-use Rattle.search.specs.declared.pair.Pair.{Pair}
-use Rattle.search.specs.declared.score.Score.{Score}
-use Rattle.search.specs.MergedIntegers.{zipWith-length, zipWith-at}
-use Rattle.search.specs.MergedValues.{mergedValue, merged-values}
-use Rattle.search.specs.Pair.{Scaling, mergedRow, merged, weighed, measured, noPair, pairOf, levelOf, Level, row-small}
-use Rattle.search.specs.Score.{betterScore}
+use Rattle.merged_rows.specs.declared.energy.Moments.{Moments}
+use Rattle.scale_pair.specs.declared.pair.Pair.{Pair}
+use Rattle.scale_pair.specs.declared.score.Score.{Score}
+use Rattle.merged_rows.specs.MergedIntegers.{zipWith-length, zipWith-at}
+use Rattle.merged_rows.specs.MergedValues.{mergedValue, merged-values}
+use Rattle.scale_pair.specs.Pair.{Scaling, mergedRow, merged, weighed, measured, noPair, pairOf, levelOf, Level, row-small}
+use Rattle.scale_pair.specs.Score.{betterScore}
 use Rattle.search.specs.Search.{Context, rowValues, enteredFrom, energyBy, reuseOf, scoreOf, considered, stepOf, stepAt, ValuesIn, Ready, Scored, Merges}
 use Rattle.linear.specs.Table.{table-first}
 

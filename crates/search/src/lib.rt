@@ -1,23 +1,19 @@
-// The search for the scale pair under which two cones become one.
-pub mod energy;
+// The search for the scale pair under which two cones become one. It leans on `scale_pair`, `merged_rows` and the store (`lut`).
 mod forms;
-pub mod pair;
-pub mod rows;
-pub mod score;
 
 use compose::Basis;
-use energy::Moments;
 use forms::is_same_form;
-use lut::Terms;
-use pair::Pair;
-use pair::candidate_at;
-use pair::level;
-use pair::prepare_coefficients;
+use merged_rows::energy::Moments;
+use nodes::record::Terms;
 use rules::Policy;
 use rules::Settings;
-use score::Score;
-use score::better;
-use score::no_score;
+use scale_pair::pair::Pair;
+use scale_pair::pair::candidate_at;
+use scale_pair::pair::level;
+use scale_pair::pair::prepare_coefficients;
+use scale_pair::score::Score;
+use scale_pair::score::better;
+use scale_pair::score::no_score;
 ghost use mathlib.Core.Path.{_≡_};
 ghost use mathlib.Core.Bool.{Bool};
 ghost use mathlib.Core.List.{List};
@@ -28,12 +24,12 @@ ghost use lib.ListN.{length, take};
 ghost use Rattle.rules.specs.Builder.{Entries, completable};
 ghost use Rattle.rules.specs.declared.Policy.the-variants.{Naive, Span};
 ghost use Rattle.rules.specs.Cone.{Cone};
-ghost use Rattle.search.specs.EnergyRows.{Small};
-ghost use Rattle.search.specs.Pair.{Rows};
+ghost use Rattle.merged_rows.specs.EnergyRows.{Small};
+ghost use Rattle.scale_pair.specs.Pair.{Rows};
 ghost use Rattle.search.specs.Policies.{rangesOf, Attempted, Finds};
-ghost use Rattle.lut.specs.View.{storeOf};
+ghost use Rattle.nodes.specs.View.{storeOf};
 ghost use Rattle.search.specs.Reuse.{Stored, SumOf};
-ghost use Rattle.search.specs.Score.{noScore};
+ghost use Rattle.scale_pair.specs.Score.{noScore};
 ghost use Rattle.search.specs.Search.{context, considered as consideredBy, energyBy, reuseOf, stepAt, Ready, InSpans, Scored, Merges};
 ghost use Rattle.search.specs.Walk.{walk};
 

@@ -1,5 +1,5 @@
 // The service: circuits on standard input, each closed by a line `(end)`; each is answered on standard output as soon as
-// that line has come, and before a later byte is looked at.
+// that line has come, and before a later byte is looked at. It leans on `answer`, `framing` and the kit's read and write.
 use framing::Event;
 use framing::Feed;
 use libc::STDIN_FILENO;

@@ -20,9 +20,9 @@ use Rattle.rules.specs.Store.{termsOf}
 use Rattle.rules.specs.SumReading.{Refused, shown, readingAt, sumReadingOn, sumReading, sumAnswer}
 use Rattle.scale.specs.Limits.{Within}
 use Rattle.theorems.specs.Terms.{coefs}
-use Rattle.lut.specs.Nodes.{kindOf, constantOf, coefficient-small}
-use Rattle.lut.specs.View.{term, Fine, IsStore, storeOf}
-use Rattle.network.specs.declared.Header.{Header}
+use Rattle.nodes.specs.Nodes.{kindOf, constantOf, coefficient-small}
+use Rattle.nodes.specs.View.{term, Fine, IsStore, storeOf}
+use Rattle.network_judge.specs.declared.Header.{Header}
 use Rattle.network.specs.declared.Reading.{Reading}
 use Rattle.network.specs.declared.Reading.the-variants as Read
 use Rattle.network.specs.View.{networkOf, readingOf, Held}

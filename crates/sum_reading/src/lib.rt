@@ -1,4 +1,5 @@
 // A reading that gives this sum (document 02, S-1): the first bits for the nodes that a `lin` adds which give a wanted value.
+// It leans on the reader (`network`).
 mod search;
 
 ghost use mathlib.Core.Path.{_≡_};
@@ -6,12 +7,12 @@ ghost use mathlib.Core.Bool.{true};
 ghost use Rattle.rules.specs.Network.{isLinear};
 ghost use Rattle.rules.specs.NetworkText.{nodeAt};
 ghost use Rattle.rules.specs.SumReading.{Refused, readingAt, sumReading, sumAnswer};
-ghost use Rattle.lut.specs.View.{nodeOf, storeOf, IsNode, IsStore};
-use lut::node::LINEAR;
-use lut::node::constant_of;
-use lut::node::kind_of;
-use lut::node::size_of;
+ghost use Rattle.nodes.specs.View.{nodeOf, storeOf, IsNode, IsStore};
 use network::Reading;
+use nodes::node::LINEAR;
+use nodes::node::constant_of;
+use nodes::node::kind_of;
+use nodes::node::size_of;
 use rules::SumAnswer;
 use rules::SumReply;
 

@@ -9,11 +9,11 @@ ghost use Rattle.rules.specs.Store.{termsOf};
 ghost use Rattle.rules.specs.SumReading.{shown, sumAnswer};
 ghost use Rattle.theorems.specs.Terms.{coefs};
 ghost use Rattle.scale.specs.Limits.{Within};
-ghost use Rattle.lut.specs.View.{nodeOf, IsNode};
+ghost use Rattle.nodes.specs.View.{nodeOf, IsNode};
 ghost use Rattle.sum_reading.specs.Rows.{firstPlace, rowReading};
 use linear::rows_of;
 use linear::values_of;
-use lut::node::coef_of;
+use nodes::node::coef_of;
 use rules::SumAnswer;
 use rules::SumReply;
 

@@ -1,4 +1,4 @@
-// Numbers of a text, for programs that replay stored cases.
+// Numbers of a text, for programs that replay stored cases. It leans on no other code.
 ghost use mathlib.Core.Path.{_≡_};
 ghost use Prim.Native.Nat.{_≤_, min};
 ghost use Rattle.vectors.specs.Token.{isDigit, startsNumber, skipped, withDigit, digitsAt, nextToken};

@@ -92,10 +92,10 @@ fn show(out: &mut [u8])
 fn run(p: usize, m: usize, values: &[i32], truths: &[u8], out: &mut [u8])
     ensures { λ _. ⌜ now (out .exit) ≡ map shownByte (builder p m (now (values .entry)) (now (truths .entry)) (now (out .entry)) .buffer) ⌝ }
 {
-    let reply = rotation::composed_bootstrap_table(p, m, values, truths, out);
-    io::print_decimal(STDOUT_FILENO, rotation::reply_number(reply) as u64);
+    let reply = builder::composed_bootstrap_table(p, m, values, truths, out);
+    io::print_decimal(STDOUT_FILENO, builder::reply_number(reply) as u64);
     io::write_all(STDOUT_FILENO, b" ");
-    io::print_decimal(STDOUT_FILENO, rotation::reply_count(reply) as u64);
+    io::print_decimal(STDOUT_FILENO, builder::reply_count(reply) as u64);
     io::write_all(STDOUT_FILENO, b" ");
     show(out);
 }

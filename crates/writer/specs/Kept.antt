@@ -15,7 +15,7 @@ use Rattle.rules.specs.NetworkText.{sources, nodeAt}
 use Rattle.rules.specs.Store.{needs, wantedBelow, renumbered, renumberedTerm, renumberedNode, keptFrom}
 use Rattle.theorems.specs.Members.{member-head, member-tail}
 use Rattle.theorems.specs.Wanted.{wanted-closed}
-use Rattle.lut.specs.View.{nodeOf, storeOf, IsStore, at-store, store-length}
+use Rattle.nodes.specs.View.{nodeOf, storeOf, IsStore, at-store, store-length}
 use Rattle.writer.specs.Live.{newNumber, newTerm, newNode, liveFrom, liveNodes, Ready, Sourced, member-at, fine-needs}
 
 -- `live` numbers the nodes that are kept

@@ -20,10 +20,10 @@ use Rattle.rules.specs.NetworkText.{sources, nodeAt}
 use Rattle.rules.specs.Store.{needs, termsOf}
 use Rattle.rules.specs.Writing.{signedText, termsText, nodeText, nodesText}
 use Rattle.theorems.specs.Members.{member-head, member-tail, member-cons}
-use Rattle.lut.specs.Nodes.{kindOf, constantOf, bytesIn, sources-at, as-many}
-use Rattle.lut.specs.View.{term, nodeOf, storeOf, FineTerms, Fine, IsNode, IsStore, at-store, store-length, is-node}
-use Rattle.writer.specs.Lines.{termText}
-use Rattle.writer.specs.Put.{Put, Room, Left, left-step, left-room, left-none}
+use Rattle.nodes.specs.Nodes.{kindOf, constantOf, bytesIn, sources-at, as-many}
+use Rattle.nodes.specs.View.{term, nodeOf, storeOf, FineTerms, Fine, IsNode, IsStore, at-store, store-length, is-node}
+use Rattle.lines.specs.Lines.{termText}
+use Rattle.lines.specs.Put.{Put, Room, Left, left-step, left-room, left-none}
 
 unfoldable pub newNumber : List ℕ → ℕ → ℕ
 newNumber live i = getD live i 0 - 1

@@ -19,8 +19,8 @@ use Rattle.rules.specs.Network.{member}
 use Rattle.rules.specs.Store.{renumberedWire, renumberedOutput}
 use Rattle.rules.specs.Writing.{outputText, outputsText}
 use Rattle.lut.specs.Ports.{signalWire, outputAt, portOutput}
-use Rattle.writer.specs.Lines.{outText}
-use Rattle.writer.specs.Put.{Put, Room, Left, left-step, left-room, left-none}
+use Rattle.lines.specs.Lines.{outText}
+use Rattle.lines.specs.Put.{Put, Room, Left, left-step, left-room, left-none}
 use Rattle.writer.specs.Live.{newNumber}
 use Rattle.writer.specs.Kept.{Numbered, kept-number, new-kept}
 

@@ -8,11 +8,11 @@ use Rattle.laws.specs.Tabulate.{tabulate}
 use Rattle.rules.specs.Circuit.{Output}
 use Rattle.rules.specs.Store.{keptFrom, renumberedOutput}
 use Rattle.lut.specs.Ports.{portOutput}
-use Rattle.lut.specs.View.{storeOf, IsStore}
+use Rattle.nodes.specs.View.{storeOf, IsStore}
 use Rattle.rules.specs.Network as R
 use Rattle.rules.specs.Writing.{nodesText, outputsText, networkText}
 use Rattle.writer.specs.declared.Network.{Network}
-use Rattle.writer.specs.Lines.{netText}
+use Rattle.lines.specs.Lines.{netText}
 use Rattle.writer.specs.Live.{liveNodes}
 use Rattle.writer.specs.Kept.{Numbered, Closed, kept-nodes}
 use Rattle.writer.specs.Outputs.{liveOutputs, kept-outputs}

@@ -1,14 +1,11 @@
-// Writing a network's text: each function answers the next place, and stores a byte only where the buffer reaches so far.
-// So the text's length can be reckoned first, on a buffer of no bytes.
-mod line;
-pub mod nodes;
+// Writing a network's text from the node store, dead nodes left out and numbers renewed. It leans on `lines` and `nodes`.
+pub mod node_lines;
 pub mod outputs;
-pub mod put;
 
 use rules::Limit;
 ghost use lib.ListN.{length};
 ghost use Rattle.rules.specs.Writing.{networkText};
-ghost use Rattle.writer.specs.Put.{Put, Room};
+ghost use Rattle.lines.specs.Put.{Put, Room};
 ghost use Rattle.writer.specs.Live.{Sourced};
 ghost use Rattle.writer.specs.Outputs.{Ported};
 ghost use Rattle.writer.specs.Whole.{networkOf};
@@ -36,7 +33,7 @@ pub fn write(
     ensures { λ r. ⌜ Put 0 (networkText (networkOf n (now (s .entry)) (now (ports .entry)) (now (nodes .entry)) (now (live .entry)))) (now (out .entry)) r (now (out .exit)) ⌝ }
 {
     let norm = n.norm;
-    let a = line::put_net(out, 0, n.p, n.m, norm);
-    let b = nodes::put_nodes(out, a, nodes, live, n.count);
+    let a = lines::line::put_net(out, 0, n.p, n.m, norm);
+    let b = node_lines::put_nodes(out, a, nodes, live, n.count);
     outputs::put_outs(out, b, s, ports, live, n.outs)
 }

@@ -1,12 +1,12 @@
 // An output's line. Its name stands in the circuit's text; its signal is a node's number before pruning, or from 1000 on a constant.
-use crate::line::put_out;
-use crate::nodes::number_of;
+use crate::node_lines::number_of;
+use lines::line::put_out;
 use rules::Wire;
 ghost use mathlib.Core.Path.{_≡_};
 ghost use Prim.Native.Nat.{_<_, _≤_};
 ghost use lib.ListN.{length};
 ghost use Rattle.rules.specs.Writing.{outputText, outputsText};
-ghost use Rattle.writer.specs.Put.{Put, Room};
+ghost use Rattle.lines.specs.Put.{Put, Room};
 ghost use Rattle.writer.specs.Outputs.{newWire, newOutput, liveOutput, liveOutputs, Signalled, Ported};
 
 // The wire with the node's new number.

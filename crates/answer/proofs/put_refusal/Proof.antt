@@ -1,7 +1,7 @@
 use Rattle.rules.specs.Form.{bytes}
 use Rattle.rules.specs.Service.{refusalText}
 use Rattle.rules.specs.Writing.{digits}
-use Rattle.writer.specs.Put.{put-both, room, shorter}
+use Rattle.lines.specs.Put.{put-both, room, shorter}
 use Rattle.answer.specs.Front.{refusal-room}
 use borrow.Author.Needs.{needs}
 use Rattle.answer.proofs.put_refusal.Statement.{statement}

@@ -4,7 +4,7 @@ use native.Mathlib.Omega.{arith}
 use lib.ListN.{length}
 use Rattle.rules.specs.Network.{Linear}
 use Rattle.rules.specs.Store.{linearTerms}
-use Rattle.lut.specs.View.{termsIn}
+use Rattle.nodes.specs.View.{termsIn}
 use Rattle.lut.specs.Store.{Summed, summed, is-record, interns-node}
 use borrow.Author.Needs.{needs}
 use Rattle.lut.proofs.linear.Statement.{statement}

@@ -1,6 +1,6 @@
 -- `lut::put_bootstrap` meets its contract.
 use native.Mathlib.Omega.{arith}
-use Rattle.lut.specs.View.{Fine}
+use Rattle.nodes.specs.View.{Fine}
 use Rattle.lut.specs.Store.{is-record, interns-node}
 use Rattle.lut.proofs.put_bootstrap.Statement.{statement}
 use Rattle.lut.proofs.put_bootstrap.Tie as tie

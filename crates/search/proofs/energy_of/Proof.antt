@@ -9,10 +9,10 @@ use mir.Syntax.{w64}
 use mir.Val.{toZ, ofZ, SFits}
 use mir.Facts.{toZ-ofZ}
 use Rattle.laws.specs.Integer.{fits-abs, abs-add, abs-mul, abs-mul-le, read-back}
-use Rattle.search.specs.declared.energy.Moments.{Moments}
-use Rattle.search.specs.declared.pair.Pair.{Pair}
-use Rattle.search.specs.EnergyMoments.{byMoments}
-use Rattle.search.specs.Pair.{small-same}
+use Rattle.merged_rows.specs.declared.energy.Moments.{Moments}
+use Rattle.scale_pair.specs.declared.pair.Pair.{Pair}
+use Rattle.merged_rows.specs.EnergyMoments.{byMoments}
+use Rattle.scale_pair.specs.Pair.{small-same}
 use Rattle.search.specs.Search.{energyBy}
 use Rattle.search.proofs.energy_of.Statement.{statement}
 use Rattle.search.proofs.energy_of.Tie as tie

@@ -5,8 +5,8 @@ use borrow.Author.Needs.{needs}
 use borrow.Author.Tests.{not-true, not-false}
 use Rattle.laws.specs.Test.{if_then_else_}
 use lib.ListN.{length, take}
-use Rattle.lut.specs.View.{storeOf}
-use Rattle.search.specs.declared.energy.Moments.{Moments}
+use Rattle.nodes.specs.View.{storeOf}
+use Rattle.merged_rows.specs.declared.energy.Moments.{Moments}
 use Rattle.search.specs.Search.{Context, context}
 use Rattle.search.specs.Reuse.{reuse-one, reuse-found, sum-good}
 use Rattle.search.proofs.reuse_cost.Statement.{statement}

@@ -12,11 +12,11 @@ use mir.Syntax.{w32}
 use mir.Val.{toZ, ofZ}
 use Rattle.laws.specs.Integer.{read-back-at}
 use Rattle.rules.specs.declared.Settings.{Settings}
-use Rattle.search.specs.declared.energy.Moments.{Moments}
-use Rattle.search.specs.declared.score.Score.{Score}
-use Rattle.search.specs.Pair.{Scaling, Level, levelOf, scaling-at}
-use Rattle.lut.specs.View.{storeOf}
-use Rattle.search.specs.Score.{noScore}
+use Rattle.merged_rows.specs.declared.energy.Moments.{Moments}
+use Rattle.scale_pair.specs.declared.score.Score.{Score}
+use Rattle.scale_pair.specs.Pair.{Scaling, Level, levelOf, scaling-at}
+use Rattle.nodes.specs.View.{storeOf}
+use Rattle.scale_pair.specs.Score.{noScore}
 use Rattle.search.specs.Search.{Context, context, enteredFrom, stepAt, Scored, Merges}
 use Rattle.search.specs.Steps.{step-skipped, step-clashed, step-considered, rows-turn, rows-clash, rows-end, rows-entries, scored, merges, row-level, row-inside}
 use Rattle.search.specs.Walk.{walkRow, walk, row-turn, row-end, walk-turn, walk-end}

@@ -3,7 +3,7 @@ use mathlib.Core.Path.{refl, ap, ap₂, _∙_}
 use borrow.Author.Needs.{needs}
 use lib.IntN.{negℤ}
 use Rattle.laws.specs.Integer.{read-back}
-use Rattle.search.specs.Pair.{merged}
+use Rattle.scale_pair.specs.Pair.{merged}
 use Rattle.search.proofs.sum_of.Statement.{statement}
 use Rattle.search.proofs.sum_of.Tie as tie
 

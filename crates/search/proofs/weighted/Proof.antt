@@ -7,7 +7,7 @@ use mir.Syntax.{w64}
 use mir.Val.{toZ, ofZ, SFits}
 use mir.Facts.{toZ-ofZ}
 use Rattle.laws.specs.Integer.{fits-abs, abs-mul-le}
-use Rattle.search.specs.Pair.{small-same as same-size}
+use Rattle.scale_pair.specs.Pair.{small-same as same-size}
 use Rattle.search.proofs.weighted.Statement.{statement}
 use Rattle.search.proofs.weighted.Tie as tie
 

@@ -3,8 +3,8 @@ use mathlib.Core.Path.{sym, ap, ap₂, _∙_}
 use native.Mathlib.Omega.{arith}
 use mir.Facts.{toZ-ofZ}
 use Rattle.rules.specs.SumReading.{readingAt, sumAnswer}
-use Rattle.lut.specs.Kinds.{sum-kind}
-use Rattle.lut.specs.View.{nodeOf, storeOf, at-store, store-length, is-node}
+use Rattle.nodes.specs.Kinds.{sum-kind}
+use Rattle.nodes.specs.View.{nodeOf, storeOf, at-store, store-length, is-node}
 use Rattle.sum_reading.specs.Nodes.{not-linear, no-node}
 use borrow.Author.Needs.{needs}
 use Rattle.sum_reading.proofs.reading_at.Statement.{statement}

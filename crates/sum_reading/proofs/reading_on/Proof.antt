@@ -10,8 +10,8 @@ use mir.Val.{toZ, ofZ, SFits}
 use Rattle.laws.specs.Integer.{read-back}
 use Rattle.rules.specs.Store.{termsOf}
 use Rattle.scale.specs.Limits.{Within}
-use Rattle.lut.specs.Nodes.{constantOf, as-many, few-terms, constant-small}
-use Rattle.lut.specs.View.{nodeOf}
+use Rattle.nodes.specs.Nodes.{constantOf, as-many, few-terms, constant-small}
+use Rattle.nodes.specs.View.{nodeOf}
 use Rattle.sum_reading.specs.Nodes.{sum-answer, coefs-near, rest-fits}
 use borrow.Author.Needs.{needs}
 use Rattle.sum_reading.proofs.reading_on.Statement.{statement}

@@ -1,5 +1,5 @@
 use Rattle.rules.specs.Writing.{nodesText, outputsText}
-use Rattle.writer.specs.Put.{put-both, put-text, room, room-text, shorter}
+use Rattle.lines.specs.Put.{put-both, put-text, room, room-text, shorter}
 use Rattle.writer.specs.Live.{liveNodes}
 use Rattle.writer.specs.Outputs.{liveOutputs}
 use Rattle.writer.specs.Whole.{whole-text}

@@ -6,10 +6,10 @@ use borrow.Author.Needs.{needs}
 use mathlib.Core.Bool.{true, false}
 use lib.ListN.{length, getD, set}
 use Rattle.rules.specs.declared.Stats.{Stats}
-use Rattle.lut.specs.Kinds.{boot-kind, third-kind}
-use Rattle.lut.specs.Nodes.{kindOf, source-before}
+use Rattle.nodes.specs.Kinds.{boot-kind, third-kind}
+use Rattle.nodes.specs.Nodes.{kindOf, source-before}
 use Rattle.lut.specs.Reuse.{boot-source}
-use Rattle.lut.specs.View.{nodeOf}
+use Rattle.nodes.specs.View.{nodeOf}
 use Rattle.admission.specs.Count.{withSum, withBoot, input-stats, sum-stats, boot-stats}
 use Rattle.admission.proofs.count.count_node.Statement.{statement}
 use Rattle.admission.proofs.count.count_node.Tie as tie

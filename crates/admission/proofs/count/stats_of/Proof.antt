@@ -2,7 +2,7 @@
 use Prim.Native.Nat.{_-_, _≤_}
 use native.Mathlib.Omega.{arith}
 use borrow.Author.Needs.{needs}
-use Rattle.lut.specs.View.{is-node}
+use Rattle.nodes.specs.View.{is-node}
 use Rattle.admission.specs.Count.{Counting, counting-start, counting-long, counting-room, counting-next, counting-done}
 use Rattle.admission.proofs.count.stats_of.Statement.{statement}
 use Rattle.admission.proofs.count.stats_of.Tie as tie

@@ -12,7 +12,7 @@ use Rattle.rules.specs.Network.{LutNode}
 use Rattle.rules.specs.Store.{bootstrapCone, bootstrapped, realigned}
 use mathlib.Core.List.{List}
 use Rattle.cone.specs.View.{coneOf, view-sources}
-use Rattle.lut.specs.View.{storeOf}
+use Rattle.nodes.specs.View.{storeOf}
 use Rattle.bootstrap.specs.View.{bootedOf}
 use Rattle.theorems.specs.SettingLimits.{limits-m}
 use Rattle.bootstrap.proofs.boot.bootstrap_cone.Statement.{statement}

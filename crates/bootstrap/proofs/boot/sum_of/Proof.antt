@@ -11,7 +11,7 @@ use Rattle.rules.specs.Cone.{values}
 use Rattle.rules.specs.Span.{least}
 use Rattle.rules.specs.Store.{terms}
 use Rattle.cone.specs.View.{coneOf, low-small}
-use Rattle.lut.specs.View.{term, termsIn, termsOver}
+use Rattle.nodes.specs.View.{term, termsIn, termsOver}
 use borrow.Author.Needs.{needs}
 use Rattle.bootstrap.proofs.boot.sum_of.Statement.{statement}
 use Rattle.bootstrap.proofs.boot.sum_of.Tie as tie

@@ -9,7 +9,7 @@ use Rattle.laws.specs.Tail.{head-length}
 use Rattle.scale.specs.Limits.{Within}
 use Rattle.cone.specs.View.{coneOf, view-sources}
 use Rattle.lut.specs.Forms.{FormOf, formTerms}
-use Rattle.lut.specs.View.{nodeOf}
+use Rattle.nodes.specs.View.{nodeOf}
 use Rattle.bootstrap.specs.Form.{candidateIn, fitting, reformed, betterOf, form-skips, form-taken, form-small}
 use Rattle.bootstrap.proofs.form.consider.Statement.{statement}
 use Rattle.bootstrap.proofs.form.consider.Tie as tie

@@ -7,7 +7,7 @@ use borrow.Author.Needs.{needs}
 use borrow.Author.Tests.{not-true, not-false}
 use Rattle.cone.specs.View.{coneOf}
 use Rattle.lut.specs.Forms.{form-none}
-use Rattle.lut.specs.View.{nodeOf, storeOf, is-node}
+use Rattle.nodes.specs.View.{nodeOf, storeOf, is-node}
 use Rattle.bootstrap.specs.Form.{candidateIn, form-skips}
 use Rattle.bootstrap.specs.FormWalk.{Walked, walk-start, walk-on, walk-end, walk-stands, not-realigned}
 use Rattle.bootstrap.proofs.form.realign.Statement.{statement}

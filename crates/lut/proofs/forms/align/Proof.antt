@@ -7,7 +7,7 @@ use lib.IntN.{pos}
 use lib.ListN.{length, getD}
 use Rattle.laws.specs.Integer.{read-back}
 use Rattle.rules.specs.Store.{termsOf}
-use Rattle.lut.specs.View.{term, nodeOf}
+use Rattle.nodes.specs.View.{term, nodeOf}
 use Rattle.lut.specs.Forms.{Aligning, placeOf, place-most, aligned-not, aligning-start, aligning-fails, aligning-turn, aligning-done}
 use Rattle.lut.proofs.forms.align.Statement.{statement}
 use Rattle.lut.proofs.forms.align.Tie as tie

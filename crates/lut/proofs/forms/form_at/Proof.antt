@@ -2,8 +2,8 @@
 use mathlib.Core.Path.{_≡_, subst, _∙_}
 use native.Mathlib.Omega.{arith}
 use Rattle.rules.specs.Store.{termsOf}
-use Rattle.lut.specs.View.{nodeOf}
-use Rattle.lut.specs.Nodes.{kindOf, source-before}
+use Rattle.nodes.specs.View.{nodeOf}
+use Rattle.nodes.specs.Nodes.{kindOf, source-before}
 use Rattle.lut.specs.Reuse.{boot-source}
 use Rattle.lut.specs.Forms.{AlignedTo, form-none, form-some}
 use Rattle.lut.proofs.forms.form_at.Statement.{statement}

@@ -1,8 +1,9 @@
 -- `lut::forms::term_count` meets its contract.
 use mathlib.Core.Path.{_∙_}
 use native.Mathlib.Omega.{arith}
-use Rattle.lut.specs.View.{nodeOf}
-use Rattle.lut.specs.Forms.{terms-none, terms-all}
+use Rattle.nodes.specs.View.{nodeOf}
+use Rattle.lut.specs.Forms.{terms-none}
+use Rattle.nodes.specs.Nodes.{terms-all}
 use borrow.Author.Needs.{needs}
 use Rattle.lut.proofs.forms.term_count.Statement.{statement}
 use Rattle.lut.proofs.forms.term_count.Tie as tie

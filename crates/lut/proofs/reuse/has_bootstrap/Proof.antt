@@ -4,7 +4,7 @@ use mathlib.Core.Bool.{true}
 use lib.ListN.{length}
 use Rattle.rules.specs.Network.{Linear}
 use Rattle.rules.specs.Store.{linearTerms, hasBootstrap}
-use Rattle.lut.specs.View.{termsIn, storeOf}
+use Rattle.nodes.specs.View.{termsIn, storeOf}
 use Rattle.lut.specs.Store.{Summed, summed, is-record}
 use borrow.Author.Needs.{needs}
 use Rattle.lut.proofs.reuse.has_bootstrap.Statement.{statement}

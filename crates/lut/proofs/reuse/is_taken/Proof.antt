@@ -5,7 +5,7 @@ use native.Mathlib.Omega.{arith}
 use borrow.Author.Needs.{needs}
 use lib.ListN.{length}
 use Rattle.rules.specs.Store.{hasBootstrap}
-use Rattle.lut.specs.View.{nodeIn, storeOf, store-length, is-node}
+use Rattle.nodes.specs.View.{nodeIn, storeOf, store-length, is-node}
 use Rattle.lut.specs.Reuse.{takenFrom, takes-node, taken-start, taken-here, taken-on, taken-end}
 use Rattle.lut.proofs.reuse.is_taken.Statement.{statement}
 use Rattle.lut.proofs.reuse.is_taken.Tie as tie

@@ -2,8 +2,8 @@
 use mathlib.Core.Path.{_≡_, sym, ap, _∙_}
 use native.Mathlib.Omega.{arith}
 use Rattle.rules.specs.CircuitText.{sameName}
-use Rattle.lut.specs.View.{nodeOf, recordAt}
-use Rattle.lut.specs.Nodes.{kindOf, source-before}
+use Rattle.nodes.specs.View.{nodeOf, recordAt}
+use Rattle.nodes.specs.Nodes.{kindOf, source-before}
 use Rattle.lut.specs.Reuse.{takes-not, takes-so, boot-source}
 use borrow.Author.Needs.{needs}
 use Rattle.lut.proofs.reuse.takes.Statement.{statement}

@@ -6,7 +6,7 @@ use borrow.Author.Needs.{needs}
 use lib.ListN.{drop}
 use Rattle.rules.specs.Store.{numberOf}
 use Rattle.lut.specs.Store.{find-here, find-on, find-end}
-use Rattle.lut.specs.View.{nodeIn, storeOf}
+use Rattle.nodes.specs.View.{nodeIn, storeOf}
 use Rattle.lut.proofs.store.find.Statement.{statement}
 use Rattle.lut.proofs.store.find.Tie as tie
 

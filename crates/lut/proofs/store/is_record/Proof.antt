@@ -7,7 +7,7 @@ use native.Mathlib.Omega.{arith}
 use lib.ListN.{take, drop}
 use lib.Seq.{take-all}
 use Rattle.rules.specs.CircuitText.{sameName}
-use Rattle.lut.specs.View.{recordAt}
+use Rattle.nodes.specs.View.{recordAt}
 use borrow.Author.Needs.{needs}
 use Rattle.lut.proofs.store.is_record.Statement.{statement}
 use Rattle.lut.proofs.store.is_record.Tie as tie

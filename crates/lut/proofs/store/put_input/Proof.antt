@@ -2,7 +2,7 @@
 use native.Mathlib.Omega.{arith}
 use Rattle.rules.specs.Network.{Input}
 use Rattle.lut.specs.Store.{put-new}
-use Rattle.lut.specs.View.{Fine}
+use Rattle.nodes.specs.View.{Fine}
 use borrow.Author.Needs.{needs}
 use Rattle.lut.proofs.store.put_input.Statement.{statement}
 use Rattle.lut.proofs.store.put_input.Tie as tie

@@ -4,8 +4,8 @@ use Prim.Native.Nat.{_*_, _-_, _≤_}
 use native.Mathlib.Omega.{arith}
 use borrow.Author.Needs.{needs}
 use lib.Seq.{paste, paste-zero}
-use Rattle.lut.specs.Records.{paste-turn}
-use Rattle.lut.specs.View.{putAt}
+use Rattle.nodes.specs.Records.{paste-turn}
+use Rattle.nodes.specs.View.{putAt}
 use Rattle.lut.proofs.store.put_record.Statement.{statement}
 use Rattle.lut.proofs.store.put_record.Tie as tie
 

@@ -8,10 +8,10 @@ use borrow.Author.Needs.{needs}
 use lib.IntN.{ℤ, pos}
 use lib.ListN.{getD}
 use Rattle.laws.specs.Integer.{read-back}
-use Rattle.lut.specs.Kinds.{sum-kind, boot-kind, third-kind}
-use Rattle.lut.specs.Nodes.{kindOf, source-before}
+use Rattle.nodes.specs.Kinds.{sum-kind, boot-kind, third-kind}
+use Rattle.nodes.specs.Nodes.{kindOf, source-before}
 use Rattle.lut.specs.Reuse.{boot-source}
-use Rattle.lut.specs.View.{nodeOf}
+use Rattle.nodes.specs.View.{nodeOf}
 use Rattle.network_run.specs.Value.{looked, input-value, sum-value, table-value}
 use Rattle.network_run.proofs.value.node_value.Statement.{statement}
 use Rattle.network_run.proofs.value.node_value.Tie as tie

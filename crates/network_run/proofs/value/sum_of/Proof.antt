@@ -12,8 +12,8 @@ use Rattle.laws.specs.Integer.{read-back, fits-abs}
 use Rattle.rules.specs.Network.{sumFrom}
 use Rattle.rules.specs.Store.{termsOf}
 use Rattle.lut.specs.Forms.{terms-need}
-use Rattle.lut.specs.Nodes.{constantOf, few-terms, source-before, as-many, constant-small, coefficient-small}
-use Rattle.lut.specs.View.{term, nodeOf}
+use Rattle.nodes.specs.Nodes.{constantOf, few-terms, source-before, as-many, constant-small, coefficient-small}
+use Rattle.nodes.specs.View.{term, nodeOf}
 use Rattle.network_run.specs.Value.{sumAt, sum-start, sum-next, sum-end, sum-size, term-is}
 use Rattle.network_run.proofs.value.sum_of.Statement.{statement}
 use Rattle.network_run.proofs.value.sum_of.Tie as tie

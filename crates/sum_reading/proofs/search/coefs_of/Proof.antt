@@ -11,7 +11,7 @@ use Rattle.laws.specs.Integer.{read-back}
 use Rattle.rules.specs.Network.{Term}
 use Rattle.rules.specs.Store.{termsOf}
 use Rattle.theorems.specs.Terms.{coefs}
-use Rattle.lut.specs.View.{nodeOf, term}
+use Rattle.nodes.specs.View.{nodeOf, term}
 use Rattle.sum_reading.proofs.search.coefs_of.Statement.{statement}
 use Rattle.sum_reading.proofs.search.coefs_of.Tie as tie
 

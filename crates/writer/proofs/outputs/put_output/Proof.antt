@@ -1,4 +1,4 @@
-use Rattle.writer.specs.Put.{put-text, room-text}
+use Rattle.lines.specs.Put.{put-text, room-text}
 use Rattle.writer.specs.Outputs.{output-text}
 use borrow.Author.Needs.{needs}
 use Rattle.writer.proofs.outputs.put_output.Statement.{statement}

@@ -4,7 +4,7 @@ use mathlib.Core.Path.{_≡_, refl, _∙_}
 use Prim.Native.Nat.{_-_, _≤_}
 use lib.ListN.{length}
 use Rattle.rules.specs.Writing.{outputsText}
-use Rattle.writer.specs.Put.{Left, left-all, put-length}
+use Rattle.lines.specs.Put.{Left, left-all, put-length}
 use Rattle.writer.specs.Outputs.{liveOutputs, outputsLeft, output-room, output-turn, outputs-done}
 use Rattle.writer.proofs.outputs.put_outs.Statement.{statement}
 use Rattle.writer.proofs.outputs.put_outs.Tie as tie

@@ -1,5 +1,5 @@
 use mathlib.Core.Path.{sym}
-use Rattle.writer.specs.Put.{put-text, room-text}
+use Rattle.lines.specs.Put.{put-text, room-text}
 use Rattle.writer.specs.Outputs.{port-text}
 use borrow.Author.Needs.{needs}
 use Rattle.writer.proofs.outputs.put_port.Statement.{statement}

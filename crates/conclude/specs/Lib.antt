@@ -1,0 +1,4 @@
+-- What is kept of the nodes, the largest norm, and the text that is answered.
+pub mod Live
+pub mod Norm
+pub mod Conclude

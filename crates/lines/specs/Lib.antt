@@ -1,0 +1,3 @@
+-- What is written of a text, and where.
+pub mod Put
+pub mod Lines

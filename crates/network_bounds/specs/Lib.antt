@@ -1,0 +1,3 @@
+-- The bounds, the norm and the table of a node.
+pub mod Bounds
+pub mod Table

@@ -1,0 +1,30 @@
+use borrow.Author.Needs.{needs}
+use Rattle.rules.specs.Network.{Linear}
+use Rattle.lut.specs.Store.{Interns, interns-node}
+use Rattle.nodes.specs.View.{term}
+use mathlib.Core.List.{[], _∷_}
+use lib.IntN.{pos, negsuc}
+use Rattle.bootstrap.specs.Boot.{not-refused}
+use Rattle.outputs.specs.Outputs.{negated-good, negated-is, node-signal, node-finishes}
+use Rattle.outputs.proofs.negation.Statement.{statement}
+use Rattle.outputs.proofs.negation.Tie as tie
+
+linear-requires : tie.Need-linear-requires
+linear-requires c κs = let s = c .before .before in (s .pre .0, s .pre .1 .0, negated-good _ _ _ (s .pre .1 .1) (c .negated .ensures))
+
+-- the sum stands in the store
+summed : (c : tie.After-linear) → let s = c .before .before .before in
+    Interns (Linear (pos 1) (term (negsuc 0) (s .args .node) ∷ [])) (s .args .nodes .now) (s .args .count) (c .linear .last .0) (c .linear .result)
+summed c = let s = c .before .before .before in interns-node _ _ _ _ _ _ (c .linear .ensures) (negated-is (s .args .many) (s .args .node) (c .before .negated .result) (c .before .negated .ensures))
+
+returns : tie.Need-returns
+returns c = absurd (not-refused _ _ _ _ _ (summed (c .before .before)) (c .enum-told .given .1))
+
+returns-2 : tie.Need-returns-2
+returns-2 c =
+    let l = c .before .before .before in
+    let told = c .before .signal .given .1 in
+    (node-signal _ _ _ _ _ (summed l) _ told, node-finishes _ _ _ _ _ (summed l) _ told)
+
+pub negation-spec : {M : Type 1} → statement M
+negation-spec = tie.close (tie.spec (λ c κs. search needs) linear-requires (λ c. search needs) (λ c. search needs) returns returns-2)

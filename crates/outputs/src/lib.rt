@@ -1,0 +1,178 @@
+// The outputs of a circuit in turn: the wire that each is, bootstrapped where it must be. It leans on `gates` and `bootstrap`.
+use bootstrap::boot::bootstrap_cone;
+use cone::Cone;
+use cone::unary::first_truth;
+use cone_wires::cone_at;
+use gates::Work;
+use lut::Signal;
+use nodes::record::Terms;
+use rules::Settings;
+ghost use mathlib.Core.Path.{_≡_};
+ghost use mathlib.Core.Bool.{true};
+ghost use mathlib.Core.List.{List, [], _∷_};
+ghost use Prim.Native.Nat.{ℕ, _+_, _*_, _≤_, _<_};
+ghost use lib.IntN.{pos, negsuc};
+ghost use Rattle.rules.specs.CircuitText.{inLimits};
+ghost use Rattle.rules.specs.Mapper.{coneAt, wireOf, outputSignal, mapOutputs};
+ghost use Rattle.rules.specs.Network.{Linear};
+ghost use Rattle.rules.specs.Cone as rules;
+ghost use Rattle.cone.specs.View.{coneOf};
+ghost use Rattle.nodes.specs.View.{term, storeOf, IsStore};
+ghost use Rattle.bootstrap.specs.View.{Stands};
+ghost use Rattle.gates.specs.View.{conesIn};
+ghost use Rattle.gates.specs.Wired.{Wired};
+ghost use Rattle.circuit.specs.View.{portWire, outputsIn};
+ghost use Rattle.outputs.specs.Outputs.{Negated, signalOf, signalRead, Finishes, slotOf, PortIn, GoodPorts, outputsRead, started, Outs};
+
+// A wire as the ports have it, and how many nodes there are; or the refusal.
+pub struct Finished {
+    pub number: usize,
+    pub count: usize,
+    pub wire: usize,
+}
+
+// The sum of one term that is 1 less the node.
+fn negated(node: usize) -> Terms
+    ensures { λ r. ⌜ Negated node r ⌝ }
+{
+    let mut coefs = [0i64; 11];
+    coefs[0] = -1;
+    let mut sources = [0usize; 11];
+    sources[0] = node;
+    Terms {
+        n: 1,
+        constant: 1,
+        coefs,
+        sources,
+    }
+}
+
+// 1 less the node.
+fn negation(nodes: &mut [u8; 25536], count: usize, node: usize, many: bool) -> Finished
+    requires { ⌜ IsStore (now nodes) count × ((count < 672) × (node < count)) ⌝ }
+    ensures is { λ r. ⌜ signalRead (now (nodes .exit)) r ≡ rules.ok (signalOf (Linear (pos 1) (term (negsuc 0) node ∷ [])) (storeOf (now (nodes .entry)) count)) ⌝ }
+    ensures finishes { λ r. ⌜ Finishes count 1 (now (nodes .exit)) r ⌝ }
+{
+    let made = lut::linear(nodes, count, many, negated(node));
+    let signal = made.signal;
+    let Signal::Node(wire) = signal else {
+        return Finished {
+            number: 10,
+            count,
+            wire: 0,
+        };
+    };
+    Finished {
+        number: 0,
+        count: made.count,
+        wire,
+    }
+}
+
+// A cone of no source or one source as a wire.
+fn wire_of(nodes: &mut [u8; 25536], count: usize, c: Cone, many: bool) -> Finished
+    requires { ⌜ IsStore (now nodes) count × ((count < 672) × (Stands count c × (c .n ≤ 1))) ⌝ }
+    ensures is { λ r. ⌜ signalRead (now (nodes .exit)) r ≡ rules.ok (wireOf (storeOf (now (nodes .entry)) count) (coneOf c .support) (coneOf c .truth)) ⌝ }
+    ensures finishes { λ r. ⌜ Finishes count 1 (now (nodes .exit)) r ⌝ }
+{
+    let first = first_truth(c);
+    let support = c.support;
+    if c.n == 0 {
+        return Finished {
+            number: 0,
+            count,
+            wire: 1000 + (first as usize),
+        };
+    }
+    if first == 0 {
+        return Finished {
+            number: 0,
+            count,
+            wire: support[0],
+        };
+    }
+    negation(nodes, count, support[0], many)
+}
+
+// output_signal: a cone of more sources is bootstrapped, and what comes of that is a node's own cone.
+fn output_signal(s: Settings, nodes: &mut [u8; 25536], count: usize, c: Cone) -> Finished
+    requires { ⌜ (inLimits s ≡ true) × (IsStore (now nodes) count × ((count + 2 ≤ 672) × Stands count c)) ⌝ }
+    ensures is { λ r. ⌜ signalRead (now (nodes .exit)) r ≡ outputSignal s (storeOf (now (nodes .entry)) count) (coneOf c) ⌝ }
+    ensures finishes { λ r. ⌜ Finishes count 2 (now (nodes .exit)) r ⌝ }
+{
+    if c.n <= 1 {
+        return wire_of(nodes, count, c, s.many);
+    }
+    let b = bootstrap_cone(s, nodes, count, c);
+    let d = b.cone;
+    let support = d.support;
+    Finished {
+        number: b.number,
+        count: b.count,
+        wire: support[0],
+    }
+}
+
+// The slot of an output's wire.
+fn slot_of(wire: usize) -> usize
+    requires { ⌜ wire ≤ 1001 ⌝ }
+    ensures { λ r. ⌜ r ≡ slotOf wire ⌝ }
+{
+    if wire < 1000 {
+        return wire;
+    }
+    wire - 872
+}
+
+// One output.
+fn map_output(
+    s: Settings,
+    nodes: &mut [u8; 25536],
+    count: usize,
+    wires: &[u8; 8580],
+    n: usize,
+    wire: usize,
+) -> Finished
+    requires { ⌜ (inLimits s ≡ true) × ((count + 2 ≤ 672) × ((n ≤ 128) × (Wired (now nodes) count (now wires) n × PortIn n wire))) ⌝ }
+    ensures is { λ r. ⌜ signalRead (now (nodes .exit)) r ≡ outputSignal s (storeOf (now (nodes .entry)) count) (coneAt (conesIn (now (wires .entry)) n) (portWire wire)) ⌝ }
+    ensures finishes { λ r. ⌜ Finishes count 2 (now (nodes .exit)) r ⌝ }
+{
+    let c = cone_at(wires, slot_of(wire));
+    output_signal(s, nodes, count, c)
+}
+
+// The outputs in turn. Asks that their wires are nodes below n or constants.
+pub fn map_outputs(
+    s: Settings,
+    nodes: &mut [u8; 25536],
+    count: usize,
+    ports: &mut [usize; 160],
+    wires: &[u8; 8580],
+    n: usize,
+    outs: usize,
+) -> Work
+    requires { ⌜ (inLimits s ≡ true) × ((count + 2 * outs ≤ 672) × ((n ≤ 128) × (Wired (now nodes) count (now wires) n × GoodPorts (now ports) n outs))) ⌝ }
+    ensures is { λ r. ⌜ ((text : List ℕ) → outputsRead text (now (nodes .exit)) (now (ports .exit)) outs r ≡ mapOutputs s (conesIn (now (wires .entry)) n) (started (storeOf (now (nodes .entry)) count)) (outputsIn text (now (ports .entry)) outs)) ⌝ }
+    ensures outs { λ r. ⌜ Outs (now (ports .entry)) count outs (now (nodes .exit)) (now (ports .exit)) r ⌝ }
+{
+    let mut k = count;
+    let mut i = 0;
+    while i < outs {
+        let f = map_output(s, nodes, k, wires, n, ports[64 + 3 * i + 2]);
+        if f.number != 0 {
+            return Work {
+                number: f.number,
+                line: 0,
+                count: k,
+            };
+        }
+        ports[64 + 3 * i + 2] = f.wire;
+        k = f.count;
+        i += 1;
+    }
+    Work {
+        number: 0,
+        line: 0,
+        count: k,
+    }
+}

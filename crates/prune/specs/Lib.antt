@@ -1,0 +1,2 @@
+-- Wanted nodes as marks, and their new numbers.
+pub mod Prune
