@@ -34,6 +34,10 @@ pub record Grown (before more : ℕ) (bytes : List ℕ) (count : ℕ) : Type 0 w
 unfoldable pub bootedOf : List ℕ → Booted → Result Stored
 bootedOf bytes b = if eqb (b .number) 0 then ok (record { nodes = storeOf bytes (b .count); cone = coneOf (b .cone) }) else err (b .number)
 
+-- The new cone stands, unless it was refused.
+abbrev pub StandsBooted : Booted → Type 0
+StandsBooted b = b .number ≡ 0 → Stands (b .count) (b .cone)
+
 pub record Boots (before : ℕ) (bytes : List ℕ) (b : Booted) : Type 0 where
   pub grown : b .number ≡ 0 → Grown before 2 bytes (b .count)
-  pub stands : b .number ≡ 0 → Stands (b .count) (b .cone)
+  pub stands : StandsBooted b

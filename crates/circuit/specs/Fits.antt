@@ -58,13 +58,17 @@ pub record OutFits (s ps : List ℕ) (n i : ℕ) : Type 0 where
   pub wire : getD ps (64 + 3 * i + 2) 0 ≤ 1001
   pub earlier : getD ps (64 + 3 * i + 2) 0 < 1000 → getD ps (64 + 3 * i + 2) 0 < n
 
+-- The first n gates.
+abbrev pub GatesFit : List ℕ → ℕ → ℕ → Type 0
+GatesFit gs inputs n = (i : ℕ) → i < n → GateFits gs inputs i
+
 pub record Fits (s gs ps : List ℕ) (c : Circuit) : Type 0 where
   pub limits : inLimits (c .settings) ≡ true
   pub inputs : c .inputs ≤ 32
   pub gates : c .gates ≤ 96
   pub outs : c .outs ≤ 32
   pub input : (i : ℕ) → i < c .inputs → NameFits s ps (2 * i)
-  pub gate : (i : ℕ) → i < c .gates → GateFits gs (c .inputs) i
+  pub gate : GatesFit gs (c .inputs) (c .gates)
   pub out : (i : ℕ) → i < c .outs → OutFits s ps (c .inputs + c .gates) i
 
 -- ---- A wire's number, from m on a constant's, after n nodes.

@@ -33,11 +33,15 @@ pub record Ready (i k : ℕ) (ps : List ℕ) (c : Circuit) : Type 0 where
   pub outsFit : c .outs ≤ 32
   pub names : NamesIn k ps c
 
+-- Unless line i was refused, the next line finds what it asks for.
+abbrev pub ReadyAfter : ℕ → List ℕ → List ℕ → Step → Type 0
+ReadyAfter i s qs r = r .number ≡ 0 → Ready (i + 1) (length s) qs (r .circuit)
+
 -- Line i is b, after the circuit c, and ends at z; gs and ps are the arrays before it, hs and qs those with it.
 pub record Took (i : ℕ) (s gs ps : List ℕ) (c : Circuit) (b : Brief) (z : ℕ) (r : Step) (hs qs : List ℕ) : Type 0 where
   pub number : r .number ≡ lowest (briefConditions (prefixOf i s gs ps c) b)
   pub next : r .number ≡ 0 → prefixOf (i + 1) s hs qs (r .circuit) ≡ withLine i (prefixOf i s gs ps c) (told b)
-  pub ready : r .number ≡ 0 → Ready (i + 1) (length s) qs (r .circuit)
+  pub ready : ReadyAfter i s qs r
   pub gatesKept : length hs ≡ length gs
   pub portsKept : length qs ≡ length ps
   pub end : r .end ≡ z

@@ -16,7 +16,7 @@ use Rattle.circuit_conditions.specs.declared.Wires.{Wires}
 use Rattle.circuit.specs.declared.take.Step.{Step}
 use Rattle.circuit_text.specs.Brief.{Brief, FbsBrief, InBrief, GateBrief, OutBrief, briefConditions, brief, brief-conditions, told, brief-told}
 use Rattle.circuit_text.specs.LineRead.{kept}
-use Rattle.circuit.specs.Took.{Ready, Took, node-count}
+use Rattle.circuit.specs.Took.{Ready, Took, node-count, ReadyAfter}
 use Rattle.circuit.specs.View.{prefixOf}
 use Rattle.circuit_conditions.specs.Wires.{FineWires, fine-wires, cap-bit}
 
@@ -32,7 +32,7 @@ withForm i p (some l) = withLine i p l
 pub record TookLine (i : ℕ) (s gs ps : List ℕ) (c : Circuit) (o : Option CircuitLine) (z : ℕ) (r : Step) (hs qs : List ℕ) : Type 0 where
   pub number : r .number ≡ numberOf (prefixOf i s gs ps c) o
   pub next : r .number ≡ 0 → prefixOf (i + 1) s hs qs (r .circuit) ≡ withForm i (prefixOf i s gs ps c) o
-  pub ready : r .number ≡ 0 → Ready (i + 1) (length s) qs (r .circuit)
+  pub ready : ReadyAfter i s qs r
   pub gatesKept : length hs ≡ length gs
   pub portsKept : length qs ≡ length ps
   pub end : r .number ≡ 0 → r .end ≡ z

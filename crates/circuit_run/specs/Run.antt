@@ -18,7 +18,7 @@ use Rattle.rules.specs.Circuit.{wireBit, position, gateBit, gateValues}
 use Rattle.rules.specs.Runs.{allBits, bitsFor}
 use Rattle.theorems.specs.Bits.{bit-at}
 use Rattle.circuit.specs.declared.Circuit.{Circuit}
-use Rattle.circuit.specs.Fits.{GateFits, answer-bits}
+use Rattle.circuit.specs.Fits.{GateFits, answer-bits, GatesFit}
 use Rattle.circuit_run.specs.RunGate.{padded, GoodPort, SlotsFit, bits-append, padded-wire, padded-gate, padded-bits, padded-set}
 use Rattle.circuit.specs.View.{portWire, gateIn, gatesIn, outputIn, outputsIn}
 
@@ -37,7 +37,7 @@ pub record RunsOn (gs ps : List ℕ) (c : Circuit) : Type 0 where
   pub inputs : c .inputs ≤ 32
   pub gates : c .gates ≤ 96
   pub outs : c .outs ≤ 32
-  pub sound : (i : ℕ) → i < c .gates → GateFits gs (c .inputs) i
+  pub sound : GatesFit gs (c .inputs) (c .gates)
   pub wires : (i : ℕ) → i < c .outs → GoodPort (getD ps (64 + 3 * i + 2) 0)
 
 unfoldable pub outputBits : List ℕ → List C.Output → List ℕ

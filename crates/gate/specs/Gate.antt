@@ -23,7 +23,7 @@ use Rattle.cone.specs.View.{coneOf, IsCone, view-sources}
 use Rattle.nodes.specs.View.{storeOf, IsStore}
 use Rattle.bootstrap.specs.declared.boot.Booted.{Booted}
 use Rattle.gate.specs.declared.map.Limited.{Limited}
-use Rattle.bootstrap.specs.View.{Stands, Boots, bootedOf}
+use Rattle.bootstrap.specs.View.{Stands, Boots, bootedOf, StandsBooted}
 use Rattle.gate.specs.View.{StandsBoth, limitedOf}
 
 -- ---- Room: a bootstrap may add a sum and a table; a cone of no source or one source stays as it was.
@@ -44,7 +44,7 @@ pub record Ready (bytes : List ℕ) (count : ℕ) (w : Sides) : Type 0 where
 -- A bootstrap of the cone c, from `count` nodes on, that is not refused: what it adds it no longer asks for.
 pub record Spends (count : ℕ) (c : Cone) (bytes : List ℕ) (b : Booted) : Type 0 where
   pub store : b .number ≡ 0 → IsStore bytes (b .count)
-  pub stands : b .number ≡ 0 → Stands (b .count) (b .cone)
+  pub stands : StandsBooted b
   pub least : b .number ≡ 0 → count ≤ b .count
   pub most : b .number ≡ 0 → b .count + room (coneOf (b .cone)) ≤ count + room (coneOf c)
 

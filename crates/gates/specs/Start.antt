@@ -21,7 +21,7 @@ use Rattle.cone_wires.specs.Wires.{coneIn, IsPut}
 use Rattle.nodes.specs.View.{storeOf, IsStore}
 use Rattle.bootstrap.specs.View.{Below, Stands}
 use Rattle.gates.specs.View.{conesIn}
-use Rattle.gates.specs.Wired.{SlotIn, Wired, stateOf, wired-more, wired-put, cones-own}
+use Rattle.gates.specs.Wired.{SlotIn, Wired, stateOf, wired-more, wired-put, cones-own, ConstantsIn}
 
 -- The names of the inputs stand in the text.
 pub record Inputs (s ps : List ℕ) (n : ℕ) : Type 0 where
@@ -33,7 +33,7 @@ pub record Inputs (s ps : List ℕ) (n : ℕ) : Type 0 where
 pub record Constants (wires : List ℕ) : Type 0 where
   pub long : length wires ≡ 8580
   pub is : (b : ℕ) → b ≤ 1 → IsCone (coneIn wires (128 + b))
-  pub seen : (b : ℕ) → b ≤ 1 → coneOf (coneIn wires (128 + b)) ≡ constant b
+  pub seen : ConstantsIn wires
 
 -- The first n inputs are the first nodes, and each is its own cone.
 pub record Started (s ps : List ℕ) (n : ℕ) (nodes wires : List ℕ) : Type 0 where

@@ -34,12 +34,16 @@ SlotIn n slot = (slot < n) ⊎ ((128 ≤ slot) × (slot ≤ 129))
 unfoldable pub stateOf : List ℕ → ℕ → List ℕ → ℕ → State
 stateOf nodes count wires n = record { nodes = storeOf nodes count; cones = conesIn wires n }
 
+-- The slots of the constants.
+abbrev pub ConstantsIn : List ℕ → Type 0
+ConstantsIn wires = (b : ℕ) → b ≤ 1 → coneOf (coneIn wires (128 + b)) ≡ constant b
+
 -- The first n slots and the two of the constants hold cones over the first `count` nodes.
 pub record Wired (nodes : List ℕ) (count : ℕ) (wires : List ℕ) (n : ℕ) : Type 0 where
   pub store : IsStore nodes count
   pub long : length wires ≡ 8580
   pub at : (i : ℕ) → SlotIn n i → Stands count (coneIn wires i)
-  pub constants : (b : ℕ) → b ≤ 1 → coneOf (coneIn wires (128 + b)) ≡ constant b
+  pub constants : ConstantsIn wires
 
 -- A bootstrapped side is put into its wire's slot, if that is no constant's (255: no wire).
 pub data Renewed (wires : List ℕ) (slot : ℕ) (side : Side) (after : List ℕ) : Type 0 where

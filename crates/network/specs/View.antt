@@ -17,6 +17,7 @@ use Rattle.text.specs.Name.{Named}
 use Rattle.lut.specs.Ports.{portOutput}
 use Rattle.nodes.specs.View.{nodeOf, storeOf, IsStore}
 use Rattle.network_judge.specs.declared.Header.{Header}
+use Rattle.network_judge.specs.Conditions.{InputsFirst}
 use Rattle.network.specs.declared.Reading.{Reading}
 use Rattle.network.specs.declared.Reading.the-variants.{Good, Refused}
 
@@ -51,6 +52,10 @@ pub record IsSignal (count n : ℕ) : Type 0 where
   pub most : n ≤ 1001
   pub node : n < 1000 → n < count
 
+-- The signals of the outputs.
+abbrev pub SignalsIn : List ℕ → Header → Type 0
+SignalsIn ports h = (i : ℕ) → i < h .outputs → IsSignal (h .count) (getD ports (64 + 3 * i + 2) 0)
+
 -- Inputs come first; outputs have a name of the text and a signal.
 pub record Holds (text nodes ports : List ℕ) (h : Header) : Type 0 where
   pub store : IsStore nodes (h .count)
@@ -58,10 +63,10 @@ pub record Holds (text nodes ports : List ℕ) (h : Header) : Type 0 where
   pub few-inputs : h .inputs ≤ 32
   pub few-outputs : h .outputs ≤ 32
   pub inputs : h .inputs ≡ count isInput (storeOf nodes (h .count))
-  pub first : (i : ℕ) → i < h .count → isInput (nodeOf nodes i) ≡ ltb i (h .inputs)
+  pub first : InputsFirst nodes h
   pub sound : (i : ℕ) → i < h .count → Sound (storeOf nodes i) (nodeOf nodes i)
   pub name : (i : ℕ) → i < h .outputs → Named (length text) (getD ports (64 + 3 * i) 0) (getD ports (64 + 3 * i + 1) 0)
-  pub signal : (i : ℕ) → i < h .outputs → IsSignal (h .count) (getD ports (64 + 3 * i + 2) 0)
+  pub signal : SignalsIn ports h
   pub limits : (h .p ≡ 0 → ⊥) → tableLimits (h .p) (h .m) ≡ true
 
 -- A good reading has its `net` line.

@@ -29,10 +29,13 @@ use Rattle.network_text.specs.declared.sum.Lin.{Lin}
 use Rattle.network_bounds.specs.Bounds.{coefNorm, nodeFit}
 use Rattle.network_judge.specs.declared.Header.{Header}
 
+abbrev pub InputsFirst : List ℕ → Header → Type 0
+InputsFirst nodes h = (i : ℕ) → i < h .count → isInput (nodeOf nodes i) ≡ ltb i (h .inputs)
+
 -- What judging a line asks: the nodes so far, inputs first.
 pub record Kept (nodes : List ℕ) (h : Header) : Type 0 where
   pub store : IsStore nodes (h .count)
-  pub first : (i : ℕ) → i < h .count → isInput (nodeOf nodes i) ≡ ltb i (h .inputs)
+  pub first : InputsFirst nodes h
 
 -- These nodes are inputs.
 pub record Inputs (nodes : List ℕ) (count : ℕ) : Type 0 where

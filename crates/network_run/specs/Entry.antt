@@ -21,7 +21,7 @@ use Rattle.rules.specs.Runs.{RunOutcome, Numbered, NotBits, NoRoom, BreakOff, r
 use Rattle.rules.specs.Store.{termsOf}
 use Rattle.bits.specs.Bits.{bad-bits, short-buffer}
 use Rattle.nodes.specs.View.{nodeOf, storeOf, term, at-store, store-length, IsStore}
-use Rattle.network.specs.View.{outputsOf, networkOf, readingOf, Sound, IsSignal, Holds, Held}
+use Rattle.network.specs.View.{outputsOf, networkOf, readingOf, Sound, IsSignal, Holds, Held, SignalsIn}
 use Rattle.network_judge.specs.declared.Header.{Header}
 use Rattle.network.specs.declared.Reading.{Reading}
 use Rattle.network.specs.declared.Reading.the-variants.{Good, Refused}
@@ -35,7 +35,7 @@ pub record Runnable (nodes ports : List ℕ) (h : Header) : Type 0 where
   pub long : length ports ≡ 160
   pub few : h .outputs ≤ 32
   pub inputs : h .inputs ≡ count isInput (storeOf nodes (h .count))
-  pub signal : (i : ℕ) → i < h .outputs → IsSignal (h .count) (getD ports (64 + 3 * i + 2) 0)
+  pub signal : SignalsIn ports h
 
 -- ---- laws: what was read can be run
 

@@ -34,13 +34,18 @@ pub record FirstGiving (c : ℤ) (ts : List Term) (value : ℤ) (bits : List ℕ
 abbrev pub NeverGiven : ℤ → List Term → ℤ → Type 0
 NeverGiven c ts value = (bits : List ℕ) → T (bitsFor (length ts) bits) → sumOfBits c ts bits ≡ value → ⊥
 
+-- A value that some bits give is found.
+abbrev pub GivenFound : List ℕ → ℕ → ℤ → List Term → Type 0
+GivenFound text node c ts =
+    (value : ℤ) (bits : List ℕ) → T (bitsFor (length ts) bits) → sumOfBits c ts bits ≡ value → (s : List ℕ) × (sumReading text node value ≡ Shown s)
+
 -- The answer on a `lin` node of an admitted network.
 pub record OnSum (text : List ℕ) (node : ℕ) (c : ℤ) (ts : List Term) : Type 0 where
   pub first : (value : ℤ) (bits : List ℕ) → (sumReading text node value ≡ Shown bits) ↔ FirstGiving c ts value bits
   pub none-gives : (value : ℤ) → (sumReading text node value ≡ NoneGives) ↔ NeverGiven c ts value
   pub never-refused : (value : ℤ) (k i : ℕ) → sumReading text node value ≡ Refused k i → ⊥
   -- a value that some bits give is found, and so is each bound
-  pub given-found : (value : ℤ) (bits : List ℕ) → T (bitsFor (length ts) bits) → sumOfBits c ts bits ≡ value → (s : List ℕ) × (sumReading text node value ≡ Shown s)
+  pub given-found : GivenFound text node c ts
   pub least-found : (bits : List ℕ) × (sumReading text node (leastOf (Linear c ts)) ≡ Shown bits)
   pub greatest-found : (bits : List ℕ) × (sumReading text node (greatestOf (Linear c ts)) ≡ Shown bits)
   -- so the bits fit the 11 places of the answer
@@ -120,7 +125,7 @@ on-sum text node w c ts e f =
     is : (value : ℤ) → sumReading text node value ≡ readingAt (Linear c ts) value
     is value = unfold sumReading sumReadingOn in ap (λ r. sumReadingOn r node value) e ∙ ap (λ x. readingAt x value) f
 
-    found : (value : ℤ) (bits : List ℕ) → T (bitsFor (length ts) bits) → sumOfBits c ts bits ≡ value → (s : List ℕ) × (sumReading text node value ≡ Shown s)
+    found : GivenFound text node c ts
     found value bits b g = let s = at-found c ts value bits b g in (s .0, is value ∙ s .1)
 
 no-linear : (x : LutNode) (value : ℤ) → isLinear x ≡ false → readingAt x value ≡ Refused 35 0
