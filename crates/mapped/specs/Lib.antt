@@ -2,11 +2,14 @@
 pub mod Uncapped
 pub mod Statements
 pub mod Cones
+pub mod ConeEncoded
 pub mod ConeGate
 pub mod ConeFound
 pub mod ConeSimplified
+pub mod ConeStillFits
 pub mod ConeComposes
 pub mod ConeUnary
+pub mod ConeRefusals
 pub mod Store
 pub mod StoreValues
 pub mod StoreTerms

@@ -16,6 +16,9 @@ ok-then (err k) f b e = absurd (zero≢one (cc))
 pub err-not : {A : Type 0} (k : ℕ) (a : A) → err k ≡ ok a → ⊥
 err-not k a e = zero≢one (cc)
 
+pub err-same : {A : Type 0} (j k : ℕ) → _≡_ {A = Result A} (err j) (err k) → j ≡ k
+err-same j k e = cc
+
 pub then-same : {A B : Type 0} (r : Result A) (f g : A → Result B) → ((a : A) → r ≡ ok a → f a ≡ g a) → (r >>= f) ≡ (r >>= g)
 then-same (ok a) f g h = h a refl
 then-same (err k) f g h = refl
