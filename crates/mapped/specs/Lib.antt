@@ -10,6 +10,7 @@ pub mod ConeStillFits
 pub mod ConeComposes
 pub mod ConeUnary
 pub mod ConeRefusals
+pub mod SingleSources
 pub mod Store
 pub mod StoreValues
 pub mod StoreTerms

@@ -14,6 +14,10 @@ bit-at [] i t = omega arith
 bit-at (b ∷ bits) zero t = leb→le b 1 (and-left (leb b 1) (allBits bits) t)
 bit-at (b ∷ bits) (suc i) t = bit-at bits i (and-right (leb b 1) (allBits bits) t)
 
+pub all-bits-nil : T (allBits [])
+unfolding allBits
+all-bits-nil = tt
+
 pub all-bits-cons : (b : ℕ) (l : List ℕ) → b ≤ 1 → T (allBits l) → T (allBits (b ∷ l))
 unfolding allBits
 all-bits-cons b l h t = and-both (leb b 1) (allBits l) (le→leb b 1 h) t
