@@ -39,5 +39,6 @@ pub mod TwoSourceCones
 pub mod TwoSources
 pub mod Agrees
 pub mod Proved
+pub mod AlwaysMapped
 pub mod TwoSourcesMet
 pub mod SumRun

@@ -9,6 +9,7 @@ use borrow.Author.Tests.{lt-ltb, le-ltb, not-true}
 use lib.Dec.{eqb}
 use lib.ListN.{length, length-append}
 use Rattle.laws.specs.Test.{if_then_else_, lt-or-le, zero≢one, both-left, both-right}
+use Rattle.rules.specs.declared.Policy.the-variants.{Span}
 use Rattle.rules.specs.declared.Settings.{Settings}
 use Rattle.rules.specs.Builder.{tableLimits}
 use Rattle.rules.specs.Circuit.{Gate, Circuit, gateValues}
@@ -46,6 +47,10 @@ used-limits s e = by (isBasic (s .policy))
         → inLimits (if b then record { p = 2; m = if eqb (s .m) (s .p) then 2 else 4; t = s .t; norm = s .norm; policy = s .policy; many = s .many } else s) ≡ true
     by true = rw (basic-limits (eqb (s .m) (s .p))) (both-right (tableLimits (s .p) (s .m)) _ e)
     by false = e
+
+pub used-span : (s : Settings) → s .policy ≡ Span → usedSettings s ≡ s
+unfolding usedSettings isBasic
+used-span s policy = rw policy refl
 
 -- ---- The gates and the outputs of a circuit.
 
