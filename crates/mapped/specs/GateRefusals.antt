@@ -48,28 +48,28 @@ module _ (s : Settings) (inputs : List Name) (before : List LutNode) (f g h : Li
   Kept w = Sided s inputs before f g h w
 
   -- Sides come of it.
-  abbrev Passes : Result Sides → Type 0
-  Passes r = (v : Sides) × (r ≡ ok v)
+  abbrev IsOk : Result Sides → Type 0
+  IsOk r = (v : Sides) × (r ≡ ok v)
 
   -- no bootstrap of a side is refused
-  left-boots : (w : Sides) → Kept w → Passes (bootstrapLeft s w)
+  left-boots : (w : Sides) → Kept w → IsOk (bootstrapLeft s w)
   unfolding bootstrapLeft
   left-boots w k = let b = booted s inputs (w .nodes) (w .left .cone) (k .store) (k .left .standing) in rw (b .1) (_, refl)
 
-  right-boots : (w : Sides) → Kept w → Passes (bootstrapRight s w)
+  right-boots : (w : Sides) → Kept w → IsOk (bootstrapRight s w)
   unfolding bootstrapRight
   right-boots w k = let b = booted s inputs (w .nodes) (w .right .cone) (k .store) (k .right .standing) in rw (b .1) (_, refl)
 
-  second-limits : (w : Sides) → Kept w → Passes (limitSecond s w)
+  second-limits : (w : Sides) → Kept w → IsOk (limitSecond s w)
   unfolding limitSecond
-  second-limits w k = if-both Passes (overLimit s w) (left-boots w k) (w, refl)
+  second-limits w k = if-both IsOk (overLimit s w) (left-boots w k) (w, refl)
 
-  limits-sources : (w : Sides) → Kept w → Passes (limitSources s w)
+  limits-sources : (w : Sides) → Kept w → IsOk (limitSources s w)
   unfolding limitSources
   limits-sources w k =
       let z = left-boots w k in
       let v = z .0 in
-      if-both Passes (overLimit s w)
+      if-both IsOk (overLimit s w)
       (rw (z .1) (second-limits (switchInputs v) (kept-switched s inputs before f g h v (kept-left s inputs before f g h limits room w v k (z .1))))) (w, refl)
 
   -- where an attempt is refused, the sides are not composed, and what comes next is refused
