@@ -11,7 +11,8 @@ use Rattle.laws.specs.Tabulate.{tabulate-at, tabulate-length}
 use Rattle.rules.specs.Cone.{Cone, coneBit}
 use Rattle.rules.specs.NetworkText.{allDifferent}
 use Rattle.rules.specs.Composition.{unionSupport, gateTruth, assigned}
-use Rattle.support.specs.Rows.{rowOver, overRows-are, rowOver-own}
+use Rattle.theorems.specs.SourceRows.{rowOver, overRows-are}
+use Rattle.support.specs.Rows.{rowOver-own}
 use Rattle.support.specs.Support.{isNew, union-is}
 
 -- a cone's bit at a row over a support

@@ -1,142 +1,179 @@
--- What the gates can be refused with: 8, 9 or 10, at the line of the first that is refused.
-use mathlib.Core.Bool.{not, true, false≢true}
+-- Why a gate is refused: a cone's norm is over the limit (8), or two cones of at most one source each are not composed (9); at the line of the first that is refused.
+use mathlib.Core.Path.{_≡_, refl, sym, ap, _∙_}
+use mathlib.Core.Bool.{Bool, true, false, false≢true}
 use mathlib.Core.List.{List, [], _∷_, map, _++_}
-use mathlib.Core.Option.{Option, none, some, Option·map}
-use mathlib.Core.Path.{_≡_, refl, ap, _∙_}
-use Prim.Native.Nat.{ℕ, _+_, _≤_, suc}
+use mathlib.Core.Logic.{⊎-elim}
+use mathlib.Core.Option.{Option, none, some}
+use Prim.Native.Nat.{ℕ, _+_, _*_, _≤_, _<_, suc}
 use native.Mathlib.Omega.{arith}
 use borrow.Author.Tests.{ne-eqb}
-use lib.Dec.{leb, ltb}
-use lib.ListN.{length, getD}
-use Rattle.laws.specs.Test.{if-both, zero≢one}
+use lib.Dec.{T}
+use lib.ListN.{length, getD, take, drop}
+use Rattle.laws.specs.Test.{if_then_else_, if-both, zero≢one}
 use Rattle.rules.specs.declared.Settings.{Settings}
-use Rattle.rules.specs.Circuit.{Gate, Output}
-use Rattle.rules.specs.CircuitText.{matching}
-use Rattle.rules.specs.Composition.{unionSupport, gateTruth, allEqual, compose, findCandidate, mergeCones}
-use Rattle.rules.specs.Cone.{Cone, Result, ok, err, _>>=_, norm2, isLutValid, withinNorm, validateCone, bootstrapTable, Candidate}
-use Rattle.rules.specs.Form.{Good, Refused}
-use Rattle.rules.specs.Mapper.{Mapped, unchanged, mapUnaryGate, Sides, sides, switchInputs, bootstrapLeft, bootstrapRight, largerFirst, overLimit, limitSecond, limitSources, attempt, mapped, orElse, thirdAttempt, secondAttempt, mapBinaryGate, isConstant, mapGate, State, coneAt, isForced, forced, mapNext, atLine, andThen, mapGates}
-use Rattle.rules.specs.Network.{LutNode}
-use Rattle.rules.specs.Store.{realigned, bootstrapped, bootstrapCone}
 use Rattle.rules.specs.declared.Wire.{Wire}
+use Rattle.rules.specs.Circuit.{Name, Gate, Output, wireBit}
+use Rattle.rules.specs.CircuitText.{inLimits, anyNoNode, matching}
+use Rattle.rules.specs.Composition.{compose}
+use Rattle.rules.specs.Cone.{Cone, Result, ok, err, norm2, withinNorm}
+use Rattle.rules.specs.Form.{Good, Refused}
+use Rattle.rules.specs.Mapper.{Mapped, mapUnaryGate, Sides, sides, switchInputs, bootstrapLeft, bootstrapRight, largerFirst, overLimit, limitSecond, limitSources, attempt, mapped, orElse, thirdAttempt, secondAttempt, mapBinaryGate, isConstant, constantValue, mapGate, State, coneAt, isForced, forced, mapNext, atLine, andThen, mapGates}
+use Rattle.rules.specs.Network.{LutNode}
+use Rattle.rules.specs.Runs.{allBits}
+use Rattle.rules.specs.Store.{Stored}
 use Rattle.theorems.specs.Readings.{refused-same}
-use Rattle.theorems.specs.Results.{good-same, good-then}
+use Rattle.theorems.specs.Results.{err-not, err-same, err-then, good-same, good-then}
+use Rattle.theorems.specs.SoundCircuits.{WireBits, SoundGate}
+use Rattle.mapped.specs.Cones.{Standing}
+use Rattle.mapped.specs.ConeRefusals.{unary-refusal, compose-refusal}
+use Rattle.mapped.specs.Store.{netFor, Store}
+use Rattle.mapped.specs.StoreBoots.{booted}
+use Rattle.mapped.specs.GateMeaning.{Means}
+use Rattle.mapped.specs.GateSides.{Sided, left-booted, right-booted, kept-switched, kept-left, kept-right, kept-limited, kept-first}
+use Rattle.mapped.specs.Gates.{Cones, Known, left-bits, right-bits, constant-bit, four-answers, wire-in, wire-means, wires-mapped}
 
--- A refusal, if it is one, is 8, 9 or 10.
-unfoldable pub Late : {A : Type 0} → Result A → Type 0
-Late (ok a) = Unit {0}
-Late (err k) = (8 ≤ k) × (k ≤ 10)
+pub data Refusal (s : Settings) (k : ℕ) : Type 0 where
+  over-norm : k ≡ 8 → (c : Cone) → Standing s c → withinNorm s (norm2 c) ≡ false → Refusal s k
+  uncomposed : k ≡ 9 → (nodes : List LutNode) (left right : Cone) (gate : List ℕ) → Standing s left → Standing s right
+      → length (left .support) ≤ 1 → length (right .support) ≤ 1 → T (allBits gate) → compose s nodes left right gate ≡ none → Refusal s k
 
--- Of an attempt, if there was one.
-LateIf : {A : Type 0} → Option (Result A) → Type 0
-LateIf none = Unit {0}
-LateIf (some r) = Late r
+pub refusal-number : (s : Settings) (k : ℕ) → Refusal s k → (8 ≤ k) × (k ≤ 9)
+refusal-number s k (over-norm e c st n) = (omega arith, omega arith)
+refusal-number s k (uncomposed e nodes left right gate sl sr l r b n) = (omega arith, omega arith)
 
-good : {A : Type 0} (a : A) → Late (ok a)
-unfolding Late
-good a = tt
+-- ---- A binary gate.
 
-refuses : (A : Type 0) (k : ℕ) → 8 ≤ k → k ≤ 10 → Late {A = A} (err k)
-unfolding Late
-refuses A k l m = (l, m)
+module _ (s : Settings) (inputs : List Name) (before : List LutNode) (f g h : List ℕ → ℕ) (limits : inLimits s ≡ true) (room : length before + 6 ≤ 672) where
+  abbrev Kept : Sides → Type 0
+  Kept w = Sided s inputs before f g h w
 
-then-late : {A B : Type 0} (r : Result A) (f : A → Result B) → Late r → ((a : A) → Late (f a)) → Late (r >>= f)
-unfolding Late
-then-late (ok a) f p q = q a
-then-late (err k) f p q = p
+  -- Sides come of it.
+  abbrev IsOk : Result Sides → Type 0
+  IsOk r = (v : Sides) × (r ≡ ok v)
 
--- ---- Cones and the store.
+  -- no bootstrap of a side is refused
+  left-boots : (w : Sides) → Kept w → IsOk (bootstrapLeft s w)
+  unfolding bootstrapLeft
+  left-boots w k = let b = booted s inputs (w .nodes) (w .left .cone) (k .store) (k .left .standing) in rw (b .1) (_, refl)
 
-validates : (s : Settings) (c : Cone) → Late (validateCone s c)
-unfolding validateCone
-validates s c =
-    if-both Late (not (isLutValid s c)) (refuses _ 10 (omega arith) (omega arith)) (if-both Late (not (withinNorm s (norm2 c))) (refuses _ 8 (omega arith) (omega arith)) (good c))
+  right-boots : (w : Sides) → Kept w → IsOk (bootstrapRight s w)
+  unfolding bootstrapRight
+  right-boots w k = let b = booted s inputs (w .nodes) (w .right .cone) (k .store) (k .right .standing) in rw (b .1) (_, refl)
 
-boots : (s : Settings) (nodes : List LutNode) (c : Cone) → Late (bootstrapCone s nodes c)
-unfolding bootstrapCone bootstrapped
-boots s nodes c = if-both Late (leb (length (c .support)) 1) (good _) (by (bootstrapTable (s .p) (realigned s nodes c)))
-  where
-    by : (o : Option (List ℕ)) → Late (bootstrapped s nodes (realigned s nodes c) o)
-    by none = refuses _ 10 (omega arith) (omega arith)
-    by (some table) = good _
+  second-limits : (w : Sides) → Kept w → IsOk (limitSecond s w)
+  unfolding limitSecond
+  second-limits w k = if-both IsOk (overLimit s w) (left-boots w k) (w, refl)
 
-composed : (s : Settings) (nodes : List LutNode) (left right : Cone) (gate : List ℕ) → LateIf (compose s nodes left right gate)
-unfolding compose mergeCones LateIf
-composed s nodes left right gate =
-    if-both LateIf (ltb (s .t + 1) (length support)) tt (if-both LateIf (allEqual truth) (good _) (by (findCandidate s nodes support left right truth)))
-  where
-    support : List ℕ
-    support = unionSupport (left .support) (right .support)
+  limits-sources : (w : Sides) → Kept w → IsOk (limitSources s w)
+  unfolding limitSources
+  limits-sources w k =
+      let z = left-boots w k in
+      let v = z .0 in
+      if-both IsOk (overLimit s w)
+      (rw (z .1) (second-limits (switchInputs v) (kept-switched s inputs before f g h v (kept-left s inputs before f g h limits room w v k (z .1))))) (w, refl)
 
-    truth : List ℕ
-    truth = gateTruth support left right gate
+  -- where an attempt is refused, the sides are not composed, and what comes next is refused
+  attempt-refused : (w : Sides) (next : Result Mapped) (k : ℕ) → Kept w → orElse w (attempt s w) next ≡ err k
+      → (compose s (w .nodes) (w .left .cone) (w .right .cone) (w .gate) ≡ none) × (next ≡ err k)
+  unfolding attempt orElse mapped
+  attempt-refused w next k q = by (compose s (w .nodes) (w .left .cone) (w .right .cone) (w .gate)) refl
+    where
+      by : (o : Option (Result Cone)) → compose s (w .nodes) (w .left .cone) (w .right .cone) (w .gate) ≡ o → orElse w o next ≡ err k
+          → (compose s (w .nodes) (w .left .cone) (w .right .cone) (w .gate) ≡ none) × (next ≡ err k)
+      by none c e = (c, e)
+      by (some (ok d)) c e = absurd (err-not k _ (sym e))
+      by (some (err j)) c e =
+          absurd (compose-refusal s limits (w .left .cone) (w .right .cone) (w .gate) (q .left .standing) (q .right .standing) (q .answerBits) (w .nodes) j c)
 
-    by : (o : Option Candidate) → LateIf (Option·map (mergeCones s) o)
-    by none = tt
-    by (some d) = validates s _
+  third-refused : (w : Sides) (k : ℕ) → Kept w → length (w .left .cone .support) ≤ 1 → thirdAttempt s w ≡ err k → Refusal s k
+  unfolding thirdAttempt
+  third-refused w k q few e =
+      let z = right-boots w q in
+      let v = z .0 in
+      let one = right-booted s w v (z .1) in
+      let p = kept-right s inputs before f g h limits room w v q (z .1) in
+      let r = attempt-refused v (err 9) k p (rw (z .1) at e) in
+      uncomposed (sym (err-same 9 k (r .1))) (v .nodes) (v .left .cone) (v .right .cone) (v .gate) (p .left .standing) (p .right .standing)
+      (rw (one .1) few) (one .0) (p .answerBits) (r .0)
 
--- ---- Gates.
+  second-refused : (w : Sides) (k : ℕ) → Kept w → secondAttempt s w ≡ err k → Refusal s k
+  unfolding secondAttempt
+  second-refused w k q e =
+      let z = left-boots w q in
+      let v = z .0 in
+      let p = kept-left s inputs before f g h limits room w v q (z .1) in
+      third-refused v k p (left-booted s w v (z .1) .0) (attempt-refused v (thirdAttempt s v) k p (rw (z .1) at e) .1)
 
-unary : (s : Settings) (nodes : List LutNode) (c : Cone) (gate : List ℕ) → Late (mapUnaryGate s nodes c gate)
-unfolding mapUnaryGate unchanged
-unary s nodes c gate = if-both Late (allEqual (map (λ b. getD gate b 0) (c .truth))) (good _) (then-late (validateCone s _) _ (validates s _) (λ d. good _))
+  binary-refused : (left right : Cone) (gate : List ℕ) (k : ℕ) → Kept (largerFirst (sides before left right gate)) → mapBinaryGate s before left right gate ≡ err k → Refusal s k
+  unfolding mapBinaryGate
+  binary-refused left right gate k q e =
+      let first = largerFirst (sides before left right gate) in
+      let z = limits-sources first q in
+      let w = z .0 in
+      let p = kept-limited s inputs before f g h limits room first w q (z .1) in
+      second-refused w k p (attempt-refused w (secondAttempt s w) k p (rw (z .1) at e) .1)
 
-left : (s : Settings) (w : Sides) → Late (bootstrapLeft s w)
-unfolding bootstrapLeft
-left s w = then-late (bootstrapCone s (w .nodes) (w .left .cone)) _ (boots s (w .nodes) (w .left .cone)) (λ b. good _)
+-- ---- A gate of the circuit.
 
-right : (s : Settings) (w : Sides) → Late (bootstrapRight s w)
-unfolding bootstrapRight
-right s w = then-late (bootstrapCone s (w .nodes) (w .right .cone)) _ (boots s (w .nodes) (w .right .cone)) (λ b. good _)
-
-second-limited : (s : Settings) (w : Sides) → Late (limitSecond s w)
-unfolding limitSecond
-second-limited s w = if-both Late (overLimit s w) (left s w) (good w)
-
-limited : (s : Settings) (w : Sides) → Late (limitSources s w)
-unfolding limitSources
-limited s w = if-both Late (overLimit s w) (then-late (bootstrapLeft s w) _ (left s w) (λ v. second-limited s (switchInputs v))) (good w)
-
-attempts : (s : Settings) (w : Sides) (next : Result Mapped) → Late next → Late (orElse w (attempt s w) next)
-unfolding attempt mapped orElse LateIf
-attempts s w next p = by (compose s (w .nodes) (w .left .cone) (w .right .cone) (w .gate)) (composed s (w .nodes) (w .left .cone) (w .right .cone) (w .gate))
-  where
-    by : (o : Option (Result Cone)) → LateIf o → Late (orElse w o next)
-    by none q = p
-    by (some r) q = then-late r (mapped w) q (λ c. good _)
-
-third : (s : Settings) (w : Sides) → Late (thirdAttempt s w)
-unfolding thirdAttempt
-third s w = then-late (bootstrapRight s w) _ (right s w) (λ v. attempts s v (err 9) (refuses _ 9 (omega arith) (omega arith)))
-
-second : (s : Settings) (w : Sides) → Late (secondAttempt s w)
-unfolding secondAttempt
-second s w = then-late (bootstrapLeft s w) _ (left s w) (λ v. attempts s v (thirdAttempt s v) (third s v))
-
-binary : (s : Settings) (nodes : List LutNode) (l r : Cone) (gate : List ℕ) → Late (mapBinaryGate s nodes l r gate)
-unfolding mapBinaryGate
-binary s nodes l r gate =
-    then-late (limitSources s (largerFirst (sides nodes l r gate))) _ (limited s (largerFirst (sides nodes l r gate))) (λ w. attempts s w (secondAttempt s w) (second s w))
-
-gate-mapped : (s : Settings) (nodes : List LutNode) (cones : List Cone) (ws : List Wire) (gate : List ℕ) → matching gate ws ≡ true
-    → Late (mapGate s nodes (map (coneAt cones) ws) gate)
-unfolding mapGate matching
-gate-mapped s nodes cones [] gate h = absurd (zero≢one (cc))
-gate-mapped s nodes cones (w ∷ []) gate h = unary s nodes (coneAt cones w) gate
-gate-mapped s nodes cones (v ∷ w ∷ []) gate h =
-    if-both Late (isConstant (coneAt cones v)) (unary s nodes (coneAt cones w) _)
-    (if-both Late (isConstant (coneAt cones w)) (unary s nodes (coneAt cones v) _) (binary s nodes (coneAt cones v) (coneAt cones w) gate))
-gate-mapped s nodes cones (u ∷ v ∷ w ∷ ws) gate h =
+not-three : (gate : List ℕ) (u v w : Wire) (ws : List Wire) → matching gate (u ∷ v ∷ w ∷ ws) ≡ true → ⊥
+unfolding matching
+not-three gate u v w ws e =
     let n = length ws in
-    absurd (false≢true (rw (ne-eqb (suc (suc (suc n))) 1 (omega arith), ne-eqb (suc (suc (suc n))) 2 (omega arith)) at h))
+    false≢true (rw (ne-eqb (suc (suc (suc n))) 1 (omega arith), ne-eqb (suc (suc (suc n))) 2 (omega arith)) at e)
 
-pub next-late : (s : Settings) (outputs : List Output) (st : State) (g : Gate) → matching (g .bits) (g .wires) ≡ true → Late (mapNext s outputs st g)
-unfolding mapNext forced
-next-late s outputs st g h =
-    then-late (mapGate s (st .nodes) (map (coneAt (st .cones)) (g .wires)) (g .bits)) _ (gate-mapped s (st .nodes) (st .cones) (g .wires) (g .bits) h)
-    (λ m.
-    then-late (forced s (isForced s outputs (length (st .cones))) m) _
-    (if-both Late (isForced s outputs (length (st .cones))) (boots s (m .nodes) (m .cone)) (good _)) (λ b. good _))
+module _ (s : Settings) (inputs : List Name) (limits : inLimits s ≡ true) where
+  unary-refused : (nodes : List LutNode) (c : Cone) (gate : List ℕ) (k : ℕ) → Standing s c → T (allBits gate) → mapUnaryGate s nodes c gate ≡ err k → Refusal s k
+  unary-refused nodes c gate k st good e = let r = unary-refusal s limits nodes c gate k st good e in over-norm (r .0) c st (r .1)
+
+  module _ (nodes : List LutNode) (store : Store (netFor s) inputs nodes) (room : length nodes + 6 ≤ 672) where
+    two-refused : (left right : Cone) (gate : List ℕ) (k : ℕ) (f g : List ℕ → ℕ) → Means s inputs nodes left f → Means s inputs nodes right g
+        → length gate ≡ 4 → T (allBits gate) → mapGate s nodes (left ∷ right ∷ []) gate ≡ err k → Refusal s k
+    unfolding mapGate
+    two-refused left right gate k f g a b four good = by (isConstant left) (isConstant right)
+      where
+        by : (t u : Bool) → (if t then mapUnaryGate s nodes right (take 2 (drop (2 * constantValue left) gate))
+            else if u then mapUnaryGate s nodes left (getD gate (constantValue right) 0 ∷ getD gate (2 + constantValue right) 0 ∷ [])
+            else mapBinaryGate s nodes left right gate) ≡ err k → Refusal s k
+        by true u e = unary-refused nodes right _ k (b .standing) (left-bits gate four good (constantValue left) (constant-bit left (a .standing))) e
+        by false true e = unary-refused nodes left _ k (a .standing) (right-bits gate four good (constantValue right) (constant-bit right (b .standing))) e
+        by false false e =
+            let h : List ℕ → ℕ = λ bits. getD gate (2 * f bits + g bits) 0 in
+            binary-refused s inputs nodes f g h limits room left right gate k (kept-first s inputs nodes f g h limits room left right gate store a b four good (λ bits q. refl)) e
+
+    wires-refused : (cones : List Cone) (F : List ℕ → List ℕ) (n : ℕ) → Cones s inputs nodes cones F n → (ws : List Wire) (gate : List ℕ) (k : ℕ)
+        → anyNoNode n ws ≡ false → WireBits ws → T (allBits gate) → matching gate ws ≡ true → mapGate s nodes (map (coneAt cones) ws) gate ≡ err k → Refusal s k
+    unfolding WireBits
+    wires-refused cones F n known [] gate k w c good q e = absurd (unfold matching in (zero≢one (cc)))
+    wires-refused cones F n known (v ∷ []) gate k w c good q e =
+        unary-refused nodes (coneAt cones v) gate k (wire-means s inputs nodes store F n cones v known (wire-in n (v ∷ []) 0 w) (c .0) .standing) good (unfold mapGate in e)
+    wires-refused cones F n known (v ∷ u ∷ []) gate k w c good q e =
+        two-refused (coneAt cones v) (coneAt cones u) gate k (λ bits. wireBit (F bits) v) (λ bits. wireBit (F bits) u)
+        (wire-means s inputs nodes store F n cones v known (wire-in n (v ∷ u ∷ []) 0 w) (c .0))
+        (wire-means s inputs nodes store F n cones u known (wire-in n (v ∷ u ∷ []) 1 w) (c .1 .0)) (four-answers gate v u q) good e
+    wires-refused cones F n known (v ∷ u ∷ x ∷ ws) gate k w c good q e = absurd (not-three gate v u x ws q)
+
+  forced-boots : (t : Bool) (m : Mapped) → Store (netFor s) inputs (m .nodes) → Standing s (m .cone) → (b : Stored) × (forced s t m ≡ ok b)
+  unfolding forced
+  forced-boots t m store st = if-both (λ r. (b : Stored) × (r ≡ ok b)) t (booted s inputs (m .nodes) (m .cone) store st) (_, refl)
+
+  pub next-refused : (outputs : List Output) (st : State) (F : List ℕ → List ℕ) (k n : ℕ) (g : Gate) (j : ℕ) → Known s inputs st F k n → SoundGate n g
+      → length inputs ≤ 32 → k < 96 → mapNext s outputs st g ≡ err j → Refusal s j
+  unfolding mapNext
+  next-refused outputs st F k n g j known sound few more e =
+      ⊎-elim
+      (λ r. wires-refused (st .nodes) (known .store) room (st .cones) F n (known .cones) (g .wires) (g .bits) j (sound .earlier) (sound .constants) (sound .answers) (sound .shape) r)
+      (λ r. absurd (err-not j _ (sym (rw (boots (r .0) (r .1) .1) at (r .2)))))
+      (err-then (mapGate s (st .nodes) (map (coneAt (st .cones)) (g .wires)) (g .bits)) _ j e)
+    where
+      room : length (st .nodes) + 6 ≤ 672
+      room = let l = known .most in omega arith
+
+      -- what a gate gives is bootstrapped where it has to be
+      boots : (m : Mapped) → mapGate s (st .nodes) (map (coneAt (st .cones)) (g .wires)) (g .bits) ≡ ok m → (b : Stored) × (forced s (isForced s outputs (length (st .cones))) m ≡ ok b)
+      boots m q =
+          let gm = wires-mapped s inputs limits (st .nodes) (known .store) room (st .cones) F n (known .cones) (g .wires) (g .bits) m
+          (sound .earlier) (sound .constants) (sound .answers) (sound .shape) q in
+          forced-boots (isForced s outputs (length (st .cones))) m (gm .store) (gm .means .standing)
 
 -- ---- The gate that is refused, after those before it.
 

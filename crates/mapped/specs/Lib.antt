@@ -2,11 +2,15 @@
 pub mod Uncapped
 pub mod Statements
 pub mod Cones
+pub mod ConeEncoded
 pub mod ConeGate
 pub mod ConeFound
 pub mod ConeSimplified
+pub mod ConeStillFits
 pub mod ConeComposes
 pub mod ConeUnary
+pub mod ConeRefusals
+pub mod SingleSources
 pub mod Store
 pub mod StoreValues
 pub mod StoreTerms
@@ -35,5 +39,6 @@ pub mod TwoSourceCones
 pub mod TwoSources
 pub mod Agrees
 pub mod Proved
+pub mod AlwaysMapped
 pub mod TwoSourcesMet
 pub mod SumRun

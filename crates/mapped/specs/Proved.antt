@@ -9,7 +9,7 @@ use lib.Dec.{ltb}
 use lib.ListN.{length, take, drop, replicate, length-replicate}
 use Rattle.laws.specs.Over.{over, take-over, drop-over}
 use Rattle.laws.specs.Test.{if_then_else_}
-use Rattle.rules.specs.declared.Policy.the-variants.{Basic, Span}
+use Rattle.rules.specs.declared.Policy.the-variants.{Basic}
 use Rattle.rules.specs.declared.Settings.{Settings}
 use Rattle.rules.specs.Form.{Reading, Good, Refused}
 use Rattle.rules.specs.CircuitText.{readCircuit}
@@ -21,7 +21,7 @@ use Rattle.rules.specs.Writing.{networkText}
 use Rattle.theorems.specs.SoundCircuits.{read-sound}
 use Rattle.mapped.specs.Agrees.{Delivered, delivered, text-agrees}
 use Rattle.mapped.specs.Statements.{MapsTo, MappedAgrees, MapperAgrees, MappedFits, RefusedKeeps, LaterKept, EarlierBytes, ServiceAnswer, Whole, is-written, is-unreadable, is-refused, is-over, is-too-long, MapperWhole, CapUnmet, TwoSourcesRefused}
-use Rattle.mapped.specs.Whole.{comes, whole}
+use Rattle.mapped.specs.Whole.{used-span, comes, whole}
 use Rattle.mapped.specs.Cap.{attempts, mapper-same}
 use Rattle.mapped.specs.TwoSources.{refuses}
 
@@ -80,20 +80,16 @@ mapped-fits text =
 pub cap-unmet : (text : List ℕ) → CapUnmet text
 cap-unmet text = record { attempts = attempts text; idle = mapper-same text }
 
--- the M that is used
+-- the M that Basic uses
 basic-m : (s : Settings) → s .policy ≡ Basic → s .m ≡ s .p → usedSettings s .m ≡ 2
 unfolding usedSettings isBasic
 basic-m s policy same = rw (policy, eq-eqb (s .m) (s .p) same) refl
-
-span-m : (s : Settings) → s .policy ≡ Span → usedSettings s .m ≡ s .m
-unfolding usedSettings isBasic
-span-m s policy = rw policy refl
 
 pub two-sources-refused : (text buffer : List ℕ) → TwoSourcesRefused text buffer
 two-sources-refused text buffer =
     record {
       basic = λ c g z policy same. refuses text buffer c g z (let e = basic-m (c .settings) policy same in omega arith);
-      span = λ c g z policy two. refuses text buffer c g z (let e = span-m (c .settings) policy in omega arith);
+      span = λ c g z policy two. refuses text buffer c g z (let e = ap (λ (s : Settings). s .m) (used-span (c .settings) policy) in omega arith);
       every = λ c g z two. refuses text buffer c g z (omega arith);
     }
 

@@ -8,7 +8,7 @@ use Prim.Native.Nat.{ℕ, suc, _+_, _≤_, _<_, _^_, zero-le}
 use native.Mathlib.Omega.{arith}
 use lib.Dec.{ltb}
 use lib.IntN.{ℤ, pos, natAbs}
-use lib.ListN.{length, getD, length-map}
+use lib.ListN.{length, getD}
 use Rattle.laws.specs.Select.{select}
 use Rattle.laws.specs.Test.{if_then_else_, if-both, decide}
 use Rattle.rules.specs.declared.Settings.{Settings}
@@ -23,10 +23,10 @@ use Rattle.theorems.specs.ConeValues.{weigh-used, one-truth}
 use Rattle.theorems.specs.FittingCones.{fits-consistent}
 use Rattle.theorems.specs.LinearTables.{total, span-table}
 use Rattle.theorems.specs.Members.{member-cons}
-use Rattle.theorems.specs.Normalised.{isNonzero, nonzero, normalised-length}
+use Rattle.theorems.specs.Normalised.{isNonzero, nonzero}
 use Rattle.theorems.specs.Terms.{termsOver, sources-length}
 use Rattle.mapped.specs.Cones.{Standing, is-constant, is-node, is-judged}
-use Rattle.mapped.specs.ConeGate.{answer, mergedCone, gateTruth-length, gate-bit}
+use Rattle.mapped.specs.ConeGate.{answer, mergedCone, merged-long, gateTruth-length, gate-bit}
 use Rattle.mapped.specs.ConeFound.{Found, found}
 use Rattle.mapped.specs.StoreSum.{fit-span}
 use Rattle.mapped.specs.Statements.{DependsOn, DependsOnTwo}
@@ -150,9 +150,9 @@ module _ (s : Settings) (short : s .m ≤ 2) (left right : Cone) (gate : List �
       at e bit b = unfold mergedCone in (constant-bit (mergedCone left right gate []) (gateTruth-length left right gate union) e bit (all-bits-of bit b))
 
   no-candidate : (d : Candidate) → Found s left right gate d → ⊥
-  unfolding mergedCone mergedCoefficients
+  unfolding mergedCone
   no-candidate d f =
-      one-at-most s (mergedCone left right gate (mergedCoefficients union left right (f .pair))) (normalised-length _ ∙ length-map union _)
+      one-at-most s (mergedCone left right gate (mergedCoefficients union left right (f .pair))) (merged-long union left right (f .pair))
       (gateTruth-length left right gate union) (subst (λ m. fits s m ≡ true) (f .is) (f .fit)) short (merged-two _)
 
   pub compose-none : (nodes : List LutNode) → compose s nodes left right gate ≡ none

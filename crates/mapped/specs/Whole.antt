@@ -1,33 +1,34 @@
 -- Every answer of the mapper is one of five, and what is mapped is known by its nodes and outputs before pruning.
-use mathlib.Core.Path.{_≡_, refl, subst}
+use mathlib.Core.Path.{_≡_, refl, ap, subst, _∙_}
 use mathlib.Core.Bool.{Bool, true, false, not, _&&_}
-use mathlib.Core.List.{List, []}
+use mathlib.Core.List.{List, [], _∷_, _++_}
 use mathlib.Core.Logic.{⊎-elim}
 use Prim.Native.Nat.{ℕ, _+_, _≤_, _<_}
 use native.Mathlib.Omega.{arith}
 use borrow.Author.Tests.{lt-ltb, le-ltb, not-true}
 use lib.Dec.{eqb}
-use lib.ListN.{length}
+use lib.ListN.{length, length-append}
 use Rattle.laws.specs.Test.{if_then_else_, lt-or-le, zero≢one, both-left, both-right}
+use Rattle.rules.specs.declared.Policy.the-variants.{Span}
 use Rattle.rules.specs.declared.Settings.{Settings}
 use Rattle.rules.specs.Builder.{tableLimits}
-use Rattle.rules.specs.Circuit.{Circuit, gateValues}
+use Rattle.rules.specs.Circuit.{Gate, Circuit, gateValues}
 use Rattle.rules.specs.CircuitText.{inLimits, ended, readCircuit}
-use Rattle.rules.specs.Cone.{ok, withinNorm}
+use Rattle.rules.specs.Cone.{ok, err, withinNorm}
 use Rattle.rules.specs.Form.{Reading, Good, Refused}
-use Rattle.rules.specs.Mapper.{State, Outputs, atLine, andThen, isBasic, mapGates, mapOutputs, usedSettings, pruned, checked, start, finish, mapWith, mapCircuit, answerWith, mapper}
+use Rattle.rules.specs.Mapper.{State, Outputs, atLine, andThen, isBasic, mapNext, mapGates, mapOutputs, usedSettings, pruned, checked, start, finish, mapWith, mapCircuit, answerWith, mapper}
 use Rattle.rules.specs.Network.{Network, isLinear, count, nodeNorm, largest}
 use Rattle.rules.specs.Outcome.{outcome, refused}
 use Rattle.rules.specs.Writing.{networkText}
 use Rattle.theorems.specs.AdmissionExact.{circuits, circuits-regular, circuit-exact}
 use Rattle.theorems.specs.Readings.{holds-from, holds-within}
-use Rattle.theorems.specs.SoundCircuits.{Sound, read-sound, gate-sound, SoundGates}
+use Rattle.theorems.specs.SoundCircuits.{Sound, read-sound, gate-sound, SoundGate, SoundGates}
 use Rattle.theorems.specs.Results.{good-same, good-then, reading-then}
 use Rattle.mapped.specs.Outputs.{SameOutputs, all-outputs, all-mapped}
 use Rattle.mapped.specs.Gates.{Known, gates-known}
 use Rattle.mapped.specs.GateStart.{start-known}
 use Rattle.mapped.specs.Statements.{MapsTo, Whole, is-written, is-unreadable, is-refused, is-over, is-too-long}
-use Rattle.mapped.specs.GateRefusals.{Late, next-late, gates-refused}
+use Rattle.mapped.specs.GateRefusals.{Refusal, refusal-number, next-refused, gates-refused}
 use Rattle.mapped.specs.Store.{netFor, Store}
 
 -- ---- The settings that are used.
@@ -46,6 +47,10 @@ used-limits s e = by (isBasic (s .policy))
         → inLimits (if b then record { p = 2; m = if eqb (s .m) (s .p) then 2 else 4; t = s .t; norm = s .norm; policy = s .policy; many = s .many } else s) ≡ true
     by true = rw (basic-limits (eqb (s .m) (s .p))) (both-right (tableLimits (s .p) (s .m)) _ e)
     by false = e
+
+pub used-span : (s : Settings) → s .policy ≡ Span → usedSettings s ≡ s
+unfolding usedSettings isBasic
+used-span s policy = rw policy refl
 
 -- ---- The gates and the outputs of a circuit.
 
@@ -72,6 +77,31 @@ module _ (c : Circuit) (sound : Sound c) where
       let g = parts .gatesFit in
       gates-known s (c .inputs) (used-limits (c .settings) (sound .settings .limits)) (c .outputs) (start c) st (λ bits. bits) 0 (length (c .inputs)) (c .gates)
       (start-known s c (parts .different) i) (parts .gatesSound) i (omega arith) e
+
+  -- when a gate is reached, and of that gate
+  pub reached-known : (before after : List Gate) (g : Gate) (st : State) → c .gates ≡ before ++ (g ∷ after) → mapGates s (c .outputs) (start c) before ≡ Good st
+      → Known s (c .inputs) st (λ bits. gateValues bits before) (0 + length before) (length (c .inputs) + length before)
+      × SoundGate (length (c .inputs) + length before) g × (length before < 96)
+  reached-known before after g st split e =
+      let parts = sound .parts in
+      let i = parts .inputsFit in
+      let m = parts .gatesFit in
+      let l = ap length split ∙ length-append before (g ∷ after) in
+      let z = gate-sound (length (c .inputs)) before g after (subst (SoundGates (length (c .inputs))) split (parts .gatesSound)) in (
+        gates-known s (c .inputs) (used-limits (c .settings) (sound .settings .limits)) (c .outputs) (start c) st (λ bits. bits) 0 (length (c .inputs)) before
+            (start-known s c (parts .different) i) (z .0) i (omega arith) e,
+        z .1,
+        omega arith,
+      )
+
+  -- why the gate is refused
+  pub gate-refusal : (before after : List Gate) (g : Gate) (st : State) (k : ℕ) → c .gates ≡ before ++ (g ∷ after) → mapGates s (c .outputs) (start c) before ≡ Good st
+      → mapNext s (c .outputs) st g ≡ err k → Refusal s k
+  gate-refusal before after g st k split e q =
+      let z = reached-known before after g st split e in
+      let l = z .2 in
+      next-refused s (c .inputs) (used-limits (c .settings) (sound .settings .limits)) (c .outputs) st (λ bits. gateValues bits before) (0 + length before)
+      (length (c .inputs) + length before) g k (z .0) (z .1) (sound .parts .inputsFit) (omega arith) q
 
   outputs-done : (st : State) → mapGates s (c .outputs) (start c) (c .gates) ≡ Good st → (done : Outputs) × (mapOutputs s (st .cones) (empty st) (c .outputs) ≡ ok done)
   outputs-done st e =
@@ -163,14 +193,15 @@ module _ (text buffer : List ℕ) where
 
   module _ (c : Circuit) (read : readCircuit text ≡ Good c) where
     gates-whole : (k line : ℕ) → mapGates (usedSettings (c .settings)) (c .outputs) (start c) (c .gates) ≡ Refused k line → Whole text buffer
-    unfolding andThen mapCircuit mapWith Late
+    unfolding andThen mapCircuit mapWith
     gates-whole k line e =
         let s = usedSettings (c .settings) in
         let r = gates-refused s (c .outputs) (start c) (c .gates) k line e in
         let sound = read-sound text c read in
-        let g = gate-sound (length (c .inputs)) (r .before) (r .gate) (r .after) (subst (SoundGates (length (c .inputs))) (r .are) (sound .parts .gatesSound)) .1 in
-        let l = subst Late (r .refuses) (next-late s (c .outputs) (r .state) (r .gate) (g .shape)) in
-        is-refused c (r .before) (r .after) (r .gate) (r .state) k read (r .are) (r .reached) (r .refuses) (l .0) (l .1) (g .placed)
+        let g = reached-known c sound (r .before) (r .after) (r .gate) (r .state) (r .are) (r .reached) .1 in
+        let l = refusal-number s k (gate-refusal c sound (r .before) (r .after) (r .gate) (r .state) k (r .are) (r .reached) (r .refuses)) in
+        let most = l .1 in
+        is-refused c (r .before) (r .after) (r .gate) (r .state) k read (r .are) (r .reached) (r .refuses) (l .0) (omega arith) (g .placed)
         (refusal k (r .gate .line) (rw (read, e, r .at) refl))
 
     over-or-not : (st : State) (done : Outputs) → mapGates (usedSettings (c .settings)) (c .outputs) (start c) (c .gates) ≡ Good st

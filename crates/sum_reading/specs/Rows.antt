@@ -24,7 +24,7 @@ use Rattle.rules.specs.Network.{Term}
 use Rattle.rules.specs.SumReading.{sumOfBits, firstReading}
 use Rattle.theorems.specs.ConeRows.{assignments-length}
 use Rattle.theorems.specs.Terms.{coefs}
-use Rattle.support.specs.Rows.{assignments-are}
+use Rattle.theorems.specs.SourceRows.{assignments-are}
 
 -- Where a value stands first; as many as there are where it does not.
 unfoldable pub firstPlace : ℤ → List ℤ → ℕ

@@ -1,62 +1,25 @@
--- Rows of a cone over the rows of a larger support: as numbers, and from one to the next.
+-- Rows of a cone over the rows of a larger support, from one to the next.
 use mathlib.Core.Path.{_≡_, refl, sym, ap, ap₂, _∙_}
-use mathlib.Core.Bool.{Bool, true, false, not}
+use mathlib.Core.Bool.{Bool, true, false}
 use mathlib.Core.List.{List, [], _∷_, _++_, map}
 use mathlib.Core.Logic.{⊎-elim}
 use Prim.Native.Nat.{ℕ, zero, suc, _+_, _-_, _*_, _/_, _%_, _^_, _<_, _≤_, max}
-use native.Mathlib.Nat.{zero-div, two-pow-succ, one-mul, zero-add, mod-eq-of-lt, mod-one, lt-of-lt-of-le, le-trans, mul-le-mul-right}
-use native.Mathlib.Numerals.{one-add}
+use native.Mathlib.Nat.{zero-div, two-pow-succ, one-mul, mod-eq-of-lt, lt-of-lt-of-le, le-trans, mul-le-mul-right}
 use native.Mathlib.Omega.{arith}
 use lib.Bits.{bitXor, bitOr, differ, xor-step, or-step, or-shifted-r}
 use lib.Count.{trailingZeros}
 use lib.Dec.{eqb, eqb·suc-suc, eqb·zero-suc, leb, leb·suc-zero}
 use lib.Seq.{take-at, getD-set-same, getD-set-other}
-use borrow.Author.Tests.{eq-eqb, ne-eqb, le-leb, lt-leb, not-true}
-use lib.ListN.{length, getD, take, set, length-append, length-map}
-use lib.Pow.{mod-pow-add, shr-lt}
-use Rattle.laws.specs.Digits.{bit, bit-lt, digit, digit-lt, bit-step, trailing-small, bit-top-zero, bit-top-one, digits, digits-length, digits-upper, digits-block}
-use Rattle.laws.specs.Tabulate.{tabulate, tabulate-same, tabulate-append, map-tabulate}
-use Rattle.laws.specs.Test.{if_then_else_, if-both, lt-or-le, eq-or-ne, neither-left, neither-right, both-left, both-right}
+use borrow.Author.Tests.{eq-eqb, ne-eqb, le-leb, lt-leb}
+use lib.ListN.{length, getD, set, length-append, length-map}
+use lib.Pow.{shr-lt}
+use Rattle.laws.specs.Digits.{bit, digit, digit-lt, bit-step, trailing-small, digits, digits-length, digits-upper}
+use Rattle.laws.specs.Test.{if_then_else_, if-both, lt-or-le, eq-or-ne}
 use Rattle.rules.specs.Cone.{rowFrom}
-use Rattle.rules.specs.Composition.{assignments, assigned, overRows}
-use Rattle.rules.specs.Network.{member}
+use Rattle.rules.specs.Composition.{assigned}
 use Rattle.rules.specs.NetworkText.{allDifferent}
 use Rattle.theorems.specs.ConeRows.{rowFrom-shift}
-
--- ---- A row is the number that its digits make.
-
-pub rowFrom-digits : (x n j : ℕ) → rowFrom x (digits n j) ≡ x * 2 ^ n + j % 2 ^ n
-unfolding rowFrom digits bit
-rowFrom-digits x zero j = omega (arith, mod-one j)
-rowFrom-digits x (suc n) j = rowFrom-digits (2 * x + bit n j) n j ∙ next
-  where
-    next : (2 * x + bit n j) * 2 ^ n + j % 2 ^ n ≡ x * 2 ^ suc n + j % 2 ^ suc n
-    next = let m : j % 2 ^ suc n ≡ j / 2 ^ n % 2 * 2 ^ n + j % 2 ^ n = rw one-add at (mod-pow-add j 1 n) in rw (m, two-pow-succ) (omega arith)
-
--- the assignments, in order, are the digits of the numbers below 2 ^ n
-pub assignments-are : (n : ℕ) → assignments n ≡ tabulate (2 ^ n) (digits n)
-unfolding assignments digits tabulate
-assignments-are zero = refl
-assignments-are (suc n) =
-    rw (assignments-are n, two-pow-succ, map-tabulate, map-tabulate, tabulate-append)
-    (ap₂ {C = List (List ℕ)} (λ s t. s ++ t)
-    (tabulate-same (2 ^ n) (λ i. 0 ∷ digits n i) (digits (suc n)) (λ i h. lower i h))
-    (tabulate-same (2 ^ n) (λ i. 1 ∷ digits n i) (λ i. digits (suc n) (2 ^ n + i)) (λ i h. upper i h)))
-  where
-    lower : (i : ℕ) → i < 2 ^ n → 0 ∷ digits n i ≡ bit n i ∷ digits n i
-    lower i h = rw (bit-top-zero n i h)
-
-    upper : (i : ℕ) → i < 2 ^ n → 1 ∷ digits n i ≡ bit n (2 ^ n + i) ∷ digits n (2 ^ n + i)
-    upper i h = rw (bit-top-one n i h) (ap {B = List ℕ} (λ r. 1 ∷ r) (sym (rw (one-mul, zero-add) at (digits-block n 0 1 i))))
-
-pub overRows-are : (U : List ℕ) (f : (ℕ → ℕ) → ℕ) → overRows U f ≡ tabulate (2 ^ length U) (λ i. f (assigned U (digits (length U) i)))
-unfolding overRows
-overRows-are U f = rw (assignments-are (length U)) (map-tabulate _ (2 ^ length U) (digits (length U)))
-
--- ---- The row of a cone on the sources rs, at row i over the support U.
-
-unfoldable pub rowOver : List ℕ → List ℕ → ℕ → ℕ
-rowOver U rs i = rowFrom 0 (map (assigned U (digits (length U) i)) rs)
+use Rattle.theorems.specs.SourceRows.{rowFrom-digits, rowOver, assigned-digit, own-digits}
 
 -- Whether the digit of a source changes where the next row has z trailing zeros; and the toggle mask of those that do.
 unfoldable pub changed : List ℕ → ℕ → ℕ → ℕ
@@ -65,11 +28,6 @@ changed (m ∷ U) z s = let r = changed U z s in if eqb m s then digit (leb (len
 
 unfoldable pub toggleMask : List ℕ → List ℕ → ℕ → ℕ
 toggleMask U rs z = rowFrom 0 (map (changed U z) rs)
-
-pub assigned-digit : (U : List ℕ) (i s : ℕ) → assigned U (digits (length U) i) s < 2
-unfolding assigned digits
-assigned-digit [] i s = omega arith
-assigned-digit (m ∷ U) i s = if-both (λ d. d < 2) (eqb m s) (bit-lt (length U) i) (assigned-digit U i s)
 
 pub changed-digit : (U : List ℕ) (z s : ℕ) → changed U z s < 2
 unfolding changed
@@ -140,24 +98,7 @@ row-lt f h (r ∷ rs) x = lt-of-lt-of-le (row-lt f h rs (2 * x + f r)) (rw two-p
     more : f r < 2 → 2 * x + f r + 1 ≤ 2 * (x + 1)
     more k = omega arith
 
-pub rowOver-lt : (U rs : List ℕ) (i : ℕ) → rowOver U rs i < 2 ^ length rs
-unfolding rowOver
-rowOver-lt U rs i = omega (arith, row-lt (assigned U (digits (length U) i)) (assigned-digit U i) rs 0)
-
 -- ---- The sources of U itself, and more after them: the row is the quotient.
-
--- a source that is not m has the digit that it has without m
-other-map : (m b : ℕ) (U bs rs : List ℕ) → member m rs ≡ false → map (assigned (m ∷ U) (b ∷ bs)) rs ≡ map (assigned U bs) rs
-unfolding assigned member
-other-map m b U bs [] h = refl
-other-map m b U bs (r ∷ rs) h = rw (neither-left (eqb m r) (member m rs) h, other-map m b U bs rs (neither-right (eqb m r) (member m rs) h))
-
-pub own-digits : (ls new bs : List ℕ) → allDifferent ls ≡ true → length bs ≡ length ls + length new → map (assigned (ls ++ new) bs) ls ≡ take (length ls) bs
-unfolding allDifferent assigned
-own-digits [] new bs h e = refl
-own-digits (m ∷ ls) new [] h e = absurd (omega arith)
-own-digits (m ∷ ls) new (b ∷ bs) h e =
-    rw (eq-eqb m m refl, other-map m b (ls ++ new) bs ls (not-true (member m ls) (both-left (not (member m ls)) (allDifferent ls) h)), own-digits ls new bs (both-right (not (member m ls)) (allDifferent ls) h) (omega arith))
 
 pub rowOver-own : (ls new : List ℕ) (i : ℕ) → allDifferent ls ≡ true → i < 2 ^ (length ls + length new) → rowOver (ls ++ new) ls i ≡ i / 2 ^ length new
 unfolding rowOver

@@ -14,10 +14,18 @@ bit-at [] i t = omega arith
 bit-at (b ∷ bits) zero t = leb→le b 1 (and-left (leb b 1) (allBits bits) t)
 bit-at (b ∷ bits) (suc i) t = bit-at bits i (and-right (leb b 1) (allBits bits) t)
 
+pub all-bits-nil : T (allBits [])
+unfolding allBits
+all-bits-nil = tt
+
+pub all-bits-cons : (b : ℕ) (l : List ℕ) → b ≤ 1 → T (allBits l) → T (allBits (b ∷ l))
+unfolding allBits
+all-bits-cons b l h t = and-both (leb b 1) (allBits l) (le→leb b 1 h) t
+
 pub all-bits-of : (l : List ℕ) → ((i : ℕ) → i < length l → getD l i 0 ≤ 1) → T (allBits l)
 unfolding allBits
 all-bits-of [] h = tt
-all-bits-of (b ∷ l) h = and-both (leb b 1) (allBits l) (le→leb b 1 (h 0 (omega arith))) (all-bits-of l (λ i k. h (suc i) (omega arith)))
+all-bits-of (b ∷ l) h = all-bits-cons b l (h 0 (omega arith)) (all-bits-of l (λ i k. h (suc i) (omega arith)))
 
 pub all-bits : (n : ℕ) (bits : List ℕ) → T (bitsFor n bits) → T (allBits bits)
 unfolding bitsFor

@@ -1,5 +1,5 @@
 -- A cone that fits has a table, and one truth for each value.
-use mathlib.Core.Path.{_≡_, refl, sym, ap, _∙_}
+use mathlib.Core.Path.{_≡_, refl}
 use mathlib.Core.Bool.{true, false≢true}
 use mathlib.Core.List.{List}
 use mathlib.Core.Option.{Option, none, some}
@@ -11,7 +11,7 @@ use Rattle.rules.specs.declared.Settings.{Settings}
 use Rattle.rules.specs.Builder.{knownEntries}
 use Rattle.rules.specs.Cone.{Cone, values, completed, bootstrapTable, isLutValid, withinNorm, norm2, coneSpan, fits}
 use Rattle.theorems.specs.Rows.{Consistent, known-exact}
-use Rattle.theorems.specs.ConeValues.{linearTable-length}
+use Rattle.theorems.specs.ConeValues.{values-long}
 
 pub fits-table : (s : Settings) (c : Cone) → fits s c ≡ true → isSome (bootstrapTable (s .p) c) ≡ true
 unfolding fits isLutValid
@@ -26,7 +26,4 @@ known-some P (some l) e = (l, refl)
 pub fits-consistent : (s : Settings) (c : Cone) → length (c .coefficients) ≡ length (c .support) → length (c .truth) ≡ 2 ^ length (c .support)
     → fits s c ≡ true → Consistent (values c) (c .truth)
 unfolding bootstrapTable
-fits-consistent s c same rows e = known-exact (values c) (c .truth) long .0 (known-some (s .p) (knownEntries (values c) (c .truth)) (fits-table s c e))
-  where
-    long : length (values c) ≡ length (c .truth)
-    long = unfold values in (linearTable-length (c .coefficients) ∙ ap (λ n. 2 ^ n) same ∙ sym rows)
+fits-consistent s c same rows e = known-exact (values c) (c .truth) (values-long c same rows) .0 (known-some (s .p) (knownEntries (values c) (c .truth)) (fits-table s c e))

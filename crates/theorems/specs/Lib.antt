@@ -28,11 +28,13 @@ pub mod SoundCircuits
 pub mod Normalised
 pub mod Unions
 pub mod ConeRows
+pub mod SourceRows
 pub mod ConeTruths
 pub mod ConeValues
 pub mod LinearTables
 pub mod FittingCones
 pub mod ZeroSources
+pub mod SimplifiedCones
 pub mod Interned
 pub mod Decimals
 pub mod Pieces

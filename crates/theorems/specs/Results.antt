@@ -1,5 +1,6 @@
 -- Results and readings taken apart.
-use mathlib.Core.Path.{_≡_, refl}
+use mathlib.Core.Path.{_≡_, refl, ap}
+use mathlib.Core.Logic.{_⊎_, inl, inr}
 use Prim.Native.Nat.{ℕ}
 use Rattle.laws.specs.Test.{zero≢one}
 use Rattle.rules.specs.Cone.{ok, Result, err, _>>=_}
@@ -15,6 +16,13 @@ ok-then (err k) f b e = absurd (zero≢one (cc))
 
 pub err-not : {A : Type 0} (k : ℕ) (a : A) → err k ≡ ok a → ⊥
 err-not k a e = zero≢one (cc)
+
+pub err-same : {A : Type 0} (j k : ℕ) → _≡_ {A = Result A} (err j) (err k) → j ≡ k
+err-same j k e = cc
+
+pub err-then : {A B : Type 0} (r : Result A) (f : A → Result B) (k : ℕ) → (r >>= f) ≡ err k → (r ≡ err k) ⊎ ((a : A) × (r ≡ ok a) × (f a ≡ err k))
+err-then (ok a) f k e = inr (a, refl, e)
+err-then (err j) f k e = inl (ap err (err-same j k e))
 
 pub then-same : {A B : Type 0} (r : Result A) (f g : A → Result B) → ((a : A) → r ≡ ok a → f a ≡ g a) → (r >>= f) ≡ (r >>= g)
 then-same (ok a) f g h = h a refl

@@ -1,13 +1,13 @@
 -- The terms of a sum, by their coefficients and their nodes.
 use mathlib.Core.List.{List, zipWith, [], _∷_, map}
-use mathlib.Core.Path.{_≡_, refl, ap}
+use mathlib.Core.Path.{_≡_, refl, sym, ap, _∙_}
 use mathlib.Core.Bool.{false, Bool, true, not}
 use Prim.Native.Nat.{ℕ, suc}
 use native.Mathlib.Omega.{arith}
 use borrow.Author.Tests.{eqb-true, not-false}
 use lib.IntN.{ℤ, natAbs}
 use lib.Dec.{eqb}
-use lib.ListN.{length}
+use lib.ListN.{length, length-map}
 use Rattle.laws.specs.Select.{select}
 use Rattle.laws.specs.Test.{if_then_else_}
 use Rattle.rules.specs.Network.{Term}
@@ -56,7 +56,7 @@ coefs-used (c ∷ cs) (n ∷ ns) e = by (not (eqb (natAbs c) 0)) (coefs-used cs 
     by true r = ap {B = List ℤ} (λ l. c ∷ l) r
     by false r = r
 
-pub coefs-of : (cs : List ℤ) (ns : List ℕ) → length cs ≡ length ns → map (λ (t : Term). t .coef) (termsOver cs ns) ≡ cs
+pub coefs-of : (cs : List ℤ) (ns : List ℕ) → length cs ≡ length ns → coefs (termsOver cs ns) ≡ cs
 unfolding termsOver zipWith
 coefs-of [] [] e = refl
 coefs-of [] (n ∷ ns) e = absurd (omega arith)
@@ -69,3 +69,6 @@ terms-length [] [] e = refl
 terms-length [] (n ∷ ns) e = absurd (omega arith)
 terms-length (c ∷ cs) [] e = absurd (omega arith)
 terms-length (c ∷ cs) (n ∷ ns) e = ap suc (terms-length cs ns (omega arith))
+
+pub coefs-long : (ts : List Term) → length (sources ts) ≡ length (coefs ts)
+coefs-long ts = sources-length ts ∙ sym (length-map ts (λ (t : Term). t .coef))

@@ -1,4 +1,4 @@
--- Document 01's ★ cases ("Reckoned by hand"): one table, one proof over it.
+-- Document 01's ★ cases ("Reckoned by hand") and two at the bounds of document 02's data sheet: one table, one proof over it.
 use mathlib.Core.Path.{_≡_, refl}
 use mathlib.Core.Bool.{false}
 use mathlib.Core.List.{List, [], _∷_, map}
@@ -80,6 +80,9 @@ cases =
     -- AND under Naive, and under Basic with M = P
     ∷ (mapping "(fbs 2 4 10 none naive one)\n(in a)\n(in b)\n(gate g 0001 (n 0) (n 1))\n(out y (n 2))\n" ⇒ refusal 9 4)
     ∷ (mapping "(fbs 4 4 10 none basic one)\n(in a)\n(in b)\n(gate g 0001 (n 0) (n 1))\n(out y (n 2))\n" ⇒ refusal 9 4)
+    -- AND under Span, where M is 2 and where NORM is 1: neither bound of the data sheet (document 02, S-2) can be lowered
+    ∷ (mapping "(fbs 2 2 10 none span many)\n(in a)\n(in b)\n(gate g 0001 (n 0) (n 1))\n(out y (n 2))\n" ⇒ refusal 9 4)
+    ∷ (mapping "(fbs 16 32 10 1 span many)\n(in a)\n(in b)\n(gate g 0001 (n 0) (n 1))\n(out y (n 2))\n" ⇒ refusal 9 4)
     -- NOT of a
     ∷ (mapping "(fbs 4 8 10 none span one)\n(in a)\n(gate g 10 (n 0))\n(out y (n 1))\n"
     ⇒ bytes (bytesOf "(net 4 8 none)\n(in a)\n(lin 1 (-1 0))\n(out y (n 1))\n"))

@@ -1,32 +1,36 @@
--- Sources of coefficient 0 change neither the value of a row nor the values that a linear form has.
+-- Sources of coefficient 0 change neither the value of a row nor the values, the span and the norm that a linear form has.
 use mathlib.Core.Path.{_≡_, refl, sym, ap, _∙_}
 use mathlib.Core.Bool.{Bool, true, false, _||_}
-use mathlib.Core.List.{List, [], _∷_, _++_, map}
-use Prim.Native.Nat.{ℕ, zero, suc}
+use mathlib.Core.List.{List, [], _∷_, _++_, map, append-nil}
+use Prim.Native.Nat.{ℕ, zero, suc, _<_, _^_}
+use native.Mathlib.Nat.{add-zero, le-refl, mod-eq-of-lt}
 use native.Mathlib.Omega.{arith}
-use lib.IntN.{ℤ, natAbs, _+ℤ_}
+use lib.IntN.{ℤ, pos, natAbs, _+ℤ_}
+use lib.ListN.{length, getD, length-map}
+use lib.Seq.{take-all}
+use Rattle.laws.specs.Digits.{digits, digits-length}
 use Rattle.laws.specs.Integer.{ints, abs-parts, add-parts}
 use Rattle.laws.specs.Select.{select, any}
 use Rattle.laws.specs.Test.{if_then_else_}
-use Rattle.rules.specs.Cone.{linearTable}
+use Rattle.rules.specs.Composition.{assigned}
+use Rattle.rules.specs.Cone.{rowFrom, linearTable}
 use Rattle.rules.specs.Network.{Term}
-use Rattle.rules.specs.NetworkText.{sources}
+use Rattle.rules.specs.NetworkText.{sources, allDifferent}
+use Rattle.rules.specs.Scale.{norm}
 use Rattle.rules.specs.Store.{isUsed}
-use Rattle.theorems.specs.ConeValues.{weigh, weigh-unused}
-use Rattle.theorems.specs.Terms.{unused-zero}
+use Rattle.theorems.specs.ConeValues.{weigh, weigh-unused, value-at}
+use Rattle.theorems.specs.LinearTables.{lower, total}
+use Rattle.theorems.specs.SourceRows.{rowFrom-digits, rowOver, own-digits, bits-digits, bits-assigned}
+use Rattle.theorems.specs.Terms.{unused-zero, coefs, coefs-long}
 
 weigh-rest : (c : ℤ) (cs ds : List ℤ) (b : ℕ) (s t : List ℕ) → weigh cs s ≡ weigh ds t → weigh (c ∷ cs) (b ∷ s) ≡ weigh (c ∷ ds) (b ∷ t)
 unfolding weigh
 weigh-rest c cs ds zero s t e = e
 weigh-rest c cs ds (suc b) s t e = ap (λ v. c +ℤ v) e
 
--- The coefficients of some terms.
-unfoldable pub coefs : List Term → List ℤ
-coefs = map (λ (t : Term). t .coef)
-
 -- the used terms alone give the same sum
 pub weigh-selected : (f : ℕ → ℕ) (ts : List Term) → weigh (coefs (select isUsed ts)) (map f (sources (select isUsed ts))) ≡ weigh (coefs ts) (map f (sources ts))
-unfolding coefs select sources
+unfolding select sources
 weigh-selected f [] = refl
 weigh-selected f (t ∷ ts) = by (isUsed t) refl (weigh-selected f ts)
   where
@@ -69,7 +73,7 @@ either-same true = refl
 either-same false = refl
 
 pub any-selected : (p : ℤ → Bool) (ts : List Term) → any p (linearTable (coefs (select isUsed ts))) ≡ any p (linearTable (coefs ts))
-unfolding coefs select
+unfolding select
 any-selected p [] = refl
 any-selected p (t ∷ ts) = by (isUsed t) refl (any-selected p ts) (any-selected (λ v. p (t .coef +ℤ v)) ts)
   where
@@ -82,3 +86,49 @@ any-selected p (t ∷ ts) = by (isUsed t) refl (any-selected p ts) (any-selected
     by true e r s = any-values p (t .coef) (coefs used) ∙ rw (r, s) (sym (any-values p (t .coef) (coefs ts)))
     by false e r s =
         r ∙ sym (any-values p (t .coef) (coefs ts) ∙ rw (any-zero p (t .coef) (unused-zero t e) (linearTable (coefs ts))) (either-same (any p (linearTable (coefs ts)))))
+
+-- ---- They add nothing to the span, on either side of 0, nor to the norm.
+
+module _ (F : List ℤ → ℕ) (none : (c : ℤ) (cs : List ℤ) → natAbs c ≡ 0 → F (c ∷ cs) ≡ F cs) (same : (c : ℤ) (cs ds : List ℤ) → F cs ≡ F ds → F (c ∷ cs) ≡ F (c ∷ ds)) where
+  used-same : (ts : List Term) → F (coefs (select isUsed ts)) ≡ F (coefs ts)
+  unfolding select
+  used-same [] = refl
+  used-same (t ∷ ts) = by (isUsed t) refl (used-same ts)
+    where
+      by : (u : Bool) → isUsed t ≡ u → F (coefs (select isUsed ts)) ≡ F (coefs ts) → F (coefs (if u then t ∷ select isUsed ts else select isUsed ts)) ≡ F (t .coef ∷ coefs ts)
+      by true e r = same (t .coef) (coefs (select isUsed ts)) (coefs ts) r
+      by false e r = r ∙ sym (none (t .coef) (coefs ts) (unused-zero t e))
+
+pub total-used : (ts : List Term) → total (coefs (select isUsed ts)) ≡ total (coefs ts)
+unfolding total
+total-used = used-same total (λ c cs z. omega arith) (λ c cs ds e. omega arith)
+
+pub lower-used : (ts : List Term) → lower (coefs (select isUsed ts)) ≡ lower (coefs ts)
+unfolding lower
+lower-used = used-same lower (λ c cs z. omega (arith, abs-parts c)) (λ c cs ds e. omega arith)
+
+pub norm-used : (ts : List Term) → norm (coefs (select isUsed ts)) ≡ norm (coefs ts)
+unfolding norm
+norm-used = used-same norm (λ c cs z. rw z (omega arith)) (λ c cs ds e. omega arith)
+
+-- ---- The value at a row over the used sources is the value at that row of all sources.
+
+module _ (ts : List Term) (different : allDifferent (sources (select isUsed ts)) ≡ true) (i : ℕ) (h : i < 2 ^ length (sources (select isUsed ts))) where
+  pub used-value : getD (linearTable (coefs ts)) (rowOver (sources (select isUsed ts)) (sources ts) i) (pos 0) ≡ getD (linearTable (coefs (select isUsed ts))) i (pos 0)
+  unfolding rowOver
+  used-value =
+      let U = sources (select isUsed ts) in
+      value-at (coefs ts) (map (assigned U (digits (length U) i)) (sources ts)) (length-map (sources ts) (assigned U (digits (length U) i)) ∙ coefs-long ts) (bits-assigned U i (sources ts))
+      ∙ sym (weigh-selected (assigned U (digits (length U) i)) ts)
+      ∙ ap (weigh (coefs (select isUsed ts))) own
+      ∙ sym (value-at (coefs (select isUsed ts)) (digits (length U) i) (digits-length (length U) i ∙ coefs-long (select isUsed ts)) (bits-digits (length U) i))
+      ∙ ap (λ r. getD (linearTable (coefs (select isUsed ts))) r (pos 0)) row
+    where
+      own : map (assigned (sources (select isUsed ts)) (digits (length (sources (select isUsed ts))) i)) (sources (select isUsed ts)) ≡ digits (length (sources (select isUsed ts))) i
+      own =
+          let U = sources (select isUsed ts) in
+          rw append-nil at (own-digits U [] (digits (length U) i) different (digits-length (length U) i ∙ sym (add-zero (length U))))
+          ∙ take-all (length U) (digits (length U) i) (rw (digits-length (length U) i) (le-refl _))
+
+      row : rowFrom 0 (digits (length (sources (select isUsed ts))) i) ≡ i
+      row = rowFrom-digits 0 (length (sources (select isUsed ts))) i ∙ rw (mod-eq-of-lt h) (omega arith)

@@ -12,7 +12,8 @@ use Rattle.laws.specs.Front.{front, front-zero}
 use Rattle.laws.specs.Over.{front-over}
 use Rattle.rules.specs.Composition.{gateTruth}
 use Rattle.cone.specs.declared.Cone.{Cone}
-use Rattle.support.specs.Rows.{rowOver, rowOver-zero, zeros}
+use Rattle.theorems.specs.SourceRows.{rowOver}
+use Rattle.support.specs.Rows.{rowOver-zero, zeros}
 use Rattle.cone.specs.View.{coneOf}
 use Rattle.compose.specs.Compose.{gateTruth-length}
 use Rattle.compose.proofs.composed_truth.Statement.{statement}

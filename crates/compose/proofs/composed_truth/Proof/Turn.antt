@@ -10,7 +10,8 @@ use lib.Pow.{shr-lt}
 use Rattle.laws.specs.Front.{front, front-step}
 use Rattle.rules.specs.Composition.{unionSupport, gateTruth}
 use Rattle.cone.specs.declared.Cone.{Cone}
-use Rattle.support.specs.Rows.{rowOver, rowOver-lt, toggleMask, next-row}
+use Rattle.theorems.specs.SourceRows.{rowOver, rowOver-lt}
+use Rattle.support.specs.Rows.{toggleMask, next-row}
 use Rattle.cone.specs.View.{coneOf, IsCone, view-sources, view-rows, truth-bit}
 use Rattle.compose.specs.Compose.{gateTruth-at, gateTruth-length}
 use Rattle.support.specs.Support.{union-length}

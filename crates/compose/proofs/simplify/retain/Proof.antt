@@ -12,13 +12,12 @@ use lib.Seq.{take-suc-set}
 use mir.Syntax.{w64}
 use mir.Val.{toZ, ofZ}
 use Rattle.laws.specs.Integer.{read-back, bits-abs}
-use Rattle.laws.specs.Select.{select}
+use Rattle.laws.specs.Select.{select, select-le}
 use Rattle.rules.specs.NetworkText.{sources}
 use Rattle.rules.specs.Store.{isUsed}
 use Rattle.compose.specs.declared.simplify.Retained.{Retained}
-use Rattle.theorems.specs.ZeroSources.{coefs}
-use Rattle.compose.specs.Simplify.{IsRetained, usedFrom, used-all, used-on, unused-on, used-end, select-le}
-use Rattle.theorems.specs.Terms.{terms-length, termsOver}
+use Rattle.compose.specs.Simplify.{IsRetained, usedFrom, used-all, used-on, unused-on, used-end}
+use Rattle.theorems.specs.Terms.{coefs, terms-length, termsOver}
 use Rattle.compose.proofs.simplify.retain.Statement.{statement}
 use Rattle.compose.proofs.simplify.retain.Tie as tie
 
@@ -44,7 +43,7 @@ module _ (cs : List ℤ) (ns : List ℕ) (i : ℕ) (same : length cs ≡ length 
 
   added : length ns ≤ 11 → 0 < natAbs (getD cs i (pos 0)) → (z : ℤ) → z ≡ getD cs i (pos 0)
       → Kept cs ns (i + 1) (record { n = r .n + 1; support = set (r .support) (r .n) (getD ns i 0); coefs = set (r .coefs) (r .n) z })
-  unfolding sources coefs
+  unfolding sources
   added l u z e =
       let m = used-on cs ns i same h u in
       let b = has-room l u in
@@ -61,7 +60,7 @@ module _ (cs : List ℤ) (ns : List ℕ) (i : ℕ) (same : length cs ≡ length 
       record { room = k .room; count = rw m at (k .count); nodes = rw m at (k .nodes); values = rw m at (k .values) }
 
 done : (cs : List ℤ) (ns : List ℕ) (i : ℕ) (r : Retained) → length cs ≡ length ns → length ns ≤ i → Kept cs ns i r → IsRetained (select isUsed (termsOver cs ns)) r
-unfolding sources coefs
+unfolding sources
 done cs ns i r e h k =
     let m = used-end cs ns i e h in
     let a = used-all cs ns in

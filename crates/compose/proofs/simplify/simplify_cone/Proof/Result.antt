@@ -2,30 +2,31 @@
 use mathlib.Core.Path.{_≡_, sym, ap, ap₂, _∙_}
 use mathlib.Core.Bool.{true, false}
 use mathlib.Core.List.{List, map}
-use Prim.Native.Nat.{ℕ, _+_, _≤_, _<_, _^_}
+use Prim.Native.Nat.{ℕ, _≤_, _<_, _^_}
 use native.Mathlib.Omega.{arith}
-use lib.IntN.{ℤ, pos, negℤ, natAbs, _-ℤ_}
+use lib.IntN.{ℤ, pos, natAbs, _-ℤ_}
 use lib.ListN.{length, getD, take, length-map}
 use lib.Seq.{ext-getD}
-use Rattle.laws.specs.Select.{select, any}
+use Rattle.laws.specs.Select.{select, select-le, any}
 use Rattle.rules.specs.Cone as rules
 use Rattle.rules.specs.Cone.{linearTable}
 use Rattle.rules.specs.Composition.{simplifyCone}
 use Rattle.rules.specs.Network.{Term}
 use Rattle.rules.specs.NetworkText.{sources, allDifferent}
 use Rattle.rules.specs.Span.{least, span}
-use Rattle.rules.specs.Store.{isUsed}
+use Rattle.rules.specs.Store.{terms, isUsed}
 use Rattle.theorems.specs.KnownRows.{hits, isAt}
-use Rattle.theorems.specs.ZeroSources.{coefs, any-selected}
+use Rattle.theorems.specs.SimplifiedCones.{rowIn, rowIn-lt, simplified-total, simplified-least, simplified-span, simplified-value, simplified-truth}
+use Rattle.theorems.specs.ZeroSources.{any-selected}
+use Rattle.theorems.specs.ConeTruths.{overRows-length}
 use Rattle.laws.specs.Lists.{map-at}
 use Rattle.theorems.specs.ConeValues.{linearTable-length}
 use Rattle.cone.specs.declared.Cone.{Cone}
 use Rattle.compose.specs.declared.simplify.Retained.{Retained}
-use Rattle.support.specs.Rows.{rowOver, rowOver-lt}
-use Rattle.theorems.specs.LinearTables.{least-table, lower, span-table, total}
-use Rattle.cone.specs.View.{coneOf, IsCone, is-cone, truthAt, entryAt, narrow-total, view-sources, view-coefs, truth-entry, rows-are, truth-bit, unknown}
-use Rattle.compose.specs.Simplify.{IsRetained, truthOver, truthOver-length, truthOver-at, select-le, coefs-of, coefs-long, different-sources, near-sources, total-used, lower-used, used-value, simplified}
-use Rattle.theorems.specs.Terms.{sources-of, terms-length, termsOver}
+use Rattle.theorems.specs.LinearTables.{total}
+use Rattle.cone.specs.View.{coneOf, IsCone, is-cone, truthAt, entryAt, narrow-total, view-sources, view-coefs, truth-entry, truth-bit, unknown}
+use Rattle.compose.specs.Simplify.{IsRetained, truthOver, different-sources, near-sources, simplified}
+use Rattle.theorems.specs.Terms.{coefs, coefs-of, coefs-long, sources-of, terms-length, termsOver}
 
 -- the terms that are used
 abbrev pub usedOf : rules.Cone → List Term
@@ -64,29 +65,33 @@ module _ (k : Cone) (is : IsCone k) (ls : length (k .support) ≡ 11) (lc : leng
 
   -- the kept coefficients have the same least value and span
   same-low : least (linearTable (coefs used)) ≡ least (rules.values (coneOf k))
-  unfolding used all rules.values
-  same-low = least-table (coefs used) ∙ ap (λ n. negℤ (pos n)) (lower-used all ∙ ap lower coefs-are) ∙ sym (least-table (coneOf k .coefficients))
+  unfolding used rules.values simplifyCone terms termsOver
+  same-low = simplified-least (coneOf k) long
 
   same-total : total (coefs used) ≡ total (coneOf k .coefficients)
-  unfolding used all
-  same-total = total-used all ∙ ap total coefs-are
+  unfolding used simplifyCone terms termsOver
+  same-total = simplified-total (coneOf k) long
 
   same-span : span (linearTable (coefs used)) ≡ span (rules.values (coneOf k))
-  unfolding rules.values
-  same-span = span-table (coefs used) ∙ ap (λ n. n + 1) same-total ∙ sym (span-table (coneOf k .coefficients))
+  unfolding used rules.coneSpan rules.values simplifyCone terms termsOver
+  same-span = simplified-span (coneOf k) long
 
   -- and at each row the value, and so the truth, of the cone's row
   module _ (i : ℕ) (h : i < 2 ^ length (sources used)) where
     row : ℕ
-    row = rowOver (sources used) (coneOf k .support) i
+    row = rowIn (coneOf k) i
 
     row-in : row < length (rules.values (coneOf k))
-    unfolding row
-    row-in = rw (rows-are k, long) (rowOver-lt (sources used) (coneOf k .support) i)
+    unfolding row used simplifyCone terms termsOver
+    row-in = rowIn-lt (coneOf k) long i h
 
     value-of : getD (rules.values (coneOf k)) row (pos 0) ≡ getD (linearTable (coefs used)) i (pos 0)
-    unfolding row used all rules.values
-    value-of = rw (sources-are, coefs-are) at (used-value all different i h)
+    unfolding row used rules.values simplifyCone terms termsOver
+    value-of = simplified-value (coneOf k) long i h different
+
+    row-truth : getD (truthOver (sources used) (coneOf k)) i 0 ≡ getD (coneOf k .truth) row 0
+    unfolding row used truthOver simplifyCone terms termsOver
+    row-truth = simplified-truth (coneOf k) long i h
 
     truth-of : getD (map (truthAt (coefs used) (k .known)) (linearTable (coefs used))) i 0 ≡ getD (truthOver (sources used) (coneOf k)) i 0
     unfolding truthAt entryAt row
@@ -94,16 +99,16 @@ module _ (k : Cone) (is : IsCone k) (ls : length (k .support) ≡ 11) (lc : leng
         map-at (truthAt (coefs used) (k .known)) (linearTable (coefs used)) i (pos 0) 0 (rw (linearTable-length (coefs used), ← coefs-long used) h)
         ∙ ap₂ (λ v l. getD (k .known) (natAbs (v -ℤ l)) 0) (sym value-of) same-low
         ∙ sym (truth-entry k row row-in)
-        ∙ sym (truthOver-at (sources used) (coneOf k) i h)
+        ∙ sym row-truth
 
     truth-small : getD (truthOver (sources used) (coneOf k)) i 0 ≤ 1
-    truth-small = rw (truthOver-at (sources used) (coneOf k) i h) (let b = truth-bit k is (rowOver (sources used) (coneOf k .support) i) in omega arith)
+    truth-small = rw row-truth (let b = truth-bit k is row in omega arith)
 
   truths : map (truthAt (coefs used) (k .known)) (linearTable (coefs used)) ≡ truthOver (sources used) (coneOf k)
   truths =
       let e : length (map (truthAt (coefs used) (k .known)) (linearTable (coefs used))) ≡ 2 ^ length (sources used) =
       (length-map (linearTable (coefs used)) (truthAt (coefs used) (k .known)) ∙ linearTable-length (coefs used) ∙ ap (λ n. 2 ^ n) (sym (coefs-long used))) in
-      ext-getD 0 _ _ (e ∙ sym (truthOver-length (sources used) (coneOf k))) (λ i h. truth-of i (rw e at h))
+      ext-getD 0 _ _ (e ∙ sym (unfold truthOver in (overRows-length (sources used) (λ bit. rules.coneBit bit (coneOf k))))) (λ i h. truth-of i (rw e at h))
 
   abbrev built : Cone
   built = record { n = r .n; support = r .support; coefs = r .coefs; known = k .known }
