@@ -3,7 +3,7 @@ use mathlib.Core.Path.{_≡_, refl, sym, ap, ap₂, subst, _∙_}
 use mathlib.Core.Bool.{Bool, true, false, _||_, not}
 use mathlib.Core.List.{List, [], _∷_}
 use mathlib.Core.Option.{Option·map}
-use Prim.Native.Nat.{ℕ, zero, suc, _+_, _*_, _<_, _≤_}
+use Prim.Native.Nat.{ℕ, zero, suc, _<_, _≤_}
 use native.Mathlib.Nat.{not-suc-le-zero, le-of-suc-le-suc}
 use native.Mathlib.Omega.{arith}
 use borrow.Author.Tests.{le-ltb, leb-false, not-false}
@@ -21,7 +21,7 @@ use Rattle.rules.specs.Runs.{RunOutcome, Numbered, NotBits, NoRoom, BreakOff, r
 use Rattle.rules.specs.Store.{termsOf}
 use Rattle.bits.specs.Bits.{bad-bits, short-buffer}
 use Rattle.nodes.specs.View.{nodeOf, storeOf, term, at-store, store-length, IsStore}
-use Rattle.network.specs.View.{outputsOf, networkOf, readingOf, Sound, IsSignal, Holds, Held, SignalsIn}
+use Rattle.network.specs.View.{outputsOf, networkOf, readingOf, Sound, Holds, Held, SignalsIn}
 use Rattle.network_judge.specs.declared.Header.{Header}
 use Rattle.network.specs.declared.Reading.{Reading}
 use Rattle.network.specs.declared.Reading.the-variants.{Good, Refused}

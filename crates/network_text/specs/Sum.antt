@@ -7,7 +7,7 @@ use mathlib.Core.Option.{Option, none, some, Option·some-injective}
 use Prim.Native.Nat.{ℕ, _+_, _-_, _<_, _≤_, min}
 use native.Mathlib.Omega.{arith}
 use borrow.Author.Tests.{eq-eqb, ne-eqb, le-leb, lt-leb}
-use lib.Dec.{leb, eqb, leb→le}
+use lib.Dec.{eqb, leb→le}
 use lib.IntN.{ℤ, pos, natAbs}
 use lib.ListN.{length, drop, length-drop}
 use mir.Syntax.{w64}
