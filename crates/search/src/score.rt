@@ -30,7 +30,7 @@ pub fn no_score() -> Score
     }
 }
 
-// Score::ordering: the first number in which they differ decides.
+// Score::ordering with norm before energy (document 02, S-3): the first number in which they differ decides.
 fn is_less(s: Score, t: Score) -> bool
     ensures { λ r. ⌜ r ≡ less (scoreList s) (scoreList t) ⌝ }
 {
