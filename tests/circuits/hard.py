@@ -27,7 +27,7 @@ FOUND = (
     ("long_chain", (781, 946)),
     ("overlap", (528,)),
     ("sources", (2823,)),
-    # The norm before the energy.
+    # The energy before the norm.
     ("eleven", (255, 3743)),
     ("overlap", (1649, 2674, 2810)),
     ("gaps", (419, 2289)),

@@ -38,6 +38,11 @@ WORKED = [
         gate_on_two("(fbs 2 3 10 none span one)", "0110"),
         job("(net 2 3 none)", "(in a)", "(in b)", "(lin 1 (1 0) (-1 1))", "(boot 2 101)", "(out y (n 3))"),
     ),
+    (
+        "AND of a parity and its first input: the norm decides before the energy (document 02, S-3)",
+        job("(fbs 5 6 10 none span one)", "(in a)", "(in b)", "(in c)", "(gate g 0110 (n 0) (n 1))", "(gate h 0110 (n 3) (n 2))", "(gate i 0001 (n 4) (n 0))", "(out y (n 5))"),
+        job("(net 5 6 none)", "(in a)", "(in b)", "(in c)", "(lin 4 (1 0) (-2 1) (-2 2))", "(boot 3 010001)", "(out y (n 4))"),
+    ),
     ("AND, P 2, M 4, naive", gate_on_two("(fbs 2 4 10 none naive one)", "0001"), refused(9, 4)),
     ("AND, P = M = 4, basic", gate_on_two("(fbs 4 4 10 none basic one)", "0001"), refused(9, 4)),
     ("AND, P = M = 16, basic", gate_on_two("(fbs 16 16 10 none basic many)", "0001"), refused(9, 4)),

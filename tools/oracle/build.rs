@@ -1,6 +1,6 @@
 //! Copies the Rust mapper into OUT_DIR with small edits, three times: `plain` for
-//! the oracle, `reach` with counters added, `cones` with an entry to its cones. Its place is FBS_MAP_SRC, the directory
-//! that holds `src/mapper.rs`, or ../../../shared/docs/src from here.
+//! the oracle, `reach` with counters added, `cones` with an entry to its cones; all with document 02's order of ties.
+//! Its place is FBS_MAP_SRC, the directory that holds `src/mapper.rs`, or ../../../shared/docs/src from here.
 //! An edit whose text is not found exactly as often as expected stops the build.
 
 use std::env;
@@ -15,7 +15,21 @@ struct Edit {
     around: &'static [(&'static str, &'static str)],
 }
 
+/// In `file`, one text with another right behind it, once: they change places.
+struct Exchange {
+    file: &'static str,
+    first: &'static str,
+    second: &'static str,
+}
+
 const FILES: [&str; 3] = ["circuit.rs", "lut.rs", "mapper.rs"];
+
+/// Document 02, S-3, in `Score::ordering`: the smaller norm before the smaller energy.
+const ORDER: Exchange = Exchange {
+    file: "mapper.rs",
+    first: "            .then_with(|| self.energy.cmp(&other.energy))\n",
+    second: "            .then_with(|| self.norm2.cmp(&other.norm2))\n",
+};
 
 /// Document 01's cap of T + 1 merged sources, and the gate that is being mapped.
 const PLAIN: &[Edit] = &[
@@ -143,7 +157,7 @@ const REACH: &[Edit] = &[
         file: "mapper.rs",
         expected: "                // A larger span can still win by reuse until the best reuse cost is zero.\n",
         around: &[(
-            "                crate::probe::scored(score.reuse_cost, (score.span, score.energy, score.norm2, score.a, score.b));\n",
+            "                crate::probe::scored(score.reuse_cost, (score.span, score.norm2, score.energy, score.a, score.b));\n",
             "",
         )],
     },
@@ -224,18 +238,22 @@ const CONES: &[Edit] = &[Edit {
     )],
 }];
 
+/// The text cut at each `expected`, which must stand there `times` times.
+fn pieces<'a>(file: &str, text: &'a str, expected: &str, times: usize) -> Vec<&'a str> {
+    let pieces: Vec<&str> = text.split(expected).collect();
+    let found = pieces.len() - 1;
+    if found != times {
+        panic!(
+            "the Rust is not the one this oracle was written for: in {file} this text stands {found} times, expected {times}:\n{expected}"
+        );
+    }
+    pieces
+}
+
 fn edited(file: &str, text: &str, edits: &[Edit]) -> String {
     let mut text = text.to_owned();
     for edit in edits.iter().filter(|edit| edit.file == file) {
-        let parts: Vec<&str> = text.split(edit.expected).collect();
-        let found = parts.len() - 1;
-        if found != edit.around.len() {
-            panic!(
-                "the Rust is not the one this oracle was written for: in {file} this text stands {found} times, expected {}:\n{}",
-                edit.around.len(),
-                edit.expected
-            );
-        }
+        let parts = pieces(file, &text, edit.expected, edit.around.len());
         let mut result = parts[0].to_owned();
         for (part, (before, after)) in parts[1..].iter().zip(edit.around) {
             result.push_str(before);
@@ -246,6 +264,14 @@ fn edited(file: &str, text: &str, edits: &[Edit]) -> String {
         text = result;
     }
     text
+}
+
+fn exchanged(file: &str, text: &str, exchange: &Exchange) -> String {
+    if exchange.file != file {
+        return text.to_owned();
+    }
+    let Exchange { first, second, .. } = exchange;
+    pieces(file, text, &format!("{first}{second}"), 1).join(&format!("{second}{first}"))
 }
 
 fn place() -> PathBuf {
@@ -283,12 +309,13 @@ fn main() {
         for file in FILES {
             let path = place.join("src").join(file);
             println!("cargo:rerun-if-changed={}", path.display());
-            let mut text = fs::read_to_string(&path).unwrap_or_else(|error| {
+            let text = fs::read_to_string(&path).unwrap_or_else(|error| {
                 panic!(
                     "cannot read the Rust mapper at {}: {error}; set FBS_MAP_SRC to the directory that holds src/mapper.rs",
                     path.display()
                 )
             });
+            let mut text = exchanged(file, &text, &ORDER);
             for edits in sets {
                 text = edited(file, &text, edits);
             }

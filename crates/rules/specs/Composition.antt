@@ -80,9 +80,9 @@ mergedCoefficients support left right p =
 unfoldable pub reuseCost : Settings → List LutNode → Cone → ℕ
 reuseCost s nodes c = let r = hasBootstrap nodes (linearOf s c) in if s .many && r then 0 else 1
 
--- Score::ordering: reuse, span, energy, norm, a, b.
+-- Score::ordering with document 02's exchange (S-3): reuse, span, norm, energy, a, b.
 unfoldable pub score : Settings → List LutNode → Scales → Cone → List ℤ
-score s nodes p c = pos (reuseCost s nodes c) ∷ pos (coneSpan c) ∷ pos (energy (values c)) ∷ pos (norm2 c) ∷ p .a ∷ p .b ∷ []
+score s nodes p c = pos (reuseCost s nodes c) ∷ pos (coneSpan c) ∷ pos (norm2 c) ∷ pos (energy (values c)) ∷ p .a ∷ p .b ∷ []
 
 -- evaluate: the candidate of a pair, if it fits.
 unfoldable pub evaluate : Settings → List LutNode → Scales → Cone → List Candidate

@@ -16,12 +16,12 @@ use Rattle.laws.specs.Test.{if_then_else_, decide}
 use Rattle.rules.specs.Cone.{less}
 use Rattle.scale_pair.specs.declared.score.Score.{Score}
 
--- reuse, span, energy, norm, a, b
+-- reuse, span, norm, energy, a, b
 unfoldable pub scoreList : Score → List ℤ
-scoreList s = pos (s .reuse) ∷ pos (s .span) ∷ s .energy ∷ pos (s .norm) ∷ s .a ∷ s .b ∷ []
+scoreList s = pos (s .reuse) ∷ pos (s .span) ∷ pos (s .norm) ∷ s .energy ∷ s .a ∷ s .b ∷ []
 
 unfoldable pub noScore : Score
-noScore = record { found = false; reuse = 1; span = 0; energy = pos 0; norm = 0; a = pos 0; b = pos 0; known = replicate 32 2 }
+noScore = record { found = false; reuse = 1; span = 0; norm = 0; energy = pos 0; a = pos 0; b = pos 0; known = replicate 32 2 }
 
 unfoldable pub betterScore : Score → Score → Score
 betterScore best s = if best .found then (if less (scoreList s) (scoreList best) then s else best) else s

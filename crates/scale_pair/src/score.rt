@@ -8,8 +8,8 @@ pub struct Score {
     pub found: bool,
     pub reuse: usize,
     pub span: usize,
-    pub energy: i64,
     pub norm: u64,
+    pub energy: i64,
     pub a: i64,
     pub b: i64,
     pub known: [u8; 32],
@@ -22,15 +22,15 @@ pub fn no_score() -> Score
         found: false,
         reuse: 1,
         span: 0,
-        energy: 0,
         norm: 0,
+        energy: 0,
         a: 0,
         b: 0,
         known: [2u8; 32],
     }
 }
 
-// Score::ordering: the first number in which they differ decides.
+// Score::ordering with norm before energy (document 02, S-3): the first number in which they differ decides.
 fn is_less(s: Score, t: Score) -> bool
     ensures { λ r. ⌜ r ≡ less (scoreList s) (scoreList t) ⌝ }
 {
@@ -40,11 +40,11 @@ fn is_less(s: Score, t: Score) -> bool
     if s.span != t.span {
         return s.span < t.span;
     }
-    if s.energy != t.energy {
-        return s.energy < t.energy;
-    }
     if s.norm != t.norm {
         return s.norm < t.norm;
+    }
+    if s.energy != t.energy {
+        return s.energy < t.energy;
     }
     if s.a != t.a {
         return s.a < t.a;

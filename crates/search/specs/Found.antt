@@ -169,7 +169,7 @@ module _ (s : Settings) (nodes : List LutNode) (support : List ℕ) (left right 
     unfolding score scoreList scoreOf reuseOf reuseCost linearOf values terms coneSpan norm2 coneBy measured weighed merged scales
     one-is known =
         ap₂
-        (λ (e : ℤ) (k : Cone). record { score = pos (reuseCost s nodes C) ∷ pos (span all) ∷ e ∷ pos (norm cs) ∷ a ∷ b ∷ []; cone = k })
+        (λ (e : ℤ) (k : Cone). record { score = pos (reuseCost s nodes C) ∷ pos (span all) ∷ pos (norm cs) ∷ e ∷ a ∷ b ∷ []; cone = k })
         energy-is cone-is
 
     found-new : (known : List ℕ) → span all ≤ s .m → knownEntries all truth ≡ some (take (span all) known) → Found s support left right truth (scoreOf known-by c known)

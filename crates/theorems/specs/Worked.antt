@@ -1,4 +1,5 @@
--- Document 01's ★ cases ("Reckoned by hand") and two at the bounds of document 02's data sheet: one table, one proof over it.
+-- Document 01's ★ cases ("Reckoned by hand") under document 02's order of ties, one whose answer that order moved, and two at the
+-- bounds of the data sheet: one table, one proof over it.
 use mathlib.Core.Path.{_≡_, refl}
 use mathlib.Core.Bool.{false}
 use mathlib.Core.List.{List, [], _∷_, map}
@@ -13,7 +14,7 @@ use Rattle.rules.specs.declared.Settings.{Settings}
 use Rattle.rules.specs.Builder.{fromTable, fromKnown, builder}
 use Rattle.rules.specs.Composition.{unionSupport, gateTruth, Scales, scales, mergedCoefficients, evaluate}
 use Rattle.rules.specs.Computed.Computing.{computing}
-use Rattle.rules.specs.Cone.{Candidate, identity}
+use Rattle.rules.specs.Cone.{Cone, Candidate, identity}
 use Rattle.rules.specs.Form.{bytes as bytesOf}
 use Rattle.rules.specs.Mapper.{mapper}
 use Rattle.rules.specs.Outcome.{written, refused, Outcome, outcome}
@@ -23,10 +24,10 @@ pub data Question : Type 0 where
   building : ℕ → ℕ → List ℕ → List ℕ → Question
   -- a circuit's text for the mapper
   mapping : String → Question
-  -- P and M, the answers of a gate on two inputs, and a scale pair for them
-  composing : ℕ → ℕ → List ℕ → ℤ → ℤ → Question
+  -- P and M, two cones, the answers of a gate on them, and a scale pair for them
+  composing : ℕ → ℕ → Cone → Cone → List ℕ → ℤ → ℤ → Question
 
--- The answer with its buffer, or the score of the pair's candidate if it fits: reuse, span, energy, norm, a, b.
+-- The answer with its buffer, or the score of the pair's candidate if it fits: reuse, span, norm, energy, a, b.
 pub data Reply : Type 0 where
   answers : Outcome → Reply
   scores : List (List ℤ) → Reply
@@ -43,18 +44,22 @@ bytes b = answers (outcome (written (length b)) (over b buffer))
 abbrev refusal : ℕ → ℕ → Reply
 refusal k line = answers (outcome (refused k line) buffer)
 
-unfoldable pub scoresOf : ℕ → ℕ → List ℕ → Scales → List (List ℤ)
-scoresOf P M gate p =
+unfoldable pub scoresOf : ℕ → ℕ → Cone → Cone → List ℕ → Scales → List (List ℤ)
+scoresOf P M left right gate p =
     let s : Settings = record { p = P; m = M; t = 10; norm = Unlimited; policy = Span; many = false } in
-    let support = unionSupport (0 ∷ []) (1 ∷ []) in
-    let coefficients = mergedCoefficients support (identity 0) (identity 1) p in
-    let truth = gateTruth support (identity 0) (identity 1) gate in
+    let support = unionSupport (left .support) (right .support) in
+    let coefficients = mergedCoefficients support left right p in
+    let truth = gateTruth support left right gate in
     map (λ (d : Candidate). d .score) (evaluate s [] p (record { support = support; coefficients = coefficients; truth = truth }))
 
 unfoldable pub reply : Question → Reply
 reply (building P M values truths) = answers (builder P M (map pos values) truths buffer)
 reply (mapping circuit) = answers (mapper (bytesOf circuit) buffer)
-reply (composing P M gate a b) = scores (scoresOf P M gate (scales a b))
+reply (composing P M left right gate a b) = scores (scoresOf P M left right gate (scales a b))
+
+-- The parity of three inputs as a - b - c.
+unfoldable pub parity : Cone
+parity = record { support = 0 ∷ 1 ∷ 2 ∷ []; coefficients = pos 1 ∷ negsuc 0 ∷ negsuc 0 ∷ []; truth = 0 ∷ 1 ∷ 1 ∷ 0 ∷ 1 ∷ 0 ∷ 0 ∷ 1 ∷ [] }
 
 pub record Case : Type 0 where
   pub asks : Question
@@ -72,11 +77,19 @@ cases =
     ∷ (building 3 6 (0 ∷ 3 ∷ 5 ∷ []) (0 ∷ 1 ∷ 0 ∷ []) ⇒ bytes (0 ∷ 0 ∷ 1 ∷ 1 ∷ 1 ∷ 0 ∷ []))
     ∷ (building 3 6 (0 ∷ 0 ∷ []) (0 ∷ 1 ∷ []) ⇒ refusal 32 0)
     ∷ (building 2 3 (0 ∷ 3 ∷ []) (0 ∷ 1 ∷ []) ⇒ refusal 31 0)
-    -- XOR: (1, -1) has energy 2 and beats (1, 1) with 6
-    ∷ (composing 2 3 (0 ∷ 1 ∷ 1 ∷ 0 ∷ []) (pos 1) (negsuc 0) ⇒ scores ((pos 1 ∷ pos 3 ∷ pos 2 ∷ pos 2 ∷ pos 1 ∷ negsuc 0 ∷ []) ∷ []))
-    ∷ (composing 2 3 (0 ∷ 1 ∷ 1 ∷ 0 ∷ []) (pos 1) (pos 1) ⇒ scores ((pos 1 ∷ pos 3 ∷ pos 6 ∷ pos 2 ∷ pos 1 ∷ pos 1 ∷ []) ∷ []))
+    -- XOR: both norms are 2; (1, -1) has energy 2 and beats (1, 1) with 6
+    ∷ (composing 2 3 (identity 0) (identity 1) (0 ∷ 1 ∷ 1 ∷ 0 ∷ []) (pos 1) (negsuc 0) ⇒ scores ((pos 1 ∷ pos 3 ∷ pos 2 ∷ pos 2 ∷ pos 1 ∷ negsuc 0 ∷ []) ∷ []))
+    ∷ (composing 2 3 (identity 0) (identity 1) (0 ∷ 1 ∷ 1 ∷ 0 ∷ []) (pos 1) (pos 1) ⇒ scores ((pos 1 ∷ pos 3 ∷ pos 2 ∷ pos 6 ∷ pos 1 ∷ pos 1 ∷ []) ∷ []))
     ∷ (mapping "(fbs 2 3 10 none span one)\n(in a)\n(in b)\n(gate g 0110 (n 0) (n 1))\n(out y (n 2))\n"
     ⇒ bytes (bytesOf "(net 2 3 none)\n(in a)\n(in b)\n(lin 1 (1 0) (-1 1))\n(boot 2 101)\n(out y (n 3))\n"))
+    -- AND of the parity and its first input, which document 02's order moved. Four pairs fit, each of span 6: (2, -1) gives a - 2b - 2c with norm 9 and
+    -- energy 36, and beats (2, -3), a + 2b + 2c with 9 and 68; (1, 2) gives 3a - b - c with 11 and the least energy, 24; (1, -4) gives 3a + b + c with 11 and 72
+    ∷ (composing 5 6 parity (identity 0) (0 ∷ 0 ∷ 0 ∷ 1 ∷ []) (pos 2) (negsuc 0) ⇒ scores ((pos 1 ∷ pos 6 ∷ pos 9 ∷ pos 36 ∷ pos 2 ∷ negsuc 0 ∷ []) ∷ []))
+    ∷ (composing 5 6 parity (identity 0) (0 ∷ 0 ∷ 0 ∷ 1 ∷ []) (pos 2) (negsuc 2) ⇒ scores ((pos 1 ∷ pos 6 ∷ pos 9 ∷ pos 68 ∷ pos 2 ∷ negsuc 2 ∷ []) ∷ []))
+    ∷ (composing 5 6 parity (identity 0) (0 ∷ 0 ∷ 0 ∷ 1 ∷ []) (pos 1) (pos 2) ⇒ scores ((pos 1 ∷ pos 6 ∷ pos 11 ∷ pos 24 ∷ pos 1 ∷ pos 2 ∷ []) ∷ []))
+    ∷ (composing 5 6 parity (identity 0) (0 ∷ 0 ∷ 0 ∷ 1 ∷ []) (pos 1) (negsuc 3) ⇒ scores ((pos 1 ∷ pos 6 ∷ pos 11 ∷ pos 72 ∷ pos 1 ∷ negsuc 3 ∷ []) ∷ []))
+    ∷ (mapping "(fbs 5 6 10 none span one)\n(in a)\n(in b)\n(in c)\n(gate g 0110 (n 0) (n 1))\n(gate h 0110 (n 3) (n 2))\n(gate i 0001 (n 4) (n 0))\n(out y (n 5))\n"
+    ⇒ bytes (bytesOf "(net 5 6 none)\n(in a)\n(in b)\n(in c)\n(lin 4 (1 0) (-2 1) (-2 2))\n(boot 3 010001)\n(out y (n 4))\n"))
     -- AND under Naive, and under Basic with M = P
     ∷ (mapping "(fbs 2 4 10 none naive one)\n(in a)\n(in b)\n(gate g 0001 (n 0) (n 1))\n(out y (n 2))\n" ⇒ refusal 9 4)
     ∷ (mapping "(fbs 4 4 10 none basic one)\n(in a)\n(in b)\n(gate g 0001 (n 0) (n 1))\n(out y (n 2))\n" ⇒ refusal 9 4)
@@ -92,5 +105,5 @@ cases =
     ∷ []
 
 pub worked : map (λ c. reply (c .asks)) cases ≡ map (λ c. c .gives) cases
-unfolding cases reply buffer scoresOf builder fromKnown fromTable computing
+unfolding cases reply buffer parity scoresOf builder fromKnown fromTable computing
 worked = refl

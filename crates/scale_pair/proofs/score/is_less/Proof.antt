@@ -14,33 +14,33 @@ fromB s = s .b ∷ []
 abbrev fromA : Score → List ℤ
 fromA s = s .a ∷ fromB s
 
-abbrev fromNorm : Score → List ℤ
-fromNorm s = pos (s .norm) ∷ fromA s
-
 abbrev fromEnergy : Score → List ℤ
-fromEnergy s = s .energy ∷ fromNorm s
+fromEnergy s = s .energy ∷ fromA s
+
+abbrev fromNorm : Score → List ℤ
+fromNorm s = pos (s .norm) ∷ fromEnergy s
 
 abbrev fromSpan : Score → List ℤ
-fromSpan s = pos (s .span) ∷ fromEnergy s
+fromSpan s = pos (s .span) ∷ fromNorm s
 
 reuse-same : (c : tie.Else1) → less (fromSpan (c .before .before .before .args .s)) (fromSpan (c .before .before .before .args .t)) ≡ less (scoreList (c .before .before .before .args .s)) (scoreList (c .before .before .before .args .t))
 unfolding scoreList
 reuse-same c = less-same-number _ _ _ _ (c .if1 .left)
 
-span-same : (c : tie.Else2) → less (fromEnergy (c .before .before .before .before .before .before .args .s)) (fromEnergy (c .before .before .before .before .before .before .args .t)) ≡ less (scoreList (c .before .before .before .before .before .before .args .s)) (scoreList (c .before .before .before .before .before .before .args .t))
+span-same : (c : tie.Else2) → less (fromNorm (c .before .before .before .before .before .before .args .s)) (fromNorm (c .before .before .before .before .before .before .args .t)) ≡ less (scoreList (c .before .before .before .before .before .before .args .s)) (scoreList (c .before .before .before .before .before .before .args .t))
 span-same c = less-same-number _ _ _ _ (c .if2 .left) ∙ reuse-same (c .before .before .before)
 
-energy-same : (c : tie.Else3) → less (fromNorm (c .before .before .before .before .before .before .before .before .before .before .before .args .s)) (fromNorm (c .before .before .before .before .before .before .before .before .before .before .before .args .t)) ≡ less (scoreList (c .before .before .before .before .before .before .before .before .before .before .before .args .s)) (scoreList (c .before .before .before .before .before .before .before .before .before .before .before .args .t))
-energy-same c =
-    less-same-bits _ _ _ _ (c .before .before .before .struct-told .given .1 .1 .1 .0 .1) (c .before .struct-told2 .given .1 .1 .1 .0 .1) (c .if3 .left) ∙ span-same (c .before .before .before .before .before)
+norm-same : (c : tie.Else3) → less (fromEnergy (c .before .before .before .before .before .before .before .before .before .args .s)) (fromEnergy (c .before .before .before .before .before .before .before .before .before .args .t)) ≡ less (scoreList (c .before .before .before .before .before .before .before .before .before .args .s)) (scoreList (c .before .before .before .before .before .before .before .before .before .args .t))
+norm-same c = less-same-number _ _ _ _ (c .if3 .left) ∙ span-same (c .before .before .before)
 
-norm-same : (c : tie.Else4) → less (fromA (c .before .before .before .before .before .before .before .before .before .before .before .before .before .before .args .s)) (fromA (c .before .before .before .before .before .before .before .before .before .before .before .before .before .before .args .t)) ≡ less (scoreList (c .before .before .before .before .before .before .before .before .before .before .before .before .before .before .args .s)) (scoreList (c .before .before .before .before .before .before .before .before .before .before .before .before .before .before .args .t))
-norm-same c = less-same-number _ _ _ _ (c .if4 .left) ∙ energy-same (c .before .before .before)
+energy-same : (c : tie.Else4) → less (fromA (c .before .before .before .before .before .before .before .before .before .before .before .before .before .before .args .s)) (fromA (c .before .before .before .before .before .before .before .before .before .before .before .before .before .before .args .t)) ≡ less (scoreList (c .before .before .before .before .before .before .before .before .before .before .before .before .before .before .args .s)) (scoreList (c .before .before .before .before .before .before .before .before .before .before .before .before .before .before .args .t))
+energy-same c =
+    less-same-bits _ _ _ _ (c .before .before .before .struct-told .given .1 .1 .1 .1 .0 .1) (c .before .struct-told2 .given .1 .1 .1 .1 .0 .1) (c .if4 .left) ∙ norm-same (c .before .before .before .before .before)
 
 a-same : (c : tie.Else5) → less (fromB (c .before .before .before .before .before .before .before .before .before .before .before .before .before .before .before .before .before .before .before .args .s)) (fromB (c .before .before .before .before .before .before .before .before .before .before .before .before .before .before .before .before .before .before .before .args .t)) ≡ less (scoreList (c .before .before .before .before .before .before .before .before .before .before .before .before .before .before .before .before .before .before .before .args .s)) (scoreList (c .before .before .before .before .before .before .before .before .before .before .before .before .before .before .before .before .before .before .before .args .t))
 a-same c =
     less-same-bits _ _ _ _ (c .before .before .before .struct-told5 .given .1 .1 .1 .1 .1 .0 .1) (c .before .struct-told6 .given .1 .1 .1 .1 .1 .0 .1) (c .if5 .left)
-    ∙ norm-same (c .before .before .before .before .before)
+    ∙ energy-same (c .before .before .before .before .before)
 
 returns : tie.Need-returns
 unfolding scoreList
@@ -50,17 +50,17 @@ returns-2 : tie.Need-returns-2
 returns-2 c = less-differ-number _ _ _ _ (c .before .before .if2 .taken) ∙ reuse-same (c .before .before .before .before .before)
 
 returns-3 : tie.Need-returns-3
-returns-3 c =
-    less-differ-bits _ _ _ _ (c .before .before .struct-told3 .given .1 .1 .1 .0 .1) (c .struct-told4 .given .1 .1 .1 .0 .1) (c .before .before .before .before .if3 .taken)
-    ∙ span-same (c .before .before .before .before .before .before .before .before .before)
+returns-3 c = less-differ-number _ _ _ _ (c .before .before .if3 .taken) ∙ span-same (c .before .before .before .before .before)
 
 returns-4 : tie.Need-returns-4
-returns-4 c = less-differ-number _ _ _ _ (c .before .before .if4 .taken) ∙ energy-same (c .before .before .before .before .before)
+returns-4 c =
+    less-differ-bits _ _ _ _ (c .before .before .struct-told3 .given .1 .1 .1 .1 .0 .1) (c .struct-told4 .given .1 .1 .1 .1 .0 .1) (c .before .before .before .before .if4 .taken)
+    ∙ norm-same (c .before .before .before .before .before .before .before .before .before)
 
 returns-5 : tie.Need-returns-5
 returns-5 c =
     less-differ-bits _ _ _ _ (c .before .before .struct-told7 .given .1 .1 .1 .1 .1 .0 .1) (c .struct-told8 .given .1 .1 .1 .1 .1 .0 .1) (c .before .before .before .before .if5 .taken)
-    ∙ norm-same (c .before .before .before .before .before .before .before .before .before)
+    ∙ energy-same (c .before .before .before .before .before .before .before .before .before)
 
 returns-6 : tie.Need-returns-6
 returns-6 c =
