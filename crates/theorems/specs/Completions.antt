@@ -2,7 +2,7 @@
 use mathlib.Core.Path.{_≡_, refl, sym, ap, ap₂, _∙_, subst}
 use mathlib.Core.Bool.{Bool, true, false, _&&_, _||_}
 use mathlib.Core.List.{List}
-use mathlib.Core.Logic.{_⊎_, inl, inr, ⊎-elim, _≢_, _↔_}
+use mathlib.Core.Logic.{_⊎_, inl, inr, ⊎-elim, _≢_}
 use mathlib.Core.Option.{Option, none, some}
 use Prim.Native.Nat.{ℕ, zero, suc, _+_, _*_, _-_, _<_, _≤_}
 use native.Mathlib.Numerals.{add-one}
@@ -17,7 +17,7 @@ use Rattle.rules.specs.Rotation.{pairSum, rotatable}
 use Rattle.rules.specs.Builder.{Entries, knownOr, filled, against, opposedAt, opposed, completion, completable, entryOf, remains, remainsAt, remainsForAll}
 use Rattle.rules.specs.Runs.{allBits}
 use Rattle.theorems.specs.Bits.{bit-at, all-bits-of}
-use Rattle.theorems.specs.NineCases.{BitOf, Gives, nine-cases}
+use Rattle.theorems.specs.NineCases.{BitOf, nine-cases}
 use Rattle.theorems.specs.RotationRule.{one-sum, sum-one, rotatable-short, rotatable-small, rotatable-long}
 
 -- t has a bit for each entry, the known ones as they are

@@ -1,17 +1,17 @@
 -- The nine cases of a pair of known entries (document 02, S-4): the sums that a line names are exactly those that some bits for the unknowns give.
-use mathlib.Core.Path.{_≡_, refl, sym, ap, subst, _∙_}
+use mathlib.Core.Path.{_≡_, refl, sym, ap, _∙_}
 use mathlib.Core.Bool.{Bool, true, false, _&&_, _||_}
 use mathlib.Core.List.{List, [], _∷_}
 use mathlib.Core.Logic.{⊎-elim, _↔_}
 use Prim.Native.Nat.{ℕ, zero, suc, _+_, _≤_}
 use native.Mathlib.Omega.{arith}
-use borrow.Author.Tests.{eq-eqb, ne-eqb, eqb-true}
+use borrow.Author.Tests.{eq-eqb, eqb-true}
 use lib.Dec.{T, eqb}
 use Rattle.laws.specs.Select.{select, any}
-use Rattle.laws.specs.Test.{if_then_else_, eq-or-ne, T-is, is-T, or-cases, or-by-right, both, both-right}
+use Rattle.laws.specs.Test.{if_then_else_, T-is, is-T, or-cases, or-by-right, both, both-right}
 use Rattle.rules.specs.declared.Entry.{Entry}
 use Rattle.rules.specs.declared.Entry.the-variants.{Zero, One, Unknown}
-use Rattle.rules.specs.Builder.{remaining, remains}
+use Rattle.rules.specs.Builder.{remains}
 use Rattle.rules.specs.Computed.NineCases.{bitsOf, given, computed}
 
 -- A bit that an entry can have: its own, or any where it is unknown.
@@ -52,7 +52,7 @@ module _ (f : ℕ → Bool) where
   at-bit Unknown (suc zero) h e = or-by-right (f 0) (f 1 || false) (or-by-left (f 1) false e)
   at-bit Unknown (suc (suc a)) h e = absurd (omega arith)
 
-pub bit-most : (x : Entry) (a : ℕ) → BitOf x a → a ≤ 1
+bit-most : (x : Entry) (a : ℕ) → BitOf x a → a ≤ 1
 bit-most Zero a is = omega arith
 bit-most One a is = omega arith
 bit-most Unknown a h = h
