@@ -11,7 +11,7 @@ ghost use lib.ListN.{length, replicate};
 ghost use Rattle.laws.specs.Over.{over};
 ghost use Rattle.rules.specs.Outcome.{outcome};
 ghost use Rattle.rules.specs.Span.{least, span};
-ghost use Rattle.rules.specs.Builder.{completion, knownEntries, fromTable, fromKnown, builder, builderReply};
+ghost use Rattle.rules.specs.Builder.{Entries, completion, knownEntries, fromTable, fromKnown, builder, builderReply};
 
 fn copy(table: &[u8], out: &mut [u8])
     requires { ⌜ length (now table) ≤ length (now out) ⌝ }
@@ -27,6 +27,7 @@ fn copy(table: &[u8], out: &mut [u8])
 // The completion of known entries written to `out`, or why there is none; `table` is to work in.
 fn build_from_known(size: usize, known: &[u8], table: &mut [u8], out: &mut [u8]) -> BuilderReply
     requires { ⌜ length (now known) ≡ length (now table) ⌝ }
+    requires { ⌜ Entries (now known) ⌝ }
     ensures { λ r. ⌜ outcome (builderReply r) (now (out .exit)) ≡ fromTable (now (out .entry)) (completion size (now (known .entry))) ⌝ }
 {
     if !complete(known, size, table) {

@@ -19,7 +19,9 @@ use Rattle.laws.specs.Integer.{plus, minus, ltZ-true, ltZ-false, read-back, abs
 use Rattle.laws.specs.Test.{if_then_else_, if-both, isSome, lt-or-le, is-T}
 use Rattle.rules.specs.Network.{Term, LutNode, Input, Linear, Bootstrap, isLinear, sumFrom, nodeValue}
 use Rattle.rules.specs.Rotation.{centre, rotatable, rotated}
+use Rattle.rules.specs.Runs.{allBits}
 use Rattle.rules.specs.Store.{needs, termsOf}
+use Rattle.theorems.specs.Bits.{all-bits-of}
 use Rattle.theorems.specs.RotationRule.{rotation-rule}
 use Rattle.nodes.specs.Nodes.{kindOf, constantOf, bytesIn}
 use Rattle.nodes.specs.View.{nodeOf, term, Fine, FineTerms, IsNode}
@@ -198,3 +200,9 @@ unfolding kindOf turns bytesIn
 table-turns P (Input name) h = absurd (omega arith)
 table-turns P (Linear c ts) h = absurd (omega arith)
 table-turns P (Bootstrap j table) h = refl
+
+pub table-bits : (i : ℕ) (n : LutNode) → Fine i n → kindOf n ≡ 2 → T (allBits (bytesIn n))
+unfolding kindOf bytesIn Fine
+table-bits i (Input name) f h = absurd (omega arith)
+table-bits i (Linear c ts) f h = absurd (omega arith)
+table-bits i (Bootstrap j table) f h = all-bits-of table (λ k l. f .2 k)

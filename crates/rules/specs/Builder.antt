@@ -7,11 +7,14 @@ use lib.Dec.{leb, ltb, eqb}
 use lib.IntN.{ℤ, natAbs, _-ℤ_}
 use lib.ListN.{length, getD, set, replicate}
 use Rattle.laws.specs.Over.{over}
+use Rattle.laws.specs.Select.{any}
 use Rattle.laws.specs.Tabulate.{tabulate}
 use Rattle.laws.specs.Test.{if_then_else_, isSome, allb}
 use Rattle.rules.specs.Outcome.{Answer, written, refused, Outcome, outcome}
 use Rattle.rules.specs.Rotation.{rotatable}
 use Rattle.rules.specs.Span.{least, span}
+use Rattle.rules.specs.declared.Entry.{Entry}
+use Rattle.rules.specs.declared.Entry.the-variants.{Zero, One, Unknown}
 use Rattle.rules.specs.declared.BuilderReply.{BuilderReply}
 use Rattle.rules.specs.declared.BuilderReply.the-variants.{Written, BadSettings, BadLengths, SpanOverM, Conflict, NoCompletion, ShortBuffer}
 
@@ -74,12 +77,28 @@ completable P known = isSome (completion P known)
 
 -- ---- The pair test on known entries, by which the mapper judges a table before it is built.
 
--- Some bits for the unknowns of the pair (x, y) give the sum s: it lies between the least and the greatest that they can give.
-unfoldable pub remains : ℕ → ℕ → ℕ → Bool
-remains s x y = leb (knownOr 0 x + knownOr 0 y) s && leb s (knownOr 1 x + knownOr 1 y)
+-- An entry by its number.
+unfoldable pub entryOf : ℕ → Entry
+entryOf x = if eqb x 0 then Zero else if eqb x 1 then One else Unknown
+
+-- The nine cases (document 02, S-4; docs/PAIRS.md): the sums of a pair that remain, that is those that some bits for the unknowns give.
+unfoldable pub remaining : Entry → Entry → List ℕ
+remaining Zero Zero = 0 ∷ []
+remaining Zero One = 1 ∷ []
+remaining Zero Unknown = 0 ∷ 1 ∷ []
+remaining One Zero = 1 ∷ []
+remaining One One = 2 ∷ []
+remaining One Unknown = 1 ∷ 2 ∷ []
+remaining Unknown Zero = 0 ∷ 1 ∷ []
+remaining Unknown One = 1 ∷ 2 ∷ []
+remaining Unknown Unknown = 0 ∷ 1 ∷ 2 ∷ []
+
+-- The sum s remains for the pair.
+unfoldable pub remains : ℕ → Entry → Entry → Bool
+remains s x y = any (eqb s) (remaining x y)
 
 unfoldable pub remainsAt : ℕ → ℕ → List ℕ → ℕ → Bool
-remainsAt s P known i = remains s (getD known i 0) (getD known (i + P) 0)
+remainsAt s P known i = remains s (entryOf (getD known i 0)) (entryOf (getD known (i + P) 0))
 
 -- The sum s remains for every pair (i, i + P).
 unfoldable pub remainsForAll : ℕ → ℕ → List ℕ → Bool

@@ -10,3 +10,4 @@ pub mod Sharing
 pub mod Refusals
 pub mod Buffers
 pub mod Sessions
+pub mod NineCases

@@ -1,18 +1,23 @@
 -- Known entries and their completions: one of the three is found exactly where some completion can be rotated, and the pair test on known entries tells.
-use mathlib.Core.Path.{_≡_, refl, sym, ap, _∙_, subst}
-use mathlib.Core.Bool.{Bool, true, false}
+use mathlib.Core.Path.{_≡_, refl, sym, ap, ap₂, _∙_, subst}
+use mathlib.Core.Bool.{Bool, true, false, _&&_, _||_}
 use mathlib.Core.List.{List}
-use mathlib.Core.Logic.{_⊎_, inl, inr, ⊎-elim, _≢_, _↔_}
+use mathlib.Core.Logic.{_⊎_, inl, inr, ⊎-elim, _≢_}
 use mathlib.Core.Option.{Option, none, some}
 use Prim.Native.Nat.{ℕ, zero, suc, _+_, _*_, _-_, _<_, _≤_}
+use native.Mathlib.Numerals.{add-one}
 use native.Mathlib.Omega.{arith}
 use borrow.Author.Tests.{lt-ltb, le-ltb, le-leb, lt-leb, eq-eqb, ne-eqb}
-use lib.Dec.{T, leb, ltb, leb→le, le→leb}
+use lib.Dec.{T, leb, ltb}
 use lib.ListN.{length, getD, length-map, List·getD-map}
 use Rattle.laws.specs.Tabulate.{tabulate-at, tabulate-length}
-use Rattle.laws.specs.Test.{if_then_else_, isSome, lt-or-le, eq-or-ne, T-is, T-not-is, is-T, decide, if-both, allb, allb-at, allb-all, allb-more, allb-fails, and-both, and-left, and-right}
+use Rattle.laws.specs.Test.{if_then_else_, isSome, lt-or-le, eq-or-ne, T-is, T-not-is, is-T, decide, if-both, allb, allb-at, allb-all, allb-none, neither-left, neither-right}
+use Rattle.rules.specs.declared.Entry.{Entry}
 use Rattle.rules.specs.Rotation.{pairSum, rotatable}
-use Rattle.rules.specs.Builder.{Entries, knownOr, filled, against, opposedAt, opposed, completion, completable, remains, remainsAt, remainsForAll}
+use Rattle.rules.specs.Builder.{Entries, knownOr, filled, against, opposedAt, opposed, completion, completable, entryOf, remains, remainsAt, remainsForAll}
+use Rattle.rules.specs.Runs.{allBits}
+use Rattle.theorems.specs.Bits.{bit-at, all-bits-of}
+use Rattle.theorems.specs.NineCases.{BitOf, nine-cases}
 use Rattle.theorems.specs.RotationRule.{one-sum, sum-one, rotatable-short, rotatable-small, rotatable-long}
 
 -- t has a bit for each entry, the known ones as they are
@@ -52,77 +57,50 @@ against-bit d y x h k =
     (λ i. omega (arith, against-known d y x i))
     (eq-or-ne x 2)
 
--- ---- the pair test on known entries
-between : (x a : ℕ) → a ≤ 1 → (x ≢ 2 → a ≡ x) → (knownOr 0 x ≤ a) × (a ≤ knownOr 1 x)
-between x a h k =
-    ⊎-elim (λ i. omega (arith, unknown-is 0 x i, unknown-is 1 x i)) (λ i. omega (arith, known-is 0 x i, known-is 1 x i, k i)) (eq-or-ne x 2)
+-- ---- the pair test on known entries: all that is used of it is that the nine cases are exact
+entry-bit : (x a : ℕ) → a ≤ 1 → (x ≢ 2 → a ≡ x) → BitOf (entryOf x) a
+unfolding entryOf
+entry-bit zero a h k = k (λ e. omega arith)
+entry-bit (suc zero) a h k = k (λ e. omega arith)
+entry-bit (suc (suc x)) a h k = rw (ne-eqb (suc (suc x)) 0 (λ e. omega arith), ne-eqb (suc (suc x)) 1 (λ e. omega arith)) h
+
+between : (x a : ℕ) → x ≤ 2 → BitOf (entryOf x) a → (knownOr 0 x ≤ a) × (a ≤ knownOr 1 x)
+unfolding entryOf knownOr
+between zero a h is = (omega arith, omega arith)
+between (suc zero) a h is = (omega arith, omega arith)
+between (suc (suc zero)) a h is = (omega arith, omega arith)
+between (suc (suc (suc x))) a h is = absurd (omega arith)
 
 -- a and b complete x and y
-remains-of : (x y a b : ℕ) → a ≤ 1 → b ≤ 1 → (x ≢ 2 → a ≡ x) → (y ≢ 2 → b ≡ y) → T (remains (a + b) x y)
-unfolding remains
+remains-of : (x y a b : ℕ) → a ≤ 1 → b ≤ 1 → (x ≢ 2 → a ≡ x) → (y ≢ 2 → b ≡ y) → T (remains (a + b) (entryOf x) (entryOf y))
 remains-of x y a b h k f g =
-    let p = between x a h f in
-    let q = between y b k g in
-    and-both (leb (knownOr 0 x + knownOr 0 y) (a + b)) _
-    (le→leb (knownOr 0 x + knownOr 0 y) (a + b) (omega arith))
-    (le→leb (a + b) (knownOr 1 x + knownOr 1 y) (omega arith))
+    nine-cases (a + b) (entryOf x) (entryOf y) .1 (record { left = a; right = b; leftBit = entry-bit x a h f; rightBit = entry-bit y b k g; sum = refl })
 
-module _ (s x y : ℕ) (t : T (remains s x y)) where
-  remains-least : knownOr 0 x + knownOr 0 y ≤ s
-  unfolding remains
-  remains-least = leb→le _ _ (and-left (leb (knownOr 0 x + knownOr 0 y) s) _ t)
-
-  remains-greatest : s ≤ knownOr 1 x + knownOr 1 y
-  unfolding remains
-  remains-greatest = leb→le _ _ (and-right (leb (knownOr 0 x + knownOr 0 y) s) _ t)
+remains-within : (s x y : ℕ) → x ≤ 2 → y ≤ 2 → T (remains s (entryOf x) (entryOf y)) → (knownOr 0 x + knownOr 0 y ≤ s) × (s ≤ knownOr 1 x + knownOr 1 y)
+remains-within s x y h k t =
+    let g = nine-cases s (entryOf x) (entryOf y) .0 t in
+    let p = between x (g .left) h (g .leftBit) in
+    let q = between y (g .right) k (g .rightBit) in
+    let e = g .sum in
+    (omega arith, omega arith)
 
 -- each completion gives a pair its sum where that remains
 module _ (x y : ℕ) (h : x ≤ 2) (k : y ≤ 2) where
-  zeros : T (remains 0 x y) → knownOr 0 x + knownOr 0 y ≡ 0
-  zeros t = omega (arith, remains-least 0 x y t)
+  zeros : T (remains 0 (entryOf x) (entryOf y)) → knownOr 0 x + knownOr 0 y ≡ 0
+  zeros t = omega (arith, remains-within 0 x y h k t .0)
 
-  ones : T (remains 2 x y) → knownOr 1 x + knownOr 1 y ≡ 2
-  ones t = omega (arith, remains-greatest 2 x y t, known-bit 1 x (omega arith) h, known-bit 1 y (omega arith) k)
+  ones : T (remains 2 (entryOf x) (entryOf y)) → knownOr 1 x + knownOr 1 y ≡ 2
+  ones t = omega (arith, remains-within 2 x y h k t .1, known-bit 1 x (omega arith) h, known-bit 1 y (omega arith) k)
 
-  opposites : T (remains 1 x y) → against 0 y x + against 1 x y ≡ 1
+  opposites : T (remains 1 (entryOf x) (entryOf y)) → against 0 y x + against 1 x y ≡ 1
   opposites t =
-      let lo = remains-least 1 x y t in
-      let hi = remains-greatest 1 x y t in
+      let lo = remains-within 1 x y h k t .0 in
+      let hi = remains-within 1 x y h k t .1 in
       ⊎-elim
       (λ i. ⊎-elim (λ j. omega (arith, against-none 0 y x i j, against-none 1 x y j i)) (λ j. omega (arith, against-one 0 y x i j, against-known 1 x y j)) (eq-or-ne y 2))
       (λ i. ⊎-elim (λ j. omega (arith, against-known 0 y x i, against-one 1 x y j i))
       (λ j. omega (arith, against-known 0 y x i, against-known 1 x y j, known-is 0 x i, known-is 0 y j, known-is 1 x i, known-is 1 y j)) (eq-or-ne y 2))
       (eq-or-ne x 2)
-
--- bits in the place of the unknowns that give the pair its sum
-pub record Given (s x y a b : ℕ) : Type 0 where
-  pub bits : (a ≤ 1) × (b ≤ 1)
-  pub left : x ≢ 2 → a ≡ x
-  pub right : y ≢ 2 → b ≡ y
-  pub sum : a + b ≡ s
-
--- a sum remains exactly when some bits for the unknowns give it
-pub remains-exact : (s x y : ℕ) → x ≤ 2 → y ≤ 2 → T (remains s x y) ↔ ((a : ℕ) × (b : ℕ) × Given s x y a b)
-remains-exact s x y h k = (by s, λ g. subst (λ n. T (remains n x y)) (g .2 .sum) (remains-of x y (g .0) (g .1) (g .2 .bits .0) (g .2 .bits .1) (g .2 .left) (g .2 .right)))
-  where
-    by : (n : ℕ) → T (remains n x y) → (a : ℕ) × (b : ℕ) × Given n x y a b
-    by zero t = (
-      knownOr 0 x,
-      knownOr 0 y,
-      record { bits = (known-bit 0 x (omega arith) h, known-bit 0 y (omega arith) k); left = known-is 0 x; right = known-is 0 y; sum = zeros x y h k t },
-    )
-    by (suc zero) t = (
-      against 0 y x,
-      against 1 x y,
-      record { bits = (against-bit 0 y x (omega arith) h, against-bit 1 x y (omega arith) k); left = against-known 0 y x; right = against-known 1 x y; sum = opposites x y h k t },
-    )
-    by (suc (suc zero)) t = (
-      knownOr 1 x,
-      knownOr 1 y,
-      record { bits = (known-bit 1 x (omega arith) h, known-bit 1 y (omega arith) k); left = known-is 1 x; right = known-is 1 y; sum = ones x y h k t },
-    )
-    by (suc (suc (suc n))) t =
-        absurd (omega (arith, remains-greatest (suc (suc (suc n))) x y t, known-bit 1 x (omega arith) h, known-bit 1 y (omega arith) k))
 
 -- ---- the three lists, entry by entry
 pub filled-length : (d : ℕ) (known : List ℕ) → length (filled d known) ≡ length known
@@ -165,22 +143,55 @@ opposed-high P known i k h =
     ∙ opposedAt-high P known (i + P) (omega arith) (omega arith)
     ∙ ap (λ j. against 1 (getD known j 0) (getD known (i + P) 0)) e
 
--- ---- a sum that remains for every pair
-module _ (s P : ℕ) (known : List ℕ) where
-  pub remainsForAll-all : (i : ℕ) → i ≡ length known - P → allb i (remainsAt s P known) ≡ true → remainsForAll s P known ≡ true
-  unfolding remainsForAll
-  remainsForAll-all i e a = rw (← e, a)
+-- ---- the sums that remain for every pair, by the tests of a loop over the pairs
+allb-next : (n : ℕ) (f : ℕ → Bool) → allb (n + 1) f ≡ (f n && allb n f)
+unfolding allb
+allb-next n f = rw add-one
 
-  pub remainsForAll-fails : (i : ℕ) → i < length known - P → remains s (getD known i 0) (getD known (i + P) 0) ≡ false → remainsForAll s P known ≡ false
-  unfolding remainsForAll remainsAt
-  remainsForAll-fails i h e = allb-fails (length known - P) i (remainsAt s P known) h e
+allb-less : (i n : ℕ) (f : ℕ → Bool) → i ≤ n → allb i f ≡ false → allb n f ≡ false
+allb-less i n f h e = T-not-is (allb n f) (λ t. subst T e (allb-all i f (λ k l. allb-at n f t k (omega arith))))
 
-  pub remainsForAll-more : (i : ℕ) → allb i (remainsAt s P known) ≡ true → remains s (getD known i 0) (getD known (i + P) 0) ≡ true → allb (i + 1) (remainsAt s P known) ≡ true
-  unfolding remainsAt
-  remainsForAll-more i a e = allb-more i (remainsAt s P known) a e
+-- those of 0, 1 and 2 that remain for each pair before i
+pub record SumsTo (P : ℕ) (known : List ℕ) (i : ℕ) (a b c : Bool) : Type 0 where
+  pub zeros : a ≡ allb i (remainsAt 0 P known)
+  pub ones : b ≡ allb i (remainsAt 1 P known)
+  pub twos : c ≡ allb i (remainsAt 2 P known)
+
+-- those that remain for all pairs
+abbrev pub SumsLeft : (P : ℕ) (known : List ℕ) (a b c : Bool) → Type 0
+SumsLeft P known a b c = (a ≡ remainsForAll 0 P known) × (b ≡ remainsForAll 1 P known) × (c ≡ remainsForAll 2 P known)
+
+module _ (P : ℕ) (known : List ℕ) where
+  pub sums-none : SumsTo P known 0 true true true
+  sums-none = record { zeros = sym (allb-none _); ones = sym (allb-none _); twos = sym (allb-none _) }
+
+  module _ (i : ℕ) (a b c : Bool) (l : SumsTo P known i a b c) where
+    -- the pair i has the entries x and y, for which u, v and w remain
+    pub sums-more : (x y : Entry) (u v w p q r : Bool) → x ≡ entryOf (getD known i 0) → y ≡ entryOf (getD known (i + P) 0)
+        → (u ≡ remains 0 x y) × (v ≡ remains 1 x y) × (w ≡ remains 2 x y) → (p ≡ (u && a)) × (q ≡ (v && b)) × (r ≡ (w && c)) → SumsTo P known (i + 1) p q r
+    unfolding remainsAt
+    sums-more x y u v w p q r e f here is =
+        record { zeros = more 0 (here .0) (l .zeros) (is .0); ones = more 1 (here .1) (l .ones) (is .1); twos = more 2 (here .2) (l .twos) (is .2) }
+      where
+        more : (s : ℕ) {m n o : Bool} → m ≡ remains s x y → n ≡ allb i (remainsAt s P known) → o ≡ (m && n) → o ≡ allb (i + 1) (remainsAt s P known)
+        more s g h j = j ∙ ap₂ _&&_ (g ∙ ap₂ (remains s) e f) h ∙ sym (allb-next i (remainsAt s P known))
+
+    pub sums-all : i ≡ length known - P → SumsLeft P known a b c
+    unfolding remainsForAll
+    sums-all e = rw (← e) (l .zeros, l .ones, l .twos)
+
+    -- where none is left, none remains for every pair
+    pub sums-gone : i ≤ length known - P → (a || b || c) ≡ false → SumsLeft P known a b c
+    unfolding remainsForAll
+    sums-gone h e =
+        let front = neither-left (a || b) c e in
+        (gone 0 (l .zeros) (neither-left a b front), gone 1 (l .ones) (neither-right a b front), gone 2 (l .twos) (neither-right (a || b) c e))
+      where
+        gone : (s : ℕ) {u : Bool} → u ≡ allb i (remainsAt s P known) → u ≡ false → u ≡ allb (length known - P) (remainsAt s P known)
+        gone s is e = e ∙ sym (allb-less i (length known - P) (remainsAt s P known) h (sym is ∙ e))
 
 module _ (P : ℕ) (known : List ℕ) (entries : Entries known) (short : length known ≤ 2 * P) where
-  remains-at : (s : ℕ) → T (remainsForAll s P known) → (i : ℕ) → i < length known - P → T (remains s (getD known i 0) (getD known (i + P) 0))
+  remains-at : (s : ℕ) → T (remainsForAll s P known) → (i : ℕ) → i < length known - P → T (remains s (entryOf (getD known i 0)) (entryOf (getD known (i + P) 0)))
   unfolding remainsForAll remainsAt
   remains-at s t i h = allb-at (length known - P) (remainsAt s P known) t i h
 
@@ -239,6 +250,9 @@ module _ (P : ℕ) (known : List ℕ) where
   remains-found e h (suc (suc zero)) k t = found (inr (inl (ones-fit P known e h t)))
   remains-found e h (suc (suc (suc s))) k t = absurd (omega arith)
 
+pub completes-bits : (known t : List ℕ) → Completes known t → T (allBits t)
+completes-bits known t k = all-bits-of t (λ i h. k .bits i (rw (k .long) at h))
+
 -- ---- what is found is a completion that can be rotated
 module _ (known : List ℕ) (entries : Entries known) where
   pub filled-completes : (d : ℕ) → d ≤ 1 → Completes known (filled d known)
@@ -249,7 +263,7 @@ module _ (known : List ℕ) (entries : Entries known) where
         keeps = λ i l x. rw (filled-at d known i) (known-is d (getD known i 0) x);
       }
 
-  opposed-completes : (P : ℕ) → Completes known (opposed P known)
+  pub opposed-completes : (P : ℕ) → Completes known (opposed P known)
   unfolding opposedAt
   opposed-completes P =
       record {
@@ -276,7 +290,7 @@ module _ (P : ℕ) (known t : List ℕ) (k : Completes known t) (r : T (rotatabl
   unfolding remainsAt pairSum
   sum-remains i h =
       let l = k .long in
-      subst (λ s. T (remains s (getD known i 0) (getD known (i + P) 0))) (sum-one P t r i (omega arith))
+      subst (λ s. T (remains s (entryOf (getD known i 0)) (entryOf (getD known (i + P) 0)))) (sum-one P t r i (omega arith))
       (remains-of (getD known i 0) (getD known (i + P) 0) (getD t i 0) (getD t (i + P) 0)
       (k .bits i (omega arith)) (k .bits (i + P) (omega arith)) (k .keeps i (omega arith)) (k .keeps (i + P) (omega arith)))
 
@@ -324,7 +338,7 @@ module _ (P : ℕ) (known : List ℕ) where
       )
 
   module _ (entries : Entries known) (short : length known ≤ 2 * P) where
-    pub completable-remains : (s : ℕ) → s ≤ 2 → remainsForAll s P known ≡ true → completable P known ≡ true
+    completable-remains : (s : ℕ) → s ≤ 2 → remainsForAll s P known ≡ true → completable P known ≡ true
     completable-remains s h e = T-is _ (remains-found P known entries short s h (is-T _ e))
 
     completable-none : P < length known → remainsForAll 0 P known ≡ false → remainsForAll 1 P known ≡ false → remainsForAll 2 P known ≡ false → completable P known ≡ false
@@ -341,7 +355,37 @@ module _ (P : ℕ) (known : List ℕ) where
             let is = completion-is known entries P (w .0) (w .1) in
             not-one (pairSum P (w .0) 0) (sum-bound P known (w .0) (is .0) (is .1) h) (sum-remains-for-all P known (w .0) (is .0) (is .1))
 
-    -- two sums do not remain: the third decides
-    pub completable-last : P < length known → remainsForAll 1 P known ≡ false → remainsForAll 0 P known ≡ false → remainsForAll 2 P known ≡ completable P known
-    completable-last h f e =
-        ⊎-elim (λ g. g ∙ sym (completable-remains 2 (omega arith) g)) (λ g. g ∙ sym (completable-none h e f g)) (decide (remainsForAll 2 P known))
+    -- there is a completion that can be rotated exactly when one of the three sums remains for every pair
+    pub completable-left : (a b c : Bool) → SumsLeft P known a b c → P < length known → (a || b || c) ≡ completable P known
+    completable-left true b c l h = sym (completable-remains 0 (omega arith) (sym (l .0)))
+    completable-left false true c l h = sym (completable-remains 1 (omega arith) (sym (l .1)))
+    completable-left false false true l h = sym (completable-remains 2 (omega arith) (sym (l .2)))
+    completable-left false false false l h = sym (completable-none h (sym (l .0)) (sym (l .1)) (sym (l .2)))
+
+-- ---- a table without unknowns, judged as known entries: four of the nine cases
+pub full-entries : (t : List ℕ) → T (allBits t) → Entries t
+full-entries t bits = record { at = λ i. omega (arith, bit-at t i bits) }
+
+module _ (P : ℕ) (t : List ℕ) (bits : T (allBits t)) where
+  full-completes : Completes t t
+  full-completes = record { long = refl; bits = λ i h. bit-at t i bits; keeps = λ i h n. refl }
+
+  full-same : (u : List ℕ) → Completes t u → T (rotatable P u) → T (rotatable P t)
+  unfolding pairSum
+  full-same u c r =
+      let l = c .long in
+      let same : (i : ℕ) → i < length t → getD t i 0 ≡ getD u i 0 = λ i h. sym (c .keeps i h (λ e. omega (arith, bit-at t i bits))) in
+      one-sum P t (pairSum P u 0) (omega (arith, rotatable-short P u r))
+      (λ i h. rw (same i (omega arith), same (i + P) (omega arith)) (sum-one P u r i (omega arith)))
+
+  pub full-table : completable P t ≡ rotatable P t
+  full-table = ⊎-elim (λ e. e ∙ sym (yes e)) (λ e. e ∙ sym (no e)) (decide (completable P t))
+    where
+      yes : completable P t ≡ true → rotatable P t ≡ true
+      yes e =
+          let w = some-table P t (is-T _ e) in
+          let is = completion-is t (full-entries t bits) P (w .0) (w .1) in
+          T-is _ (full-same (w .0) (is .0) (is .1))
+
+      no : completable P t ≡ false → rotatable P t ≡ false
+      no e = T-not-is _ (λ r. subst T e (completion-found P t t full-completes r (full-entries t bits)))

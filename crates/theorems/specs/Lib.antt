@@ -1,5 +1,6 @@
 -- What is proved of the rules alone.
 pub mod RotationRule
+pub mod NineCases
 pub mod Completions
 pub mod Spans
 pub mod Rows

@@ -7,7 +7,7 @@ use mathlib.Core.Option.{Option, none, some}
 use Prim.Native.Nat.{ℕ, zero, suc, _+_, _*_, _-_, _<_, _≤_}
 use native.Mathlib.Nat.{not-suc-le-zero, le-of-suc-le-suc, le-refl, zero-add, suc-add, add-zero}
 use native.Mathlib.Omega.{arith}
-use borrow.Author.Tests.{le-leb, lt-leb, lt-ltb, le-ltb, ne-eqb, eq-eqb}
+use borrow.Author.Tests.{le-leb, lt-leb, lt-ltb, le-ltb}
 use lib.Dec.{T, eqb→eq}
 use lib.IntN.{ℤ, pos, negℤ, _+ℤ_, _-ℤ_}
 use lib.ListN.{length, getD, take, drop, length-append, List·getD-append, List·getD-map, length-map, length-drop}
@@ -15,7 +15,7 @@ use lib.Seq.{getD-drop, take-append-le, drop-append-le, drop-length, take-length
 use lib.Signed.{quotZ}
 use Rattle.laws.specs.Integer.{plus, minus, add-parts, sub-parts, ints, plus-neg, minus-neg}
 use Rattle.laws.specs.Tabulate.{tabulate, tabulate-at, tabulate-length}
-use Rattle.laws.specs.Test.{if_then_else_, isSome, allb, allb-at, allb-all, allb-fails, lt-or-le, eqb-of, T-is}
+use Rattle.laws.specs.Test.{if_then_else_, isSome, allb, allb-at, allb-all, lt-or-le, eqb-of, T-is}
 use Rattle.rules.specs.Rotation.{turn, turned, Rotatable, pairSum, sameSum, centre, rotatable, coefficient, rotatedBy, rotated}
 
 -- ---- v turns, for v up to P and past it
@@ -71,21 +71,9 @@ module _ (P : ℕ) (bits : List ℕ) where
   unfolding rotatable
   rotatable-long h = rw (centre-long h)
 
-  pub rotatable-pairs : P < length bits → length bits ≤ 2 * P → rotatable P bits ≡ allb (length bits - P) (sameSum P bits)
+  rotatable-pairs : P < length bits → length bits ≤ 2 * P → rotatable P bits ≡ allb (length bits - P) (sameSum P bits)
   unfolding rotatable
   rotatable-pairs l h = rw (centre-pairs l h) (by-some (allb (length bits - P) (sameSum P bits)) (pairSum P bits 0))
-
-  -- ---- by the tests of a loop over the pairs
-  pub rotatable-all : (i : ℕ) → P < length bits → length bits ≤ 2 * P → i ≡ length bits - P → allb i (sameSum P bits) ≡ true → rotatable P bits ≡ true
-  rotatable-all i l h e a = rw (rotatable-pairs l h, ← e, a)
-
-  pub rotatable-fails : (i : ℕ) → length bits ≤ 2 * P → i < length bits - P → (pairSum P bits i ≡ pairSum P bits 0 → ⊥) → rotatable P bits ≡ false
-  unfolding sameSum
-  rotatable-fails i h l n = rotatable-pairs (omega arith) h ∙ allb-fails (length bits - P) i (sameSum P bits) l (ne-eqb _ _ n)
-
-  pub same-true : (i : ℕ) → pairSum P bits i ≡ pairSum P bits 0 → sameSum P bits i ≡ true
-  unfolding sameSum
-  same-true i e = eq-eqb (pairSum P bits i) (pairSum P bits 0) e
 
   -- pairs of one sum are enough, and what the decision says of them
   pub one-sum : (c : ℕ) → length bits ≤ 2 * P → ((i : ℕ) → i < length bits - P → pairSum P bits i ≡ c) → T (rotatable P bits)

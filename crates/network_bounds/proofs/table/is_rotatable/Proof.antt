@@ -1,6 +1,8 @@
 use Rattle.network_bounds.specs.Table.{lent}
 use Rattle.rules.specs.Rotation.{rotatable}
-use mathlib.Core.Path.{ap, _∙_}
+use Rattle.rules.specs.Runs.{allBits}
+use lib.Dec.{T}
+use mathlib.Core.Path.{sym, ap, subst, _∙_}
 use borrow.Author.Needs.{needs}
 use Rattle.network_bounds.proofs.table.is_rotatable.Statement.{statement}
 use Rattle.network_bounds.proofs.table.is_rotatable.Tie as tie
@@ -31,7 +33,9 @@ part-is-fbs-table-valid-end c = search needs
 
 -- src/table.rt:37:5
 is-fbs-table-valid-requires : tie.Need-is-fbs-table-valid-requires
-is-fbs-table-valid-requires c κs = search needs
+is-fbs-table-valid-requires c κs =
+    let start = c .before .before .before .before in
+    subst (λ t. T (allBits t)) (sym (lent (c .before .before .table-of .ensures))) (start .pre .bits)
 
 -- src/table.rt:31:1
 returns : tie.Need-returns

@@ -2,27 +2,22 @@
 use mathlib.Core.Path.{sym, _∙_}
 use native.Mathlib.Omega.{arith}
 use borrow.Author.Needs.{needs}
-use Rattle.theorems.specs.Completions.{completable-small, completable-long, completable-remains, completable-last}
+use Rattle.theorems.specs.Completions.{completable-small, completable-long, completable-left}
 use Rattle.rotation.proofs.pairs.is_known_lut_valid.Statement.{statement}
 use Rattle.rotation.proofs.pairs.is_known_lut_valid.Tie as tie
 
-returns-5 : tie.Need-returns-5
-returns-5 c =
-    let entries = c .before .before .before .before .before .before .before .before .pre in
-    let one = sym (c .before .before .before .before .remains-for-all .ensures) ∙ c .before .before .before .if3 .left in
-    let zero = sym (c .before .before .remains-for-all2 .ensures) ∙ c .before .if4 .left in
-    c .remains-for-all3 .ensures ∙ completable-last _ _ entries (omega arith) (omega arith) one zero
+returns-3 : tie.Need-returns-3
+returns-3 c =
+    let entries = c .before .before .before .before .before .pre in
+    c .any .ensures ∙ completable-left _ _ entries (omega arith) _ _ _ (c .before .sums-left .ensures) (omega arith)
 
 pub is-known-lut-valid-spec : {M : Type 1} → statement M
 is-known-lut-valid-spec =
     tie.close
     (tie.spec
-    (λ c. sym (completable-small _ _ (c .if1 .taken)))
+    (λ c. sym (completable-small _ _ (omega arith)))
     (λ c. search needs)
     (λ c. sym (completable-long _ _ (omega arith)))
     (λ c κs. search needs)
-    (λ c. sym (completable-remains _ _ (c .before .before .before .before .before .pre) (omega arith) 1 (omega arith) (sym (c .before .remains-for-all .ensures) ∙ c .if3 .taken)))
     (λ c κs. search needs)
-    (λ c. sym (completable-remains _ _ (c .before .before .before .before .before .before .before .pre) (omega arith) 0 (omega arith) (sym (c .before .remains-for-all2 .ensures) ∙ c .if4 .taken)))
-    (λ c κs. search needs)
-    returns-5)
+    returns-3)
