@@ -83,8 +83,11 @@ trial-runs text s a = record { network = w; read = admitted-safe text s a .read;
     in-run p bits b values r k i table h e f n =
         let same : safe bits b .values ≡ values = Option·some-injective _ _ (sym (safe bits b .run) ∙ r) in
         let look = safe bits b .boots k i table h .1 in
-        let is = tried (w .p) table p (look .turns) (look .v) (look .inside) e f n in
-        (look .v, ap (λ vs. getD vs i (pos 0)) (sym same) ∙ look .reads, record {
-          answers = is .answers;
-          gives = is .gives ∙ ap {B = Option ℤ} some (sym (look .gives) ∙ ap (λ vs. getD vs k (pos 0)) same);
-        })
+        let is = tried (w .p) table p (look .turns) (look .v) (look .inside) e f n in (
+          look .v,
+          ap (λ vs. getD vs i (pos 0)) (sym same) ∙ look .reads,
+          record {
+            answers = is .answers;
+            gives = is .gives ∙ ap {B = Option ℤ} some (sym (look .gives) ∙ ap (λ vs. getD vs k (pos 0)) same);
+          },
+        )
