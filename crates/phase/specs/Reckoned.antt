@@ -1,7 +1,7 @@
 -- The definitions of phases as the machine reckons them: what the proofs of the functions cite.
 use mathlib.Core.Path.{_≡_, refl, sym, ap, _∙_}
 use mathlib.Core.Bool.{true, false}
-use Prim.Native.Nat.{ℕ, _+_, _*_, _/_, _%_, _<_, _≤_, _^_}
+use Prim.Native.Nat.{ℕ, _+_, _*_, _/_, _%_, _<_, _^_}
 use native.Mathlib.Nat as N
 use native.Mathlib.Omega.{arith}
 use borrow.Author.Tests.{le-leb}
@@ -13,7 +13,7 @@ use Rattle.laws.specs.Integer.{plus, minus, ints, add-parts, ltZ-true}
 use Rattle.laws.specs.Modulo.{modulo, modulo-above, modulo-below, modulo-sum}
 use Rattle.laws.specs.Test.{is-T, both-left, both-right}
 use Rattle.rules.specs.Phase.{isPeriod, isValue, step, half, phase, nearest}
-use Rattle.theorems.specs.Widths.{Widths, widths, period-divides, period-most}
+use Rattle.theorems.specs.Widths.{Widths, widths, period-divides}
 
 -- ---- A signed number: not below 0, or below 0; its pattern.
 

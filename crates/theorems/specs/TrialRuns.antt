@@ -4,20 +4,20 @@ use mathlib.Core.Path.{_≡_, sym, ap, _∙_}
 use mathlib.Core.Bool.{true}
 use mathlib.Core.List.{List, []}
 use mathlib.Core.Option.{Option, some, Option·some-injective}
-use Prim.Native.Nat.{ℕ, zero, suc, _*_, _<_}
+use Prim.Native.Nat.{ℕ, zero, suc, _<_}
 use native.Mathlib.Omega.{arith}
-use lib.Dec.{T, eqb}
+use lib.Dec.{T}
 use lib.IntN.{ℤ, pos}
-use lib.ListN.{length, getD, replicate, length-replicate}
-use Rattle.laws.specs.Test.{and-both, eqb-of}
+use lib.ListN.{length, getD, replicate}
 use Rattle.rules.specs.declared.Stats.{Stats}
 use Rattle.rules.specs.Form.{Good}
 use Rattle.rules.specs.Network.{Bootstrap, Network, isInput, count, nodeValues}
 use Rattle.rules.specs.NetworkText.{nodeAt, readNetwork, admitted, admission}
 use Rattle.rules.specs.Phase.{isPeriod, slot, found, slotAnswer}
 use Rattle.rules.specs.Rotation.{Rotatable, rotated}
-use Rattle.rules.specs.Runs.{allBits, bitsFor}
+use Rattle.rules.specs.Runs.{bitsFor}
 use Rattle.theorems.specs.AdmittedSafe.{Safe, admitted-safe}
+use Rattle.theorems.specs.Bits.{bits-nil, bits-cons}
 use Rattle.theorems.specs.RotationRule.{rotation-rule}
 use Rattle.theorems.specs.SlotExact.{Signed32, Within, slot-exact}
 
@@ -52,16 +52,11 @@ tried P table p t v l e f w =
       gives = ap {B = Option ℤ} (λ y. rotated P table (pos y)) (x .exact .1 w) ∙ rotation-rule P table .boots t v l;
     }
 
--- ---- Bits for a network's inputs, all 0, on which it is safe too.
-
-zeros-bits : (n : ℕ) → T (allBits (replicate n 0))
-unfolding allBits
-zeros-bits zero = tt
-zeros-bits (suc n) = zeros-bits n
+-- ---- Bits for a network's inputs, all 0: it is safe on these too, so each of its tables is one that a rotation gives.
 
 zeros-for : (n : ℕ) → T (bitsFor n (replicate n 0))
-unfolding bitsFor
-zeros-for n = and-both (eqb (length (replicate n 0)) n) (allBits (replicate n 0)) (eqb-of (length (replicate n 0)) n (length-replicate n 0)) (zeros-bits n)
+zeros-for zero = bits-nil
+zeros-for (suc n) = bits-cons n 0 (replicate n 0) (omega arith) (zeros-for n)
 
 pub trial-runs : (text : List ℕ) (s : Stats) → admission text ≡ admitted s → TrialRuns text
 trial-runs text s a = record { network = w; read = admitted-safe text s a .read; table-bit = in-table; run-bit = in-run }
