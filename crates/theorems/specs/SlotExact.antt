@@ -101,14 +101,14 @@ unfolding plus minus
 magnitude (pos a) f = omega (arith, of-lt (f .most))
 magnitude (negsuc a) f = omega (arith, of-le (f .least))
 
-pub slot-exactly : (P v : ℕ) (e : ℤ) → P ∣ 2 ^ 30 → v < 2 * P → Signed32 e → (slot P v e ≡ v) ↔ Within P e
+pub own-slot : (P v : ℕ) (e : ℤ) → P ∣ 2 ^ 30 → v < 2 * P → Signed32 e → (slot P v e ≡ v) ↔ Within P e
 unfolding plus minus
-slot-exactly P v (pos a) d l f =
+own-slot P v (pos a) d l f =
     let x = above P v a (widths P d) l (magnitude (pos a) f) in (
       λ e. let h : a < half P = x .0 e in record { from = omega (arith, ints, plus-neg (pos (half P)), minus-neg (pos (half P))); below = omega (arith, ints) },
       λ h. x .1 (omega (arith, of-lt (h .below))),
     )
-slot-exactly P v (negsuc a) d l f =
+own-slot P v (negsuc a) d l f =
     let x = below P v a (widths P d) l (magnitude (negsuc a) f) in (
       λ e. let h : a < half P = x .0 e in record { from = omega (arith, ints, plus-neg (pos (half P)), minus-neg (pos (half P))); below = omega (arith, ints) },
       λ h. x .1 (omega (arith, of-le (h .from), plus-neg (pos (half P)), minus-neg (pos (half P)))),
@@ -122,5 +122,5 @@ slot-exact P v e p l f =
     record {
       answers = rw (p, le-leb 0 v (omega arith), lt-ltb v (2 * P) l);
       is-slot = N.mod-lt ((phase P v e + half P) / step P) (omega arith);
-      exact = slot-exactly P v e (period-divides P p) l f;
+      exact = own-slot P v e (period-divides P p) l f;
     }

@@ -1,5 +1,5 @@
--- Trial runs of an admitted network on phases (document 02, S-5): under an error of less than half a step the boot rule at the slot found
--- gives the network's bit.
+-- Trial runs of an admitted network on phases (document 02, S-5): for each error from minus half a step up to but not including plus half the
+-- boot rule at the slot found gives the network's bit.
 use mathlib.Core.Path.{_≡_, sym, ap, _∙_}
 use mathlib.Core.Bool.{true}
 use mathlib.Core.List.{List, []}
@@ -28,7 +28,7 @@ pub record Tried (P : ℕ) (table : List ℕ) (v : ℕ) (e bit : ℤ) : Type 0 w
   pub answers : slotAnswer P (pos v) e ≡ found (slot P v e)
   pub gives : rotated P table (pos (slot P v e)) ≡ some bit
 
--- An admitted text whose P is one of the four.
+-- The network of an admitted text, where its P is one of the four.
 pub record TrialRuns (text : List ℕ) : Type 0 where
   pub network : Network
   pub read : readNetwork text ≡ Good network
