@@ -433,6 +433,10 @@ static void *job(void *given) {
         j->wrong += r.number != 0 || seen[0] != 1 || seen[1] != 0 || seen[5] != 1;
         r = fbs_run_circuit(bytes(mapped[0].text), strlen(mapped[0].text), bits, 2, bit, 1);
         j->wrong += r.number != 0 || bit[0] != 1;
+        fbs_sum sum = fbs_sum_reading(bytes(summed), strlen(summed), 3, 3);
+        j->wrong += sum.number != 0 || sum.count != 3 || sum.bits[2] != 1;
+        fbs_slot slot = fbs_find_slot(4, 5, -HALF4);
+        j->wrong += slot.number != 0 || slot.slot != 5;
     }
     return NULL;
 }
