@@ -1,4 +1,4 @@
-/* Wonkpecan for C and C++: the mapper, the admission check, the table builder, the two runs and the reading of a sum.
+/* Wonkpecan for C and C++: the mapper, the admission check, the table builder, the two runs, the reading of a sum and the slot of a phase.
  *
  *     rt staticlib exports                                       proves it and writes target/staticlib/libexports.a
  *     cc -Iinclude evaluator.c target/staticlib/libexports.a     x86-64 Linux; asks the C library for memcpy and memset
@@ -65,6 +65,9 @@ enum fbs_number {
     FBS_SHORT_TABLE = 34,     /* buffer of 0 bytes */
     /* a wanted sum: fbs_sum_reading */
     FBS_NO_SUM = 35,          /* node 0, an input */
+    /* a value on the 32-bit circle: fbs_find_slot */
+    FBS_BAD_PERIOD = 36,      /* P = 32 */
+    FBS_BAD_VALUE = 37,       /* P = 4, value 8 */
     /* a run of either kind; document 01 has no number for these */
     FBS_NOT_BITS = 100,       /* two inputs, one bit; a bit that is 2 */
     FBS_SHORT_VALUES = 101,   /* one output, buffer of 0 values */
@@ -74,7 +77,7 @@ enum fbs_number {
 };
 
 /* Accepted: number 0, line 0, and how many places of the buffer were written. Refused: number, line from 1, count 0.
- * Line 0: the refusal belongs to no line (11, 30 to 35, 100 to 103, the builder's 2, and 8 from Basic's last check). */
+ * Line 0: the refusal belongs to no line (11, 30 to 37, 100 to 103, the builder's 2, and 8 from Basic's last check). */
 typedef struct fbs_reply {
     size_t number;
     size_t line;
@@ -103,6 +106,13 @@ typedef struct fbs_sum {
     uint8_t bits[FBS_TERMS];
 } fbs_sum;
 
+/* Found: number 0 and the slot, 0 to 2P - 1. Else: the number, and slot 0. The line is 0. */
+typedef struct fbs_slot {
+    size_t number;
+    size_t line;
+    size_t slot;
+} fbs_slot;
+
 /* A circuit's text mapped to a network's, written over the front of `out`. fbs_admit answers 0 to the bytes written, and on
  * all bits the network's outputs are the circuit's. Inputs that nothing needs are gone, so take bits by name. */
 fbs_reply fbs_map(const uint8_t *text, size_t text_length, uint8_t *out, size_t out_length);
@@ -127,6 +137,11 @@ fbs_reply fbs_run_network(const uint8_t *text, size_t text_length, const uint8_t
  * nodes that it adds with which its sum, CONST counted in, is the value; the first term's bit counts highest. 21 to 26 as fbs_admit,
  * then 35; 103 only if no bits give the value. The least and the greatest sum are always found. */
 fbs_sum fbs_sum_reading(const uint8_t *text, size_t text_length, size_t node, int32_t value);
+
+/* Trial mode: where a value with an error is found on a circle of 2^32. For P of 2, 4, 8 or 16 the step is 2^31 / P, value v stands at
+ * v steps, the error is added, phases wrap at 2^32, and the nearest slot of 2P is answered, halves going up. It is v exactly for errors from
+ * minus half a step up to but not including plus half. 36 for another P, then 37 for a value below 0 or above 2P - 1. */
+fbs_slot fbs_find_slot(size_t p, int32_t value, int32_t error);
 
 /* The number in words. */
 static inline const char *fbs_phrase(size_t number) {
@@ -155,6 +170,8 @@ static inline const char *fbs_phrase(size_t number) {
     case FBS_NO_COMPLETION: return "no table that a rotation gives has these truths";
     case FBS_SHORT_TABLE: return "the answer buffer is too short for the table";
     case FBS_NO_SUM: return "the chosen node is not a sum";
+    case FBS_BAD_PERIOD: return "P is not 2, 4, 8 or 16";
+    case FBS_BAD_VALUE: return "the value is below 0 or above 2P - 1";
     case FBS_NOT_BITS: return "not one bit for each input";
     case FBS_SHORT_VALUES: return "fewer places than outputs";
     case FBS_BROKEN_OFF: return "a bootstrap broke off";

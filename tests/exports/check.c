@@ -1,5 +1,5 @@
-/* The library, called from C (tools/check_exports). What is expected is reckoned by hand from document 01: its tables of refusals
- * and its worked cases. */
+/* The library, called from C (tools/check_exports). What is expected is reckoned by hand from document 01, its tables of refusals
+ * and its worked cases, and from document 02. */
 #include <pthread.h>
 #include <stdio.h>
 #include <string.h>
@@ -347,6 +347,45 @@ static void check_sums(void) {
     expect("no text is the empty text", r.number == 21 && r.line == 1 && r.count == 0);
 }
 
+/* ---- Slots: the steps of P = 2, 4 and 16 are 2^30, 2^29 and 2^27. */
+
+enum { HALF2 = 536870912, HALF4 = 268435456, HALF16 = 67108864 };
+
+static const struct {
+    const char *what;
+    size_t p;
+    int32_t value, error;
+    size_t number, slot;
+} phases[] = {
+    {"no error", 4, 5, 0, 0, 5},
+    {"minus half", 4, 5, -HALF4, 0, 5},
+    {"below minus half", 4, 5, -HALF4 - 1, 0, 4},
+    {"below plus half", 4, 5, HALF4 - 1, 0, 5},
+    {"plus half goes up", 4, 5, HALF4, 0, 6},
+    {"slot 0, minus half", 2, 0, -HALF2, 0, 0},
+    {"slot 0, below minus half", 2, 0, -HALF2 - 1, 0, 3},
+    {"the last slot, plus half", 2, 3, HALF2, 0, 0},
+    {"the last slot of 32", 16, 31, HALF16 - 1, 0, 31},
+    {"the last slot of 32, plus half", 16, 31, HALF16, 0, 0},
+    {"the least error", 8, 3, INT32_MIN, 0, 11},
+    {"the greatest error", 8, 3, INT32_MAX, 0, 11},
+    {"36, P = 0", 0, 0, 0, 36, 0},
+    {"36, P = 32", 32, 0, 0, 36, 0},
+    {"36 before 37", 3, -1, 0, 36, 0},
+    {"36, the greatest P", SIZE_MAX, 0, 0, 36, 0},
+    {"37, below 0", 4, -1, 0, 37, 0},
+    {"37, above 2P - 1", 4, 8, 0, 37, 0},
+    {"37, the least value", 16, INT32_MIN, 0, 37, 0},
+    {"37, the greatest value", 16, INT32_MAX, 0, 37, 0},
+};
+
+static void check_slots(void) {
+    for (size_t i = 0; i < sizeof phases / sizeof *phases; i++) {
+        fbs_slot r = fbs_find_slot(phases[i].p, phases[i].value, phases[i].error);
+        expect(phases[i].what, r.number == phases[i].number && r.line == 0 && r.slot == phases[i].slot);
+    }
+}
+
 /* What is mapped is admitted and runs as its circuit does. */
 static void check_together(void) {
     for (size_t i = 0; i < 3; i++) {
@@ -394,6 +433,10 @@ static void *job(void *given) {
         j->wrong += r.number != 0 || seen[0] != 1 || seen[1] != 0 || seen[5] != 1;
         r = fbs_run_circuit(bytes(mapped[0].text), strlen(mapped[0].text), bits, 2, bit, 1);
         j->wrong += r.number != 0 || bit[0] != 1;
+        fbs_sum sum = fbs_sum_reading(bytes(summed), strlen(summed), 3, 3);
+        j->wrong += sum.number != 0 || sum.count != 3 || sum.bits[2] != 1;
+        fbs_slot slot = fbs_find_slot(4, 5, -HALF4);
+        j->wrong += slot.number != 0 || slot.slot != 5;
     }
     return NULL;
 }
@@ -418,6 +461,7 @@ int main(void) {
     check_circuit_run();
     check_network_run();
     check_sums();
+    check_slots();
     check_together();
     check_threads();
     expect("words for every number", strcmp(fbs_phrase(25), "a sum's norm is over the limit") == 0 && strcmp(fbs_phrase(12), fbs_phrase(99)) == 0);

@@ -1,4 +1,4 @@
-// The library, called from Rust (tools/check_exports). What is expected is reckoned by hand from document 01.
+// The library, called from Rust (tools/check_exports). What is expected is reckoned by hand from documents 01 and 02.
 // `wonkpecan` is all that a Rust evaluator needs: slices in, a reply out.
 
 mod wonkpecan {
@@ -33,8 +33,16 @@ mod wonkpecan {
         pub bits: [u8; 11],
     }
 
+    #[repr(C)]
+    #[derive(Debug, PartialEq, Clone, Copy)]
+    pub struct Slot {
+        pub number: usize,
+        pub line: usize,
+        pub slot: usize,
+    }
+
     mod c {
-        use super::{Admission, Reply, Sum};
+        use super::{Admission, Reply, Slot, Sum};
 
         unsafe extern "C" {
             pub fn fbs_map(text: *const u8, text_length: usize, out: *mut u8, out_length: usize) -> Reply;
@@ -66,10 +74,11 @@ mod wonkpecan {
                 values_length: usize,
             ) -> Reply;
             pub fn fbs_sum_reading(text: *const u8, text_length: usize, node: usize, value: i32) -> Sum;
+            pub fn fbs_find_slot(p: usize, value: i32, error: i32) -> Slot;
         }
     }
 
-    // SAFETY of all six: a slice's pointer and length are what the header asks for, and a `&mut` shares no place with another.
+    // SAFETY of all seven: a slice's pointer and length are what the header asks for, and a `&mut` shares no place with another.
 
     pub fn map(text: &[u8], out: &mut [u8]) -> Reply {
         unsafe { c::fbs_map(text.as_ptr(), text.len(), out.as_mut_ptr(), out.len()) }
@@ -94,11 +103,15 @@ mod wonkpecan {
     pub fn sum_reading(text: &[u8], node: usize, value: i32) -> Sum {
         unsafe { c::fbs_sum_reading(text.as_ptr(), text.len(), node, value) }
     }
+
+    pub fn find_slot(p: usize, value: i32, error: i32) -> Slot {
+        unsafe { c::fbs_find_slot(p, value, error) }
+    }
 }
 
 use std::fmt::Debug;
 use std::sync::atomic::{AtomicUsize, Ordering};
-use wonkpecan::{Admission, Reply, Sum, admit, build_table, map, run_circuit, run_network, sum_reading};
+use wonkpecan::{Admission, Reply, Slot, Sum, admit, build_table, find_slot, map, run_circuit, run_network, sum_reading};
 
 static CHECKS: AtomicUsize = AtomicUsize::new(0);
 
@@ -135,6 +148,17 @@ fn check_sums() {
     same("103", sum_reading(NETWORK, 2, 3), no(103, 0));
     same("35", sum_reading(NETWORK, 3, 0), no(35, 0));
     same("21, the empty text", sum_reading(&[], 2, 0), no(21, 1));
+}
+
+fn check_slots() {
+    let found = |slot| Slot { number: 0, line: 0, slot };
+    let no = |number| Slot { number, line: 0, slot: 0 };
+    same("minus half a step", find_slot(16, 1, -67108864), found(1));
+    same("plus half a step", find_slot(16, 1, 67108864), found(2));
+    same("round the circle", find_slot(2, 3, 536870912), found(0));
+    same("half of the way round", find_slot(8, 3, i32::MIN), found(11));
+    same("36", find_slot(32, -1, 0), no(36));
+    same("37", find_slot(16, 32, 0), no(37));
 }
 
 fn check_map() {
@@ -214,6 +238,7 @@ fn check_runs() {
 fn check_all() {
     check_map();
     check_sums();
+    check_slots();
     check_admit();
     check_builder();
     check_runs();

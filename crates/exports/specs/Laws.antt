@@ -4,12 +4,16 @@ use mathlib.Core.Path.{_≡_, refl, ap, ap₂, _∙_}
 use Prim.Native.Nat.{ℕ}
 use Rattle.rules.specs.Builder.{builderReply}
 use Rattle.rules.specs.Outcome.{Answer, Outcome, outcome}
+use Rattle.rules.specs.Phase.{slotReply}
 use Rattle.rules.specs.Runs.{RunAnswer, Numbered, RunOutcome, ran}
 use Rattle.rules.specs.declared.BuilderReply.{BuilderReply}
+use Rattle.rules.specs.declared.SlotReply.{SlotReply}
+use Rattle.rules.specs.declared.SlotReply.the-variants.{Found, BadPeriod, BadValue}
 use Rattle.rules.specs.declared.SumAnswer.{SumAnswer}
 use Rattle.rules.specs.declared.BuilderReply.the-variants.{Written, BadSettings, BadLengths, SpanOverM, Conflict, NoCompletion, ShortBuffer}
-use Rattle.exports.specs.Numbers.{answer, runNumbers, numbered, sumNumbers, sumPlaces}
+use Rattle.exports.specs.Numbers.{answer, runNumbers, numbered, sumNumbers, sumPlaces, slotNumbers}
 use Rattle.exports.specs.declared.FbsReply.{FbsReply}
+use Rattle.exports.specs.declared.FbsSlot.{FbsSlot}
 use Rattle.exports.specs.declared.FbsSum.{FbsSum}
 
 pub answered : (a b : Answer) (s : List ℕ) (o : Outcome) → a ≡ b → outcome b s ≡ o → outcome a s ≡ o
@@ -39,3 +43,12 @@ pub sum-placed : (a b : SumAnswer) (r : FbsReply) → a ≡ b → answer r ≡ s
     → _≡_ {A = FbsSum} (record { number = r .number; line = r .line; count = r .count; bits = a .bits }) (sumPlaces b)
 unfolding sumPlaces
 sum-placed a b r e f = ap {B = FbsSum} (λ (n : Answer). record { number = n .number; line = n .line; count = n .count; bits = a .bits }) f ∙ ap sumPlaces e
+
+-- The line is 0, whatever is replied to a value with an error.
+abbrev slotAt : ℕ → ℕ → FbsSlot
+slotAt n k = record { number = n; line = 0; slot = k }
+
+pub slot-placed : (r : SlotReply) (n k : ℕ) → n ≡ (slotReply r) .number → k ≡ (slotReply r) .slot → slotAt n k ≡ slotNumbers (slotReply r)
+slot-placed (Found j) n k e f = ap₂ slotAt e f
+slot-placed BadPeriod n k e f = ap₂ slotAt e f
+slot-placed BadValue n k e f = ap₂ slotAt e f

@@ -2,6 +2,7 @@
 use mathlib.Core.Option.{Option, none, some}
 use Rattle.rules.specs.Outcome.{Answer, written, refused}
 use Rattle.rules.specs.NetworkText.{Admission}
+use Rattle.rules.specs.Phase.{SlotAnswer}
 use Rattle.rules.specs.Runs.{RunAnswer, Numbered, NotBits, NoRoom, BreakOff, RunOutcome, ran}
 use Rattle.rules.specs.declared.Stats.{Stats}
 use Rattle.rules.specs.declared.SumAnswer.{SumAnswer}
@@ -10,6 +11,7 @@ use Rattle.rules.specs.declared.SumReply.the-variants as Sum
 use Rattle.exports.specs.declared.FbsReply.{FbsReply}
 use Rattle.exports.specs.declared.FbsAdmission.{FbsAdmission}
 use Rattle.exports.specs.declared.FbsSum.{FbsSum}
+use Rattle.exports.specs.declared.FbsSlot.{FbsSlot}
 
 -- Number, line and count, place by place.
 abbrev pub answer : FbsReply → Answer
@@ -56,3 +58,6 @@ unfoldable pub sumPlaces : SumAnswer → FbsSum
 sumPlaces a =
     let n = sumNumbers (a .reply) in
     record { number = n .number; line = n .line; count = n .count; bits = a .bits }
+
+abbrev pub slotNumbers : SlotAnswer → FbsSlot
+slotNumbers a = record { number = a .number; line = a .line; slot = a .slot }

@@ -6,15 +6,17 @@ use crate::numbers::admission_numbers;
 use crate::numbers::builder_numbers;
 use crate::numbers::map_numbers;
 use crate::numbers::run_numbers;
+use crate::numbers::slot_numbers;
 use crate::numbers::sum_numbers;
 ghost use mathlib.Core.Path.{_≡_};
 ghost use Rattle.rules.specs.Builder.{builder};
 ghost use Rattle.rules.specs.Mapper.{mapper};
 ghost use Rattle.rules.specs.NetworkText.{admission};
 ghost use Rattle.rules.specs.Outcome.{outcome};
+ghost use Rattle.rules.specs.Phase.{slotAnswer};
 ghost use Rattle.rules.specs.Runs.{Numbered, ran, runCircuit, runNetwork};
 ghost use Rattle.rules.specs.SumReading.{sumReading, sumAnswer};
-ghost use Rattle.exports.specs.Numbers.{answer, admissionNumbers, numbered, sumPlaces};
+ghost use Rattle.exports.specs.Numbers.{answer, admissionNumbers, numbered, sumPlaces, slotNumbers};
 
 // 0 and the count of bytes or values written, or the number and the line of the refusal.
 #[repr(C)]
@@ -46,6 +48,14 @@ pub struct FbsSum {
     pub line: usize,
     pub count: usize,
     pub bits: [u8; 11],
+}
+
+// 0 and the slot, or the number; the line is 0.
+#[repr(C)]
+pub struct FbsSlot {
+    pub number: usize,
+    pub line: usize,
+    pub slot: usize,
 }
 
 // A circuit's text mapped to a network's.
@@ -114,4 +124,13 @@ pub extern "C" fn fbs_sum_reading(text: &[u8], node: usize, value: i32) -> FbsSu
         count: r.count,
         bits,
     }
+}
+
+// The slot where a value with an error is found.
+#[no_mangle]
+pub extern "C" fn fbs_find_slot(p: usize, value: i32, error: i32) -> FbsSlot
+    ensures { λ r. ⌜ r ≡ slotNumbers (slotAnswer p value error) ⌝ }
+{
+    let r = phase::slot(p, value, error);
+    slot_numbers(r)
 }

@@ -1,18 +1,21 @@
 // Each reply as numbers.
 use crate::FbsAdmission;
 use crate::FbsReply;
+use crate::FbsSlot;
 use rules::AdmitReply;
 use rules::BuilderReply;
 use rules::MapReply;
 use rules::RunReply;
+use rules::SlotReply;
 use rules::SumReply;
 ghost use mathlib.Core.Path.{_≡_};
 ghost use Rattle.rules.specs.Builder.{builderReply};
 ghost use Rattle.rules.specs.Mapper.{mapReply};
 ghost use Rattle.rules.specs.NetworkText.{admitReply};
+ghost use Rattle.rules.specs.Phase.{slotReply};
 ghost use Rattle.rules.specs.Runs.{runReply};
 ghost use Rattle.rules.specs.Outcome.{written, refused};
-ghost use Rattle.exports.specs.Numbers.{answer, runNumbers, admissionNumbers, sumNumbers};
+ghost use Rattle.exports.specs.Numbers.{answer, runNumbers, admissionNumbers, sumNumbers, slotNumbers};
 
 fn accepted(count: usize) -> FbsReply
     ensures { λ r. ⌜ answer r ≡ written count ⌝ }
@@ -74,6 +77,16 @@ pub fn sum_numbers(reply: SumReply) -> FbsReply
         SumReply::Shown(count) => accepted(count),
         SumReply::NoneGives => turned_away(103, 0),
         SumReply::Refused(number, line) => turned_away(number, line),
+    }
+}
+
+pub fn slot_numbers(reply: SlotReply) -> FbsSlot
+    ensures { λ r. ⌜ r ≡ slotNumbers (slotReply reply) ⌝ }
+{
+    FbsSlot {
+        number: phase::reply_number(reply),
+        line: 0,
+        slot: phase::reply_slot(reply),
     }
 }
 

@@ -11,3 +11,5 @@ pub mod Tail
 pub mod Select
 pub mod Digits
 pub mod Laid
+pub mod Modulo
+pub mod Circle

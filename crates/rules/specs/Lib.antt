@@ -17,4 +17,5 @@ pub mod Composition
 pub mod Mapper
 pub mod Service
 pub mod SumReading
+pub mod Phase
 pub mod Computed

@@ -44,3 +44,7 @@ pub mod FirstAssignment
 pub mod SumBounds
 pub mod SumLine
 pub mod SumReadingExact
+pub mod Widths
+pub mod SlotExact
+pub mod TrialRuns
+pub mod WorkedSlots

@@ -6,6 +6,7 @@ use Prim.Native.Nat.{ℕ, _+_, _*_, _%_, _<_, _≤_}
 use native.Mathlib.Numerals.{add-one}
 use borrow.Author.Tests.{eq-eqb, ne-eqb}
 use lib.Dec.{leb, ltb, eqb}
+use lib.IntN.{ℤ, pos, negsuc, negℤ}
 use lib.ListN.{length, getD, drop, drop-of-length-le, List·getD-eq-default}
 use lib.Seq.{drop-cons}
 use Rattle.laws.specs.Test.{if_then_else_}
@@ -52,6 +53,13 @@ unfoldable pub nextToken : List ℕ → ℕ → Token
 nextToken text from =
     let at = skipped text from in
     if eqb (getD text at 0) 45 then digitsAt text true 0 (at + 1) else digitsAt text false 0 at
+
+-- A 32-bit value; the least one where a number is too large.
+unfoldable pub signedOf : Token → ℤ
+signedOf t =
+    if ltb 2147483647 (t .value) then negsuc 2147483647
+    else if t .negative then negℤ (pos (t .value))
+    else pos (t .value)
 
 module _ (text : List ℕ) (i : ℕ) where
   module _ (h : i < length text) where

@@ -1,7 +1,7 @@
 // Numbers of a text, for programs that replay stored cases. It leans on no other code.
 ghost use mathlib.Core.Path.{_≡_};
 ghost use Prim.Native.Nat.{_≤_, min};
-ghost use Rattle.vectors.specs.Token.{isDigit, startsNumber, skipped, withDigit, digitsAt, nextToken};
+ghost use Rattle.vectors.specs.Token.{isDigit, startsNumber, skipped, withDigit, digitsAt, nextToken, signedOf};
 
 // A number of a text: its absolute value, its sign, and where the text goes on.
 pub struct Token {
@@ -97,4 +97,17 @@ pub fn at_most(n: Token, most: usize) -> usize
     } else {
         most
     }
+}
+
+// A 32-bit value; the least one where a number is too large.
+pub fn signed(n: Token) -> i32
+    ensures { λ r. ⌜ r ≡ signedOf n ⌝ }
+{
+    if 2147483647 < n.value {
+        return -2147483648;
+    }
+    if n.negative {
+        return 0 - (n.value as i32);
+    }
+    n.value as i32
 }

@@ -4,20 +4,12 @@ use mathlib.Core.List.{List, map}
 use Prim.Native.Nat.{ℕ, _+_, _<_, _≤_, min}
 use native.Mathlib.Omega.{arith}
 use lib.Dec.{ltb}
-use lib.IntN.{ℤ, pos, negsuc, negℤ}
 use lib.ListN.{length, getD, set, length-map, List·getD-map}
 use Rattle.laws.specs.Front.{front, front-zero, front-get, front-all, front-step}
 use Rattle.laws.specs.Test.{if_then_else_}
 use Rattle.vectors.specs.declared.Token.{Token}
 use Rattle.vectors.specs.Token.{skipped, nextToken}
 use Rattle.vectors.specs.Tokens.{tokensFrom, placeAfter, tokens-length, token-at}
-
--- A 32-bit value; the least one where a number is too large.
-unfoldable pub signedOf : Token → ℤ
-signedOf t =
-    if ltb 2147483647 (t .value) then negsuc 2147483647
-    else if t .negative then negℤ (pos (t .value))
-    else pos (t .value)
 
 -- A byte, 255 where a number is too large.
 unfoldable pub byteOf : Token → ℕ

@@ -6,26 +6,16 @@ use libc::STDOUT_FILENO;
 use vectors::Token;
 use vectors::at_most;
 use vectors::next_token;
+use vectors::signed;
 use vectors::skip;
 ghost use mathlib.Core.Path.{_≡_};
 ghost use mathlib.Core.List.{map};
 ghost use Prim.Native.Nat.{_≤_};
 ghost use lib.ListN.{length};
 ghost use Rattle.rules.specs.Builder.{builder};
+ghost use Rattle.vectors.specs.Token.{signedOf};
 ghost use Rattle.vectors.specs.Tokens.{tokensFrom, placeAfter};
-ghost use Rattle.vectors_builder.specs.Case.{signedOf, byteOf, shownByte, afterList, afterCase};
-
-fn signed(n: Token) -> i32
-    ensures { λ r. ⌜ r ≡ signedOf n ⌝ }
-{
-    if 2147483647 < n.value {
-        return -2147483648;
-    }
-    if n.negative {
-        return 0 - (n.value as i32);
-    }
-    n.value as i32
-}
+ghost use Rattle.vectors_builder.specs.Case.{byteOf, shownByte, afterList, afterCase};
 
 fn byte(n: Token) -> u8
     ensures { λ r. ⌜ r ≡ byteOf n ⌝ }

@@ -4,20 +4,10 @@ use libc::STDIN_FILENO;
 use libc::STDOUT_FILENO;
 use rules::SumAnswer;
 use rules::SumReply;
-use vectors::Token;
 use vectors::at_most;
 use vectors::next_token;
+use vectors::signed;
 use vectors::skip;
-
-fn signed(n: Token) -> i32 {
-    if 2147483647 < n.value {
-        return if n.negative { -2147483648 } else { 2147483647 };
-    }
-    if n.negative {
-        return 0 - (n.value as i32);
-    }
-    n.value as i32
-}
 
 fn put_number(n: usize) {
     io::write_all(STDOUT_FILENO, b" ");

@@ -8,7 +8,8 @@ use lib.ListN.{length, length-set}
 use mir.Syntax.{w32}
 use Rattle.laws.specs.Integer.{read-back-at}
 use Rattle.vectors.specs.Tokens.{placeAfter, place-start, place-step}
-use Rattle.vectors_builder.specs.Case.{signedOf, filling, filling-start, filling-next, filling-end}
+use Rattle.vectors.specs.Token.{signedOf}
+use Rattle.vectors_builder.specs.Case.{filling, filling-start, filling-next, filling-end}
 use Rattle.vectors_builder.proofs.take_values.Statement.{statement}
 use Rattle.vectors_builder.proofs.take_values.Tie as tie
 

@@ -1,4 +1,4 @@
--- `vectors_builder::signed` meets its contract: a value below 2 ^ 31 can be negated.
+-- `vectors::signed` meets its contract: a value below 2 ^ 31 can be negated.
 use mathlib.Core.Path.{_≡_}
 use mathlib.Core.Bool.{true, false}
 use Prim.Native.Nat.{ℕ, _<_, _≤_}
@@ -10,10 +10,10 @@ use mir.Facts.{toZ-pos, toZ-ofZ}
 use mir.Syntax.{w32}
 use mir.Val.{SFits, toZ, ofZ}
 use Rattle.laws.specs.Integer.{ints, plus, minus, sub-parts, plus-neg, minus-neg, abs-add, abs-neg, fits-abs}
 use Rattle.vectors.specs.declared.Token.{Token}
-use Rattle.vectors_builder.specs.Case.{signedOf}
-use Rattle.vectors_builder.proofs.signed.Statement.{statement}
-use Rattle.vectors_builder.proofs.signed.Tie as tie
+use Rattle.vectors.specs.Token.{signedOf}
+use Rattle.vectors.proofs.signed.Statement.{statement}
+use Rattle.vectors.proofs.signed.Tie as tie
 
 opposite : (a : ℕ) → pos 0 -ℤ pos a ≡ negℤ (pos a)
 unfolding plus minus

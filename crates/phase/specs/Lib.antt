@@ -1,0 +1,2 @@
+-- The definitions of phases as the machine reckons them.
+pub mod Reckoned
