@@ -93,7 +93,7 @@ typedef struct fbs_admission {
     size_t boots;
     size_t sources; /* different nodes that boots stand on: the rotations of an evaluator that rotates a sum once for all its tables */
     size_t longest; /* bits of the longest table */
-    size_t norm;    /* the largest squared norm of a node */
+    size_t norm;    /* the largest squared norm of a node, by the weights of the inputs; an input counts its weight */
     size_t outputs;
 } fbs_admission;
 

@@ -12,6 +12,7 @@ ORACLE = TARGET / "release" / "oracle"
 REACH = TARGET / "release" / "reach"
 CONES = TARGET / "release" / "cones"
 CONVERT = TARGET / "release" / "convert"
+WRONG = TARGET / "release" / "wrong"
 
 
 def holds_source(place):

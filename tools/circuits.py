@@ -1,4 +1,4 @@
-"""Circuits in document 01's text form, for generate, compare and convert."""
+"""Circuits in the text form of documents 01 and 02, for generate, compare and convert."""
 
 import random
 
@@ -7,6 +7,7 @@ LONGEST_JOB = 32_768
 MOST_INPUTS = 32
 MOST_GATES = 96
 MOST_OUTPUTS = 32
+MOST_WEIGHT = 64
 POLICIES = ("basic", "naive", "span")
 TABLES = ("one", "many")
 
@@ -71,26 +72,33 @@ def wire_text(wire):
     return f"(k {wire})" if isinstance(wire, str) else f"(n {wire})"
 
 
-class Circuit:
-    """Inputs are names; a gate is (name, bits, wires); an output (name, wire)."""
+def input_text(name, weight):
+    return f"(in {name})" if weight == 1 else f"(in {name} {weight})"
 
-    def __init__(self, settings=None, inputs=(), gates=(), outputs=()):
+
+class Circuit:
+    """Inputs are names, each with the weight at its place in `weights`; a gate is (name, bits, wires); an output
+    (name, wire)."""
+
+    def __init__(self, settings=None, inputs=(), gates=(), outputs=(), weights=None):
         self.settings = settings or Settings()
         self.inputs = list(inputs)
         self.gates = list(gates)
         self.outputs = list(outputs)
+        self.weights = [1] * len(self.inputs) if weights is None else list(weights)
 
     def copy(self):
-        return Circuit(self.settings.copy(), self.inputs, self.gates, self.outputs)
+        return Circuit(self.settings.copy(), self.inputs, self.gates, self.outputs, self.weights)
 
     @property
     def nodes(self):
         return len(self.inputs) + len(self.gates)
 
-    def input(self, name=None):
+    def input(self, name=None, weight=1):
         """Add an input; its node."""
         assert not self.gates
         self.inputs.append(name or f"i{len(self.inputs)}")
+        self.weights.append(weight)
         return len(self.inputs) - 1
 
     def gate(self, bits, *wires, name=None):
@@ -106,7 +114,7 @@ class Circuit:
 
     def lines(self):
         lines = [self.settings.line()]
-        lines += [f"(in {name})" for name in self.inputs]
+        lines += [input_text(*both) for both in zip(self.inputs, self.weights, strict=True)]
         for name, bits, wires in self.gates:
             lines.append(f"(gate {name} {bits}{''.join(' ' + wire_text(wire) for wire in wires)})")
         lines += [f"(out {name} {wire_text(wire)})" for name, wire in self.outputs]
@@ -155,10 +163,10 @@ def parse(text):
             if settings is None:
                 return None
             circuit = Circuit(settings)
-        elif kind == "in" and len(words) == 1:
-            if circuit.gates or circuit.outputs:
+        elif kind == "in" and len(words) in (1, 2):
+            if circuit.gates or circuit.outputs or not all(word.isdigit() and len(word) < 6 for word in words[1:]):
                 return None
-            circuit.inputs.append(words[0])
+            circuit.input(words[0], *map(int, words[1:]))
         elif kind == "gate" and len(words) >= 2:
             wires = _wires(words[2:])
             if wires is None or circuit.outputs:

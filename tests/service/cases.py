@@ -1,4 +1,4 @@
-"""Inputs of the service with the outputs that document 01 gives them, by hand.
+"""Inputs of the service with the outputs that documents 01 and 02 give them, by hand.
 
 A case is (what it shows, the whole input, the whole output)."""
 
@@ -232,6 +232,69 @@ ORDER = [
     ("reading comes before mapping", job("(fbs 4 8 10 0 span one)", "(in a)", "(gate g 10 (n 0))", "(out y (n 9))"), refused(6, 4)),
 ]
 
+# Document 02, S-6.
+HEAVY_NORM = "(fbs 4 8 10 {} {} one)"
+
+
+def and_of(norm, *inputs):
+    return job(HEAVY_NORM.format(norm, "span"), *inputs, "(gate g 0001 (n 0) (n 2))", "(out y (n 3))")
+
+
+WEIGHTS = [
+    (
+        "a weight stays, and the heavier side comes first",
+        job(S, "(in a)", "(in b 2)", "(gate g 0001 (n 0) (n 1))", "(out y (n 2))"),
+        job("(net 4 8 none)", "(in a)", "(in b 2)", "(lin 0 (1 1) (1 0))", "(boot 2 001)", "(out y (n 3))"),
+    ),
+    (
+        "weights 64, 10 and 1, and a dead input before them",
+        job(S, "(in a 9)", "(in b 64)", "(in c 10)", "(in d)", "(out x (n 1))", "(out y (n 2))", "(out z (n 3))"),
+        job("(net 4 8 none)", "(in b 64)", "(in c 10)", "(in d)", "(out x (n 0))", "(out y (n 1))", "(out z (n 2))"),
+    ),
+    (
+        "the norm by weights picks (1, -3), where (2, -1) has the smaller one without",
+        job("(fbs 5 6 10 none span one)", "(in a)", "(in b)", "(in c 2)", "(gate g 0110 (n 0) (n 2))", "(gate h 0001 (n 3) (n 1))", "(out y (n 4))"),
+        job("(net 5 6 none)", "(in a)", "(in b)", "(in c 2)", "(lin 4 (1 2) (-1 0) (-3 1))", "(boot 3 101000)", "(out y (n 4))"),
+    ),
+    (
+        "AND of weights 3 and 64 at their sum",
+        and_of(67, "(in a 3)", "(in b 2)", "(in c 64)"),
+        job("(net 4 8 67)", "(in a 3)", "(in c 64)", "(lin 0 (1 1) (1 0))", "(boot 2 001)", "(out y (n 3))"),
+    ),
+    ("AND of weights 3 and 64, one below", and_of(66, "(in a 3)", "(in b 2)", "(in c 64)"), refused(9, 5)),
+    (
+        "limit 8 passes an output on an input of weight 9",
+        job(HEAVY_NORM.format(8, "span"), "(in a 9)", "(out y (n 0))"),
+        job("(net 4 8 8)", "(in a 9)", "(out y (n 0))"),
+    ),
+    ("but not under basic", job(HEAVY_NORM.format(8, "basic"), "(in a 9)", "(in b)", "(out y (n 0))"), refused(8, 0)),
+    (
+        "where it is dead it does not count",
+        job(HEAVY_NORM.format(8, "basic"), "(in a 9)", "(in b)", "(out y (n 1))"),
+        job("(net 2 4 8)", "(in b)", "(out y (n 0))"),
+    ),
+    ("limit 8 refuses a NOT of weight 9", job(HEAVY_NORM.format(8, "span"), "(in a 9)", "(gate g 10 (n 0))"), refused(8, 3)),
+    ("and the gate 01", job(HEAVY_NORM.format(8, "naive"), "(in a 9)", "(gate g 01 (n 0))"), refused(8, 3)),
+    (
+        "limit 9 passes a NOT of weight 9",
+        job(HEAVY_NORM.format(9, "span"), "(in a 9)", "(gate g 10 (n 0))", "(out y (n 1))"),
+        job("(net 4 8 9)", "(in a 9)", "(lin 1 (-1 0))", "(out y (n 1))"),
+    ),
+    ("AND of one wire of weight 9, limit 8", job(HEAVY_NORM.format(8, "span"), "(in a 9)", "(gate g 0001 (n 0) (n 0))"), refused(9, 3)),
+    ("a name repeated with another weight", job(S, "(in a)", "(in a 2)"), refused(5, 3)),
+    ("a name repeated without its weight", job(S, "(in a 2)", "(in b)", "(in a)"), refused(5, 4)),
+    ("a 33rd input with a weight", job(S, *INPUTS_32, "(in x 2)"), refused(3, 34)),
+    ("a 33rd input with weight 1", job(S, *INPUTS_32, "(in x 1)"), refused(1, 34)),
+    ("an input with a weight behind a gate", job(S, "(in a 2)", "(gate g 10 (n 0))", "(in b 2)"), refused(4, 4)),
+    *(
+        (f"no weight: {written[:20]!r}", bad_second(f"(in a{written})"), refused(1, 2))
+        for written in (" 1", " 0", " 00", " 01", " 02", " 064", " 65", " 66", " 100", " 258", " -2", " +2", "  2", " 2 ", " ", " 2 2", " 2.0", " 0x2", " x", "\t2")
+    ),
+    ("a weight of a thousand digits", bad_second(f"(in a {DIGITS})"), refused(1, 2)),
+    ("a weight of 2 to the 64 and 2", bad_second("(in a 18446744073709551618)"), refused(1, 2)),
+    ("a name of two digits and no weight", job(S, "(in 64)", "(out y (n 0))"), job("(net 4 8 none)", "(in 64)", "(out y (n 0))")),
+]
+
 
 def padded(length):
     """A text of so many bytes whose last line goes to no earlier node."""
@@ -261,5 +324,5 @@ SERVICE = [
 
 CASES = [
     (what, given.encode("latin-1"), expected.encode("latin-1"))
-    for what, given, expected in WORKED + ROWS + FORMS + SETTINGS + ORDER + SERVICE
+    for what, given, expected in WORKED + ROWS + FORMS + SETTINGS + ORDER + WEIGHTS + SERVICE
 ]

@@ -1,5 +1,6 @@
-//! Copies the Rust mapper into OUT_DIR with small edits, three times: `plain` for
-//! the oracle, `reach` with counters added, `cones` with an entry to its cones; all with document 02's order of ties.
+//! Copies the Rust mapper into OUT_DIR with small edits, four times: `plain` for the oracle, `reach` with counters added,
+//! `cones` with an entry to its cones, `wrong` with weights lost where its argument says; all with document 02's order of
+//! ties and its weights.
 //! Its place is FBS_MAP_SRC, the directory that holds `src/mapper.rs`, or ../../../shared/docs/src from here.
 //! An edit whose text is not found exactly as often as expected stops the build.
 
@@ -22,6 +23,13 @@ struct Exchange {
     second: &'static str,
 }
 
+/// In `file`, one text that stands there once, and what takes its place.
+struct Change {
+    file: &'static str,
+    old: &'static str,
+    new: &'static str,
+}
+
 const FILES: [&str; 3] = ["circuit.rs", "lut.rs", "mapper.rs"];
 
 /// Document 02, S-3, in `Score::ordering`: the smaller norm before the smaller energy.
@@ -30,6 +38,99 @@ const ORDER: Exchange = Exchange {
     first: "            .then_with(|| self.energy.cmp(&other.energy))\n",
     second: "            .then_with(|| self.norm2.cmp(&other.norm2))\n",
 };
+
+/// Document 02, S-6: an input counts its weight in every norm. A sum takes `self.norm2` of its sources, which are inputs
+/// and bootstraps, so in `lut.rs` the input's own is enough.
+const WEIGHTS: &[Change] = &[
+    Change {
+        file: "mapper.rs",
+        old: "        coefficients_norm2(&self.coefficients)\n",
+        new: "        coefficients_norm2(&self.coefficients, &self.support)\n",
+    },
+    Change {
+        file: "mapper.rs",
+        old: "            let norm2 = coefficients_norm2(&coefficients);\n",
+        new: "            let norm2 = coefficients_norm2(&coefficients, &cone.support);\n",
+    },
+    Change {
+        file: "mapper.rs",
+        old: "fn coefficients_norm2(coefficients: &[i64]) -> u128 {
+    coefficients
+        .iter()
+        .map(|coefficient| {
+            let absolute = coefficient.unsigned_abs() as u128;
+            absolute.saturating_mul(absolute)
+        })
+        .sum()
+}
+",
+        new: "fn coefficients_norm2(coefficients: &[i64], support: &[usize]) -> u128 {
+    coefficients
+        .iter()
+        .zip(support)
+        .map(|(coefficient, node)| {
+            let absolute = coefficient.unsigned_abs() as u128;
+            absolute * absolute * crate::weights::of(*node)
+        })
+        .sum()
+}
+",
+    },
+    // The search has the weights of the merged sources beside their coefficients.
+    Change {
+        file: "mapper.rs",
+        old: "struct CandidateWorkspace {
+    coefficient_basis: Vec<(i64, i64)>,
+",
+        new: "struct CandidateWorkspace {
+    coefficient_basis: Vec<(i64, i64)>,
+    weights: Vec<u128>,
+",
+    },
+    Change {
+        file: "mapper.rs",
+        old: "            coefficient_basis,
+            coefficients: Vec::with_capacity(support.len()),
+",
+        new: "            coefficient_basis,
+            weights: support.iter().map(|node| crate::weights::of(*node)).collect(),
+            coefficients: Vec::with_capacity(support.len()),
+",
+    },
+    Change {
+        file: "mapper.rs",
+        old: "        for &coefficient in &self.coefficients {\n",
+        new: "        for (&coefficient, &weight) in self.coefficients.iter().zip(&self.weights) {\n",
+    },
+    Change {
+        file: "mapper.rs",
+        old: "            norm2 += absolute * absolute;\n",
+        new: "            norm2 += absolute * absolute * weight;\n",
+    },
+    // The cache's key has no weights: it serves only where all are 1.
+    Change {
+        file: "mapper.rs",
+        old: "        if self.config.multioutput_fbs {
+            return self.search_candidate(",
+        new: "        if self.config.multioutput_fbs || !crate::weights::all_1() {
+            return self.search_candidate(",
+    },
+    Change {
+        file: "lut.rs",
+        old: "            LutNode::Input {
+                name: name.to_owned(),
+            },
+            (0, 1),
+            1,
+",
+        new: "            LutNode::Input {
+                name: name.to_owned(),
+            },
+            (0, 1),
+            crate::weights::of(self.nodes.len()),
+",
+    },
+];
 
 /// Document 01's cap of T + 1 merged sources, and the gate that is being mapped.
 const PLAIN: &[Edit] = &[
@@ -238,6 +339,79 @@ const CONES: &[Edit] = &[Edit {
     )],
 }];
 
+/// One weight lost or misplaced, as `src/bin/wrong.rs` was told.
+const WRONG: &[Edit] = &[
+    Edit {
+        file: "mapper.rs",
+        expected: "(cone.span(), cone.norm2())",
+        around: &[("crate::weights::lost_in(\"order\", || ", ")")],
+    },
+    Edit {
+        file: "mapper.rs",
+        expected: "self.validate_cone(&result)",
+        around: &[("crate::weights::lost_in(\"unary\", || ", ")")],
+    },
+    Edit {
+        file: "mapper.rs",
+        expected: "        if mapper.config.max_norm2.is_some_and(|limit| norm2 > limit) {
+            return None;
+        }
+",
+        around: &[(
+            "        let right_norm2 = norm2;
+        let norm2 = crate::weights::norm2_in(\"limit\", norm2, &self.coefficients);
+",
+            "        let norm2 = crate::weights::norm2_in(\"score\", right_norm2, &self.coefficients);\n",
+        )],
+    },
+    Edit {
+        file: "mapper.rs",
+        expected: "            let score = (span, norm2);\n",
+        around: &[(
+            "            let norm2 = crate::weights::norm2_in(\"form\", norm2, &coefficients);\n",
+            "",
+        )],
+    },
+    Edit {
+        file: "mapper.rs",
+        expected: "absolute * absolute * crate::weights::of(*node)",
+        around: &[(
+            "crate::weights::term(",
+            ", absolute, crate::weights::of(*node))",
+        )],
+    },
+    Edit {
+        file: "mapper.rs",
+        expected: "absolute * absolute * weight",
+        around: &[("crate::weights::term(", ", absolute, weight)")],
+    },
+    Edit {
+        file: "mapper.rs",
+        expected: "            return Ok(mapped);\n",
+        around: &[(
+            "            if crate::weights::is_wrong(\"dead\")
+                && self.config.max_norm2.is_some_and(|limit| crate::weights::largest() > limit)
+            {
+                return Err(\"basic mapping requires norm² of an input\".to_owned());
+            }
+",
+            "",
+        )],
+    },
+    Edit {
+        file: "lut.rs",
+        expected: "            stats.max_norm2 = stats.max_norm2.max(self.norm2[id]);\n",
+        around: &[(
+            "            if crate::weights::is_wrong(\"check\") && matches!(node, LutNode::Input { .. }) {
+                stats.max_norm2 = stats.max_norm2.max(1);
+                continue;
+            }
+",
+            "",
+        )],
+    },
+];
+
 /// The text cut at each `expected`, which must stand there `times` times.
 fn pieces<'a>(file: &str, text: &'a str, expected: &str, times: usize) -> Vec<&'a str> {
     let pieces: Vec<&str> = text.split(expected).collect();
@@ -264,6 +438,15 @@ fn edited(file: &str, text: &str, edits: &[Edit]) -> String {
         text = result;
     }
     text
+}
+
+fn changed(file: &str, text: &str, changes: &[Change]) -> String {
+    changes
+        .iter()
+        .filter(|change| change.file == file)
+        .fold(text.to_owned(), |text, change| {
+            pieces(file, &text, change.old, 1).join(change.new)
+        })
 }
 
 fn exchanged(file: &str, text: &str, exchange: &Exchange) -> String {
@@ -304,6 +487,7 @@ fn main() {
         ("plain", &[PLAIN][..]),
         ("reach", &[PLAIN, REACH][..]),
         ("cones", &[CONES][..]),
+        ("wrong", &[PLAIN, WRONG][..]),
     ] {
         fs::create_dir_all(out.join(directory)).unwrap();
         for file in FILES {
@@ -315,7 +499,7 @@ fn main() {
                     path.display()
                 )
             });
-            let mut text = exchanged(file, &text, &ORDER);
+            let mut text = changed(file, &exchanged(file, &text, &ORDER), WEIGHTS);
             for edits in sets {
                 text = edited(file, &text, edits);
             }

@@ -17,20 +17,24 @@ use Rattle.rules.specs.Network.{LutNode, Input, Linear, Bootstrap, isInput, isL
 use Rattle.rules.specs.Store.{needs}
 use Rattle.theorems.specs.Counts.{count-snoc, count-most}
 use Rattle.nodes.specs.Nodes.{kindOf, bytesIn, source-before}
-use Rattle.nodes.specs.View.{Fine, nodeOf, storeOf, store-length}
+use Rattle.nodes.specs.Norm.{norm-among}
+use Rattle.nodes.specs.View.{nodeOf, storeOf, store-length, IsStore}
 
--- The statistics of these nodes, with n outputs.
-unfoldable pub statsOf : List LutNode → ℕ → Stats
-statsOf ns n =
+-- The statistics of these nodes among all of them, with n outputs.
+unfoldable pub statsAmong : List LutNode → List LutNode → ℕ → Stats
+statsAmong all ns n =
     record {
       inputs = count isInput ns;
       sums = count isLinear ns;
       boots = count isBootstrap ns;
       sources = different (bootSources ns);
       longest = largest tableLength ns;
-      norm = largest nodeNorm ns;
+      norm = largest (nodeNorm all) ns;
       outputs = n;
     }
+
+unfoldable pub statsOf : List LutNode → ℕ → Stats
+statsOf ns n = statsAmong ns ns n
 
 unfoldable pub noStats : ℕ → Stats
 noStats n = record { inputs = 0; sums = 0; boots = 0; sources = 0; longest = 0; norm = 0; outputs = n }
@@ -42,31 +46,32 @@ pub record Room (s : Stats) : Type 0 where
   pub boots : s .boots ≤ 672
   pub sources : s .sources ≤ 672
 
-abbrev pub withInput : Stats → Stats
-withInput s =
-    record { inputs = s .inputs + 1; sums = s .sums; boots = s .boots; sources = s .sources; longest = s .longest; norm = max (s .norm) 1; outputs = s .outputs }
+abbrev pub withInput : Stats → ℕ → Stats
+withInput s n =
+    record { inputs = s .inputs + 1; sums = s .sums; boots = s .boots; sources = s .sources; longest = s .longest; norm = max (s .norm) n; outputs = s .outputs }
 
 abbrev pub withSum : Stats → ℕ → Stats
 withSum s n =
     record { inputs = s .inputs; sums = s .sums + 1; boots = s .boots; sources = s .sources; longest = s .longest; norm = max (s .norm) n; outputs = s .outputs }
 
 -- A source that was taken before is not counted again.
-abbrev pub withBoot : Stats → Bool → ℕ → Stats
-withBoot s taken n =
+abbrev pub withBoot : Stats → ℕ → Bool → ℕ → Stats
+withBoot s n taken len =
     record {
       inputs = s .inputs;
       sums = s .sums;
       boots = s .boots + 1;
       sources = if taken then s .sources else (s .sources + 1);
-      longest = max (s .longest) n;
-      norm = max (s .norm) 1;
+      longest = max (s .longest) len;
+      norm = max (s .norm) n;
       outputs = s .outputs;
     }
 
-unfoldable pub nodeStats : Stats → List Bool → LutNode → Stats
-nodeStats s taken (Input n) = withInput s
-nodeStats s taken (Linear c ts) = withSum s (nodeNorm (Linear c ts))
-nodeStats s taken (Bootstrap i table) = withBoot s (getD taken i false) (length table)
+-- One node more, with its norm.
+unfoldable pub nodeStats : Stats → ℕ → List Bool → LutNode → Stats
+nodeStats s norm taken (Input g) = withInput s norm
+nodeStats s norm taken (Linear c ts) = withSum s norm
+nodeStats s norm taken (Bootstrap i table) = withBoot s norm (getD taken i false) (length table)
 
 unfoldable pub takenWith : List Bool → LutNode → List Bool
 takenWith taken (Input n) = taken
@@ -146,25 +151,25 @@ records p q r s t u = rw (p, q, r, s, t, u)
 abbrev Takes : LutNode → Type 0
 Takes n = (k : ℕ) → k < length (needs n) → getD (needs n) k 0 < 672
 
-module _ (ns : List LutNode) (k : ℕ) where
-  stats-more : (n : LutNode) → Takes n → nodeStats (statsOf ns k) (takenOf (bootSources ns)) n ≡ statsOf (ns ++ (n ∷ [])) k
-  unfolding nodeStats statsOf isInput isLinear isBootstrap tableLength nodeNorm bootSources needs
-  stats-more (Input name) f =
-      let m = Input name in
+module _ (all ns : List LutNode) (k : ℕ) where
+  stats-more : (n : LutNode) → Takes n → nodeStats (statsAmong all ns k) (nodeNorm all n) (takenOf (bootSources ns)) n ≡ statsAmong all (ns ++ (n ∷ [])) k
+  unfolding nodeStats statsAmong isInput isLinear isBootstrap tableLength bootSources needs
+  stats-more (Input g) f =
+      let m = Input g in
       let e = sources-append ns (m ∷ []) ∙ append-nil (bootSources ns) in
       records (omega (arith, count-snoc isInput ns m)) (omega (arith, count-snoc isLinear ns m)) (omega (arith, count-snoc isBootstrap ns m)) (sym (ap different e))
-      (omega (arith, largest-more tableLength ns m)) (omega (arith, largest-more nodeNorm ns m))
+      (omega (arith, largest-more tableLength ns m)) (sym (largest-more (nodeNorm all) ns m))
   stats-more (Linear c ts) f =
       let m = Linear c ts in
       let e = sources-append ns (m ∷ []) ∙ append-nil (bootSources ns) in
       records (omega (arith, count-snoc isInput ns m)) (omega (arith, count-snoc isLinear ns m)) (omega (arith, count-snoc isBootstrap ns m)) (sym (ap different e))
-      (omega (arith, largest-more tableLength ns m)) (omega (arith, largest-more nodeNorm ns m))
+      (omega (arith, largest-more tableLength ns m)) (sym (largest-more (nodeNorm all) ns m))
   stats-more (Bootstrap i table) f =
       let m = Bootstrap i table in
       let e = sources-append ns (m ∷ []) in
       records (omega (arith, count-snoc isInput ns m)) (omega (arith, count-snoc isLinear ns m)) (omega (arith, count-snoc isBootstrap ns m))
       (rw (taken-at (bootSources ns) i (f 0 (omega arith)), e, different-more i (bootSources ns)) (by (member i (bootSources ns)) (different (bootSources ns))))
-      (omega (arith, largest-more tableLength ns m)) (omega (arith, largest-more nodeNorm ns m))
+      (omega (arith, largest-more tableLength ns m)) (sym (largest-more (nodeNorm all) ns m))
     where
       by : (b : Bool) (d : ℕ) → (if b then d else (d + 1)) ≡ d + (if b then 0 else 1)
       by true d = omega arith
@@ -172,7 +177,7 @@ module _ (ns : List LutNode) (k : ℕ) where
 
 taken-node : (ns : List LutNode) (n : LutNode) → Takes n → takenWith (takenOf (bootSources ns)) n ≡ takenOf (bootSources (ns ++ (n ∷ [])))
 unfolding takenWith bootSources needs
-taken-node ns (Input name) f = sym (ap takenOf (sources-append ns (Input name ∷ []) ∙ append-nil (bootSources ns)))
+taken-node ns (Input g) f = sym (ap takenOf (sources-append ns (Input g ∷ []) ∙ append-nil (bootSources ns)))
 taken-node ns (Linear c ts) f = sym (ap takenOf (sources-append ns (Linear c ts ∷ []) ∙ append-nil (bootSources ns)))
 taken-node ns (Bootstrap i table) f = taken-more (bootSources ns) i (f 0 (omega arith)) ∙ sym (ap takenOf (sources-append ns (Bootstrap i table ∷ [])))
 
@@ -186,9 +191,9 @@ different-within (Bootstrap i table ∷ ns) =
     let h = different-within ns in
     if-both (λ k. k + different (bootSources ns) ≤ suc (length ns)) (member i (bootSources ns)) (omega arith) (omega arith)
 
-stats-room : (ns : List LutNode) (k : ℕ) → length ns ≤ 672 → Room (statsOf ns k)
-unfolding statsOf
-stats-room ns k h =
+stats-room : (all ns : List LutNode) (k : ℕ) → length ns ≤ 672 → Room (statsAmong all ns k)
+unfolding statsAmong
+stats-room all ns k h =
     record {
       inputs = omega (arith, count-most isInput ns);
       sums = omega (arith, count-most isLinear ns);
@@ -199,70 +204,75 @@ stats-room ns k h =
 -- ---- laws: a turn of the loop
 
 -- The nodes below i were counted.
-pub record Counting (bytes : List ℕ) (outputs : ℕ) (marks : List Bool) (s : Stats) (i : ℕ) : Type 0 where
-  pub stats : s ≡ statsOf (storeOf bytes i) outputs
+pub record Counting (bytes : List ℕ) (count outputs : ℕ) (marks : List Bool) (s : Stats) (i : ℕ) : Type 0 where
+  pub stats : s ≡ statsAmong (storeOf bytes count) (storeOf bytes i) outputs
   pub taken : marks ≡ takenOf (bootSources (storeOf bytes i))
 
-pub counting-start : (bytes : List ℕ) (outputs : ℕ) (s : Stats) → s ≡ noStats outputs → Counting bytes outputs (replicate 672 false) s 0
-unfolding noStats statsOf count different bootSources largest takenOf memberOf member storeOf tabulate
-counting-start bytes outputs s e = record { stats = e; taken = refl }
+pub counting-start : (bytes : List ℕ) (n outputs : ℕ) (s : Stats) → s ≡ noStats outputs → Counting bytes n outputs (replicate 672 false) s 0
+unfolding noStats statsAmong count different bootSources largest takenOf memberOf member storeOf tabulate
+counting-start bytes n outputs s e = record { stats = e; taken = refl }
 
-module _ {bytes : List ℕ} {outputs : ℕ} {taken : List Bool} {s : Stats} {i : ℕ} (c : Counting bytes outputs taken s i) where
+module _ {bytes : List ℕ} {count outputs : ℕ} {taken : List Bool} {s : Stats} {i : ℕ} (c : Counting bytes count outputs taken s i) where
   pub counting-long : length taken ≡ 672
   counting-long = ap length (c .taken) ∙ taken-length (bootSources (storeOf bytes i))
 
   pub counting-room : i ≤ 672 → Room s
-  counting-room h = rw (c .stats) (stats-room (storeOf bytes i) outputs (omega (arith, store-length bytes i)))
+  counting-room h = rw (c .stats) (stats-room (storeOf bytes count) (storeOf bytes i) outputs (omega (arith, store-length bytes i)))
 
   store-more : storeOf bytes (i + 1) ≡ storeOf bytes i ++ (nodeOf bytes i ∷ [])
   unfolding storeOf
   store-more = ap (λ n. tabulate n (nodeOf bytes)) (add-one i) ∙ tabulate-snoc i (nodeOf bytes)
 
-  pub counting-next : {after : List Bool} {r : Stats} → Fine i (nodeOf bytes i) → i < 672 → r ≡ nodeStats s taken (nodeOf bytes i) → after ≡ takenWith taken (nodeOf bytes i)
-      → Counting bytes outputs after r (i + 1)
-  counting-next {r = r} f h e g =
-      let w : Takes (nodeOf bytes i) = λ k l. omega (arith, source-before i (nodeOf bytes i) f k l) in
+  pub counting-next : {after : List Bool} {r : Stats} → IsStore bytes count → i < count → r ≡ nodeStats s (nodeNorm (storeOf bytes i) (nodeOf bytes i)) taken (nodeOf bytes i) → after ≡ takenWith taken (nodeOf bytes i)
+      → Counting bytes count outputs after r (i + 1)
+  counting-next {r = r} store h e g =
+      let n = nodeOf bytes i in
+      let all = storeOf bytes count in
+      let f = store .fine i h in
+      let w : Takes n = λ k l. omega (arith, source-before i n f k l, store .most) in
+      let q : nodeStats s (nodeNorm (storeOf bytes i) n) taken n ≡ nodeStats s (nodeNorm all n) taken n = ap (λ k. nodeStats s k taken n) (norm-among bytes i count n f (omega arith)) in
       record {
-        stats = e ∙ ap₂ (λ t l. nodeStats t l (nodeOf bytes i)) (c .stats) (c .taken) ∙ stats-more (storeOf bytes i) outputs (nodeOf bytes i) w ∙ ap (λ ns. statsOf ns outputs) (sym store-more);
-        taken = g ∙ ap (λ l. takenWith l (nodeOf bytes i)) (c .taken) ∙ taken-node (storeOf bytes i) (nodeOf bytes i) w ∙ ap (λ ns. takenOf (bootSources ns)) (sym store-more);
+        stats = e ∙ q ∙ ap₂ (λ t l. nodeStats t (nodeNorm all n) l n) (c .stats) (c .taken) ∙ stats-more all (storeOf bytes i) outputs n w ∙ ap (λ ns. statsAmong all ns outputs) (sym store-more);
+        taken = g ∙ ap (λ l. takenWith l n) (c .taken) ∙ taken-node (storeOf bytes i) n w ∙ ap (λ ns. takenOf (bootSources ns)) (sym store-more);
       }
 
-pub counting-done : {bytes : List ℕ} {outputs : ℕ} {taken : List Bool} {s : Stats} {i : ℕ} (n : ℕ) → Counting bytes outputs taken s i → i ≡ n → s ≡ statsOf (storeOf bytes n) outputs
-counting-done {bytes} {outputs} n c e = c .stats ∙ ap (λ k. statsOf (storeOf bytes k) outputs) e
+  pub counting-done : i ≡ count → s ≡ statsOf (storeOf bytes count) outputs
+  unfolding statsOf
+  counting-done e = c .stats ∙ ap (λ k. statsAmong (storeOf bytes count) (storeOf bytes k) outputs) e
 
 -- ---- laws: each kind of node
 
-module _ (s : Stats) (taken : List Bool) where
-  pub input-stats : (n : LutNode) → kindOf n ≡ 0 → (withInput s ≡ nodeStats s taken n) × (taken ≡ takenWith taken n)
+module _ (s : Stats) (norm : ℕ) (taken : List Bool) where
+  pub input-stats : (n : LutNode) → kindOf n ≡ 0 → (withInput s norm ≡ nodeStats s norm taken n) × (taken ≡ takenWith taken n)
   unfolding kindOf nodeStats takenWith
-  input-stats (Input name) h = (refl, refl)
+  input-stats (Input g) h = (refl, refl)
   input-stats (Linear c ts) h = absurd (omega arith)
   input-stats (Bootstrap j table) h = absurd (omega arith)
 
-  pub sum-stats : (n : LutNode) → kindOf n ≡ 1 → (withSum s (nodeNorm n) ≡ nodeStats s taken n) × (taken ≡ takenWith taken n)
+  pub sum-stats : (n : LutNode) → kindOf n ≡ 1 → (withSum s norm ≡ nodeStats s norm taken n) × (taken ≡ takenWith taken n)
   unfolding kindOf nodeStats takenWith
-  sum-stats (Input name) h = absurd (omega arith)
+  sum-stats (Input g) h = absurd (omega arith)
   sum-stats (Linear c ts) h = (refl, refl)
   sum-stats (Bootstrap j table) h = absurd (omega arith)
 
-  pub boot-stats : (n : LutNode) → kindOf n ≡ 2
-      → (withBoot s (getD taken (getD (needs n) 0 0) false) (length (bytesIn n)) ≡ nodeStats s taken n) × (set taken (getD (needs n) 0 0) true ≡ takenWith taken n)
+  pub boot-stats : (n : LutNode) → kindOf n ≡ 2 → {r : Stats} {v j : ℕ} {table : List ℕ} → v ≡ norm → j ≡ getD (needs n) 0 0 → table ≡ bytesIn n
+      → r ≡ withBoot s v (getD taken j false) (length table) → (r ≡ nodeStats s norm taken n) × (set taken j true ≡ takenWith taken n)
   unfolding kindOf nodeStats takenWith needs bytesIn
-  boot-stats (Input name) h = absurd (omega arith)
-  boot-stats (Linear c ts) h = absurd (omega arith)
-  boot-stats (Bootstrap j table) h = (refl, refl)
+  boot-stats (Input g) h e f k q = absurd (omega arith)
+  boot-stats (Linear c ts) h e f k q = absurd (omega arith)
+  boot-stats (Bootstrap j table) h e f k q = (q ∙ rw (e, f, k), rw f)
 
 -- ---- laws: what the code stores is what the definition has
 
 module _ (s : Stats) where
-  pub input-is : (m : ℕ) → m ≡ max (s .norm) 1
-      → record { inputs = s .inputs + 1; sums = s .sums; boots = s .boots; sources = s .sources; longest = s .longest; norm = m; outputs = s .outputs } ≡ withInput s
-  input-is m e = rw e
+  pub input-is : (n m : ℕ) → m ≡ max (s .norm) n
+      → record { inputs = s .inputs + 1; sums = s .sums; boots = s .boots; sources = s .sources; longest = s .longest; norm = m; outputs = s .outputs } ≡ withInput s n
+  input-is n m e = rw e
 
   pub sum-is : (n m : ℕ) → m ≡ max (s .norm) n
       → record { inputs = s .inputs; sums = s .sums + 1; boots = s .boots; sources = s .sources; longest = s .longest; norm = m; outputs = s .outputs } ≡ withSum s n
   sum-is n m f = rw f
 
-  pub boot-is : (taken : Bool) (n d l m : ℕ) → d ≡ (if taken then s .sources else (s .sources + 1)) → l ≡ max (s .longest) n → m ≡ max (s .norm) 1
-      → record { inputs = s .inputs; sums = s .sums; boots = s .boots + 1; sources = d; longest = l; norm = m; outputs = s .outputs } ≡ withBoot s taken n
-  boot-is taken n d l m e f g = rw (e, f, g)
+  pub boot-is : (n : ℕ) (taken : Bool) (len d l m : ℕ) → d ≡ (if taken then s .sources else (s .sources + 1)) → l ≡ max (s .longest) len → m ≡ max (s .norm) n
+      → record { inputs = s .inputs; sums = s .sums; boots = s .boots + 1; sources = d; longest = l; norm = m; outputs = s .outputs } ≡ withBoot s n taken len
+  boot-is n taken len d l m e f g = rw (e, f, g)

@@ -11,10 +11,10 @@ use Rattle.network.specs.View.{outputsOf, networkOf, readingOf, Held}
 use Rattle.network_judge.specs.declared.Header.{Header}
 use Rattle.network.specs.declared.Reading.{Reading}
 use Rattle.network.specs.declared.Reading.the-variants.{Good, Refused}
-use Rattle.admission.specs.Count.{statsOf}
+use Rattle.admission.specs.Count.{statsAmong, statsOf}
 
 read-stats : (s nodes ports : List ℕ) (h : Header) → statsOf (storeOf nodes (h .count)) (h .outputs) ≡ stats (networkOf s nodes ports h)
-unfolding statsOf stats networkOf outputsOf
+unfolding statsOf statsAmong stats networkOf outputsOf
 read-stats s nodes ports h = rw tabulate-length
 
 module _ (s nodes ports : List ℕ) (r : Reading) (e : readingOf s nodes ports r ≡ readAdmitted s) where

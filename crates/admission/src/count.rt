@@ -3,7 +3,8 @@ ghost use mathlib.Core.Path.{_≡_};
 ghost use Prim.Native.Nat.{_+_, _≤_, max};
 ghost use lib.ListN.{length};
 ghost use Rattle.laws.specs.Test.{if_then_else_};
-ghost use Rattle.nodes.specs.View.{nodeOf, storeOf, IsNode, IsStore};
+ghost use Rattle.rules.specs.Network.{nodeNorm};
+ghost use Rattle.nodes.specs.View.{nodeOf, storeOf, IsStore};
 ghost use Rattle.admission.specs.Count.{statsOf, noStats, withInput, withSum, withBoot, nodeStats, takenWith, Room};
 use nodes::node::INPUT;
 use nodes::node::LINEAR;
@@ -33,13 +34,13 @@ fn larger(a: usize, b: usize) -> usize
     if a < b { b } else { a }
 }
 
-fn count_input(s: Stats) -> Stats
+fn count_input(s: Stats, norm: usize) -> Stats
     requires { ⌜ Room s ⌝ }
-    ensures { λ r. ⌜ r ≡ withInput s ⌝ }
+    ensures { λ r. ⌜ r ≡ withInput s norm ⌝ }
 {
     let mut r = s;
     r.inputs = s.inputs + 1;
-    r.norm = larger(s.norm, 1);
+    r.norm = larger(s.norm, norm);
     r
 }
 
@@ -61,34 +62,35 @@ fn sources_with(sources: usize, taken: bool) -> usize
     if taken { sources } else { sources + 1 }
 }
 
-fn count_boot(s: Stats, taken: bool, len: usize) -> Stats
+fn count_boot(s: Stats, norm: usize, taken: bool, len: usize) -> Stats
     requires { ⌜ Room s ⌝ }
-    ensures { λ r. ⌜ r ≡ withBoot s taken len ⌝ }
+    ensures { λ r. ⌜ r ≡ withBoot s norm taken len ⌝ }
 {
     let mut r = s;
     r.boots = s.boots + 1;
     r.sources = sources_with(s.sources, taken);
     r.longest = larger(s.longest, len);
-    r.norm = larger(s.norm, 1);
+    r.norm = larger(s.norm, norm);
     r
 }
 
 // Node i counted; `taken` says which nodes a boot before it takes.
 fn count_node(s: Stats, nodes: &[u8; 25536], i: usize, taken: &mut [bool; 672]) -> Stats
-    requires { ⌜ IsNode (now nodes) i × Room s × (length (now taken) ≡ 672) ⌝ }
-    ensures stats { λ r. ⌜ r ≡ nodeStats s (now (taken .entry)) (nodeOf (now (nodes .entry)) i) ⌝ }
+    requires { ⌜ IsStore (now nodes) (i + 1) × Room s × (length (now taken) ≡ 672) ⌝ }
+    ensures stats { λ r. ⌜ r ≡ nodeStats s (nodeNorm (storeOf (now (nodes .entry)) i) (nodeOf (now (nodes .entry)) i)) (now (taken .entry)) (nodeOf (now (nodes .entry)) i) ⌝ }
     ensures taken { λ _. ⌜ now (taken .exit) ≡ takenWith (now (taken .entry)) (nodeOf (now (nodes .entry)) i) ⌝ }
 {
+    let norm = node_norm(nodes, i) as usize;
     let kind = kind_of(nodes, i);
     if kind == INPUT {
-        return count_input(s);
+        return count_input(s, norm);
     }
     if kind == LINEAR {
-        return count_sum(s, node_norm(nodes, i) as usize);
+        return count_sum(s, norm);
     }
     let source = source_of(nodes, i, 0);
     let table = table_of(nodes, i);
-    let r = count_boot(s, taken[source], table.len());
+    let r = count_boot(s, norm, taken[source], table.len());
     taken[source] = true;
     r
 }

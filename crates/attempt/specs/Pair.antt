@@ -21,7 +21,7 @@ use Rattle.compose.specs.Basis.{IsBasis}
 use Rattle.cone.specs.View.{coneOf}
 use Rattle.nodes.specs.View.{IsStore}
 use Rattle.merged_rows.specs.declared.rows.Frame.{Frame}
-use Rattle.bootstrap.specs.View.{Stands}
+use Rattle.cone.specs.Sources.{Stands}
 
 -- The grid that begins at the least values of two tables.
 pub record FrameOf (X Y : List ℤ) (f : Frame) : Type 0 where
@@ -52,7 +52,7 @@ unfoldable pub gated : Settings → List LutNode → C.Cone → C.Cone → List 
 gated s nodes left right gate =
     let support = unionSupport (left .support) (right .support) in
     let truth = gateTruth support left right gate in
-    let merged = Option·map (mergeCones s) (findCandidate s nodes support left right truth) in
+    let merged = Option·map (mergeCones s nodes) (findCandidate s nodes support left right truth) in
     if allEqual truth then some (ok (constant (getD truth 0 0))) else merged
 
 -- ---- laws: too many sources, or not
@@ -71,7 +71,7 @@ module _ (s : Settings) (nodes : List LutNode) (left right : C.Cone) (gate : Lis
   gated-constant e = rw e
 
   pub gated-merged : allEqual (gateTruth (unionSupport (left .support) (right .support)) left right gate) ≡ false
-      → Option·map (mergeCones s) (findCandidate s nodes (unionSupport (left .support) (right .support)) left right (gateTruth (unionSupport (left .support) (right .support)) left right gate))
+      → Option·map (mergeCones s nodes) (findCandidate s nodes (unionSupport (left .support) (right .support)) left right (gateTruth (unionSupport (left .support) (right .support)) left right gate))
       ≡ gated s nodes left right gate
   unfolding gated
   gated-merged e = rw e

@@ -15,7 +15,7 @@ use Rattle.laws.specs.Test.{is-T}
 use Rattle.rules.specs.declared.Settings.{Settings}
 use Rattle.rules.specs.Cone as C
 use Rattle.rules.specs.Cone.{coneBit, linearTable}
-use Rattle.rules.specs.Composition.{unionSupport, gateTruth, allEqual, mergeCones, findCandidate}
+use Rattle.rules.specs.Composition.{unionSupport, gateTruth, allEqual, mergeCones, findCandidate, simplifyCone}
 use Rattle.rules.specs.Network.{LutNode}
 use Rattle.rules.specs.NetworkText.{sources, allDifferent}
 use Rattle.rules.specs.Runs.{allBits}
@@ -43,10 +43,10 @@ use Rattle.merged_rows.specs.RowsCompacted.{sumOver, Compacted}
 use Rattle.merged_rows.specs.RowsFrame.{InFrame, Framed, Moved, tables-framed}
 use Rattle.search.specs.Search.{Ready}
 use Rattle.attempt.specs.Merged.{mergedOf, Mergeable, judgedBy, Judges, merged-support, merged-coefs-long, found-mergeable, judged-is}
-use Rattle.bootstrap.specs.View.{Stands}
+use Rattle.cone.specs.Sources.{Near, Below, Stands}
 use Rattle.attempt.specs.Pair.{FrameOf, Tabled, Trial}
 use Rattle.theorems.specs.SettingLimits.{limits-m}
-use Rattle.attempt.specs.PairSources.{Each, union-each, each-near, simplified-below}
+use Rattle.attempt.specs.PairSources.{union-near, near-store, simplified-below}
 
 -- ---- sums over rows, and the gate's answers
 sum-small : (f : ℤ → ℤ → ℤ) (k : ℕ) (X Y : List ℤ) → ((i : ℕ) → natAbs (f (getD X i (pos 0)) (getD Y i (pos 0))) ≤ k) → natAbs (sumOver f X Y) ≤ length X * k
@@ -100,14 +100,14 @@ module _ (s : Settings) (bytes : List ℕ) (count : ℕ) (left right : Cone) (ba
   pub trial-frame : (basis .n ≤ 11) × (Within 1984 L × Within 1984 R)
   trial-frame = (t .over .few, (λ i. omega (arith, left-small L R trial-rows i), λ i. omega (arith, right-small L R trial-rows i)))
 
-  trial-each : Each count U
-  trial-each = union-each count (coneOf left .support) (coneOf right .support) (t .first .below .at) (t .second .below .at)
+  trial-sources : Near count U
+  trial-sources = union-near count (coneOf left .support) (coneOf right .support) (t .first .below .at) (t .second .below .at)
 
   trial-near : (i : ℕ) → getD U i 0 < 672
-  trial-near = each-near count U trial-each (t .store .most)
+  trial-near = near-store count U trial-sources (t .store .most)
 
   pub trial-stored : Stored bytes count (take (basis .n) (basis .support))
-  trial-stored = record { store = t .store; near = rw (t .over .sources) trial-each }
+  trial-stored = record { store = t .store; near = rw (t .over .sources) trial-sources }
 
   -- the tables
   module _ (rows : ℕ) (xs ys : List ℤ) (ts : List ℕ) (tab : Tabled basis rows xs ys ts) where
@@ -148,7 +148,7 @@ module _ (s : Settings) (bytes : List ℕ) (count : ℕ) (left right : Cone) (ba
       trial-mergeable e =
           found-mergeable (coneOf left) (coneOf right) (take rows ts) basis best s (t .over) trial-rows truth-rows (finds .found e) trial-small trial-different trial-near
 
-      pub trial-judged : judgedBy s basis best ≡ Option·map (mergeCones s) (findCandidate s nodes U (coneOf left) (coneOf right) (take rows ts))
+      pub trial-judged : judgedBy s nodes basis best ≡ Option·map (mergeCones s nodes) (findCandidate s nodes U (coneOf left) (coneOf right) (take rows ts))
       trial-judged = judged-is s nodes (coneOf left) (coneOf right) (take rows ts) basis best (t .over) trial-rows truth-rows finds
 
     -- the rows that stand for all rows
@@ -257,15 +257,15 @@ module _ (s : Settings) (bytes : List ℕ) (count : ℕ) (left right : Cone) (ba
         truths,
       )
 
-  pub trial-stands : (best : Score) (c : Cone) → Judges basis best c → Stands count c
-  trial-stands best c j =
-      record {
-        cone = j .cone;
-        below = rw (j .is) (simplified-below count (coneOf (mergedOf basis best)) long (rw sup trial-each));
-      }
+  -- without the sources that a pair cancels
+  pub trial-below : (best : Score) → Below count (simplifyCone (coneOf (mergedOf basis best)))
+  trial-below best = simplified-below count (coneOf (mergedOf basis best)) long (rw sup trial-sources)
     where
       sup : coneOf (mergedOf basis best) .support ≡ U
       sup = merged-support basis best ∙ t .over .sources
 
       long : length (coneOf (mergedOf basis best) .coefficients) ≡ length (coneOf (mergedOf basis best) .support)
       long = merged-coefs-long basis best trial-rows lefts-long ∙ t .over .count ∙ ap length (sym sup)
+
+  pub trial-stands : (best : Score) (c : Cone) → Judges basis best c → Stands count c
+  trial-stands best c j = record { cone = j .cone; below = rw (j .is) (trial-below best) }

@@ -38,7 +38,7 @@ ghost use Rattle.search.specs.Reuse.{Stored};
 ghost use Rattle.search.specs.Search.{Ready};
 ghost use Rattle.attempt.specs.Merged.{mergedOf, Mergeable, judgedBy, Judges};
 ghost use Rattle.attempt.specs.Pair.{FrameOf, Tabled, Trial, gated};
-ghost use Rattle.bootstrap.specs.View.{Stands};
+ghost use Rattle.cone.specs.Sources.{Below, Stands, AreNodes};
 ghost use Rattle.attempt.specs.Tried.{triedOf};
 
 // state: 0 no composition, 1 a cone, else the refusal's number.
@@ -165,12 +165,12 @@ fn merged(basis: Basis, best: Score) -> Cone
 }
 
 // A cone that may stand, or the number of the refusal.
-fn validated(s: Settings, cone: Cone) -> Tried
-    requires { ⌜ IsCone cone ⌝ }
-    ensures is { λ r. ⌜ triedOf r ≡ some (validateCone s (coneOf cone)) ⌝ }
+fn validated(s: Settings, nodes: &[u8; 25536], cone: Cone) -> Tried
+    requires { ⌜ IsCone cone × AreNodes (now nodes) (coneOf cone .support) ⌝ }
+    ensures is { λ r. ⌜ ((count : ℕ) → Below count (coneOf cone) → triedOf r ≡ some (validateCone s (storeOf (now (nodes .entry)) count) (coneOf cone))) ⌝ }
     ensures same { λ r. ⌜ r .cone ≡ cone ⌝ }
 {
-    let state = match validate_cone(s, cone) {
+    let state = match validate_cone(s, nodes, cone) {
         Validity::Valid => 1,
         Validity::OverNorm => 8,
         Validity::Invalid => 10,
@@ -179,9 +179,9 @@ fn validated(s: Settings, cone: Cone) -> Tried
 }
 
 // The merged cone of the best pair, if there is one.
-fn judged(s: Settings, left: Cone, basis: Basis, best: Score) -> Tried
-    requires { ⌜ (best .found ≡ true → Mergeable basis best) ⌝ }
-    ensures is { λ r. ⌜ triedOf r ≡ judgedBy s basis best ⌝ }
+fn judged(s: Settings, nodes: &[u8; 25536], left: Cone, basis: Basis, best: Score) -> Tried
+    requires { ⌜ (best .found ≡ true → Mergeable basis best) × AreNodes (now nodes) (simplifyCone (coneOf (mergedOf basis best)) .support) ⌝ }
+    ensures is { λ r. ⌜ ((count : ℕ) → Below count (simplifyCone (coneOf (mergedOf basis best))) → triedOf r ≡ judgedBy s (storeOf (now (nodes .entry)) count) basis best) ⌝ }
     ensures cone { λ r. ⌜ (r .state ≡ 1 → Judges basis best (r .cone)) ⌝ }
 {
     if !best.found {
@@ -191,7 +191,7 @@ fn judged(s: Settings, left: Cone, basis: Basis, best: Score) -> Tried
         };
     }
     let cone = merged(basis, best);
-    validated(s, cone)
+    validated(s, nodes, cone)
 }
 
 // The constant, the merged cone, or no composition, where the sources are not too many.
@@ -231,7 +231,7 @@ fn composed(
         &mut ys,
         &mut truth,
     );
-    judged(s, left, basis, best)
+    judged(s, nodes, left, basis, best)
 }
 
 // One attempt: the constant, the merged cone, or no composition.

@@ -3,19 +3,19 @@ use mathlib.Core.Path.{_≡_, sym, ap, ap₂, _∙_}
 use mathlib.Core.List.{List, [], _∷_, _++_}
 use mathlib.Core.Logic.{⊎-elim}
 use mathlib.Core.Option.{Option, none, some}
-use Prim.Native.Nat.{ℕ, zero, suc, _+_, _≤_, _<_}
+use Prim.Native.Nat.{ℕ, _+_, _≤_, _<_}
 use native.Mathlib.Omega.{arith}
 use lib.IntN.{negℤ}
-use lib.ListN.{length, getD, take, length-append}
+use lib.ListN.{length, take, length-append}
 use Rattle.laws.specs.Integer.{abs-neg}
 use Rattle.laws.specs.Test.{zero≢one}
 use Rattle.rules.specs.declared.Settings.{Settings}
 use Rattle.rules.specs.Builder.{completion}
 use Rattle.rules.specs.Cone as C
-use Rattle.rules.specs.Cone.{Result, ok, err, identity, values, coneSpan, completed, bootstrapTable}
+use Rattle.rules.specs.Cone.{Result, ok, err, identity, values, coneSpan, completed, bootstrapTable, terms}
 use Rattle.rules.specs.Network.{LutNode, Linear, Bootstrap}
 use Rattle.rules.specs.Span.{least}
-use Rattle.rules.specs.Store.{Stored, terms, linearOf, linearTerms, intern, numberOf, bootstrapped}
+use Rattle.rules.specs.Store.{Stored, linearOf, linearTerms, intern, numberOf, bootstrapped}
 use Rattle.scale.specs.Limits.{Within}
 use Rattle.search.specs.Reuse.{fine-zip}
 use Rattle.theorems.specs.Interned.{interned, interned-most}
@@ -26,7 +26,8 @@ use Rattle.lut.specs.declared.Signal.the-variants as Signals
 use Rattle.nodes.specs.declared.record.Terms.{Terms}
 use Rattle.lut.specs.Store.{Interns, Bootstraps}
 use Rattle.nodes.specs.View.{term, termsIn, FineTerms, GoodTerms, storeOf, store-length}
-use Rattle.bootstrap.specs.View.{Below, Stands, Boots, bootedOf}
+use Rattle.cone.specs.Sources.{Below, Stands, identity-stands}
+use Rattle.bootstrap.specs.View.{Boots, bootedOf}
 
 -- The terms stand for the cone's sum.
 pub record SumOf (d : Cone) (t : Terms) : Type 0 where
@@ -90,16 +91,6 @@ module _ (n : LutNode) (bytes : List ℕ) (count : ℕ) (after : List ℕ) (r : 
 
   pub not-refused : r .signal ≡ Signals.Refused → ⊥
   not-refused e = node-refused _ (sym (i .signal) ∙ e)
-
--- ---- laws: the cone of a node
-
-pub stands-identity : (count node : ℕ) (c : Cone) → node < count → IsCone c → coneOf c ≡ identity node → Stands count c
-unfolding identity
-stands-identity count node c h is e = record { cone = is; below = record { at = λ i l. rw e (at i (rw e at l)) } }
-  where
-    at : (i : ℕ) → i < 1 → getD (node ∷ []) i 0 < count
-    at zero l = h
-    at (suc i) l = absurd (omega arith)
 
 -- ---- laws: the cone's bootstrap
 
@@ -166,5 +157,5 @@ module _ (s : Settings) (bytes : List ℕ) (count : ℕ) (d : Cone) (h : Stands 
             let b = grown-by-one (Bootstrap source (tabled .0)) middle (sum .count) after made (tabled .2) in
             record {
               grown = λ z. record { store = tabled .2 .still; least = omega (arith, a .0, b .0); most = omega (arith, a .1, b .1) };
-              stands = λ z. stands-identity (made .count) node c inside is g;
+              stands = λ z. identity-stands (made .count) node c inside is g;
             }

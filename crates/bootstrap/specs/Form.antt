@@ -36,8 +36,8 @@ use Rattle.bootstrap.specs.declared.form.Form.{Form}
 unfoldable pub entriesOf : ℕ → Entered → Option (List ℕ)
 entriesOf span e = if e .ok then some (take span (e .known)) else none
 
-unfoldable pub candidateIn : Form → Option Candidate
-candidateIn f = if f .found then some (ranked (coneOf (f .cone))) else none
+unfoldable pub candidateIn : List LutNode → Form → Option Candidate
+candidateIn nodes f = if f .found then some (ranked nodes (coneOf (f .cone))) else none
 
 -- A form of c: its sources are c's, and it is c itself where none was found.
 pub record Kept (c : Cone) (f : Form) : Type 0 where
@@ -51,16 +51,16 @@ pub record Kept (c : Cone) (f : Form) : Type 0 where
 unfoldable pub reformed : C.Cone → List ℤ → C.Cone
 reformed c cs = record { support = c .support; coefficients = cs; truth = c .truth }
 
-unfoldable pub fitting : Settings → C.Cone → Option Candidate
-fitting s c = if fits s c then some (ranked c) else none
+unfoldable pub fitting : Settings → List LutNode → C.Cone → Option Candidate
+fitting s nodes c = if fits s nodes c then some (ranked nodes c) else none
 
 unfoldable pub betterOf : Option Candidate → Option Candidate → Option Candidate
 betterOf d none = d
 betterOf d (some c) = some (better d c)
 
-unfoldable pub turned : Settings → C.Cone → Option Candidate → Option (List Term) → Option Candidate
-turned s c d none = d
-turned s c d (some ts) = if sameSources (c .support) ts then betterOf d (fitting s (withForm c ts)) else d
+unfoldable pub turned : Settings → List LutNode → C.Cone → Option Candidate → Option (List Term) → Option Candidate
+turned s nodes c d none = d
+turned s nodes c d (some ts) = if sameSources (c .support) ts then betterOf d (fitting s nodes (withForm c ts)) else d
 
 -- ---- laws: entries that agree, or not
 
@@ -123,61 +123,68 @@ and-false : (b : Bool) → (b && false) ≡ false
 and-false true = refl
 and-false false = refl
 
-module _ (s : Settings) (v : C.Cone) where
-  pub fits-long : s .m < coneSpan v → fits s v ≡ false
+module _ (s : Settings) (nodes : List LutNode) (v : C.Cone) where
+  pub fits-long : s .m < coneSpan v → fits s nodes v ≡ false
   unfolding fits isLutValid
-  fits-long h = rw (lt-leb (coneSpan v) (s .m) h) (and-false (withinNorm s (norm2 v)))
+  fits-long h = rw (lt-leb (coneSpan v) (s .m) h) (and-false (withinNorm s (norm2 nodes v)))
 
-  pub fits-clash : knownEntries (values v) (v .truth) ≡ none → fits s v ≡ false
+  pub fits-clash : knownEntries (values v) (v .truth) ≡ none → fits s nodes v ≡ false
   unfolding fits isLutValid bootstrapTable completed
-  fits-clash e = rw (e, and-false (leb (coneSpan v) (s .m))) (and-false (withinNorm s (norm2 v)))
+  fits-clash e = rw (e, and-false (leb (coneSpan v) (s .m))) (and-false (withinNorm s (norm2 nodes v)))
 
-  pub form-not : (c : Cone) → IsCone c → fits s v ≡ false → (candidateIn (record { found = false; cone = c }) ≡ fitting s v) × Kept c (record { found = false; cone = c })
+  pub form-not : (c : Cone) → fits s nodes v ≡ false → candidateIn nodes (record { found = false; cone = c }) ≡ fitting s nodes v
   unfolding candidateIn fitting
-  form-not c is e = (rw e, record { is = is; support = refl; same = λ z. refl })
+  form-not c e = rw e
 
-  pub form-so : (c d : Cone) → IsCone d → coneOf d ≡ v → v .support ≡ coneOf c .support → fits s (coneOf d) ≡ true
-      → (candidateIn (record { found = true; cone = d }) ≡ fitting s v) × Kept c (record { found = true; cone = d })
+  pub form-so : (d : Cone) → coneOf d ≡ v → fits s nodes (coneOf d) ≡ true → candidateIn nodes (record { found = true; cone = d }) ≡ fitting s nodes v
   unfolding candidateIn fitting
-  form-so c d is e f g =
-      let t : fits s v ≡ true = ap (fits s) (sym e) ∙ g in
-      (ap (λ (k : C.Cone). some (ranked k)) e ∙ rw t, record { is = is; support = ap (λ (k : C.Cone). k .support) e ∙ f; same = λ z. absurd (true≢false z) })
+  form-so d e g =
+      let t : fits s nodes v ≡ true = ap (fits s nodes) (sym e) ∙ g in
+      ap (λ (k : C.Cone). some (ranked nodes k)) e ∙ rw t
+
+pub kept-itself : (c : Cone) → IsCone c → Kept c (record { found = false; cone = c })
+kept-itself c is = record { is = is; support = refl; same = λ z. refl }
+
+pub kept-form : (c d : Cone) → IsCone d → coneOf d .support ≡ coneOf c .support → Kept c (record { found = true; cone = d })
+kept-form c d is e = record { is = is; support = e; same = λ z. absurd (true≢false z) }
 
 -- ---- laws: the better form
 
-module _ (best f : Form) where
-  pub better-stays : f .found ≡ false → candidateIn best ≡ betterOf (candidateIn best) (candidateIn f)
+module _ (nodes : List LutNode) (best f : Form) where
+  pub better-stays : f .found ≡ false → candidateIn nodes best ≡ betterOf (candidateIn nodes best) (candidateIn nodes f)
   unfolding candidateIn betterOf
   better-stays e = rw e
 
-  pub better-first : f .found ≡ true → best .found ≡ false → candidateIn f ≡ betterOf (candidateIn best) (candidateIn f)
+  pub better-first : f .found ≡ true → best .found ≡ false → candidateIn nodes f ≡ betterOf (candidateIn nodes best) (candidateIn nodes f)
   unfolding candidateIn betterOf better
   better-first e g = rw (e, g)
 
   module _ (e : f .found ≡ true) (g : best .found ≡ true) where
-    pub better-new : C.less (C.coneOrderKey (coneOf (f .cone))) (C.coneOrderKey (coneOf (best .cone))) ≡ true → candidateIn f ≡ betterOf (candidateIn best) (candidateIn f)
+    pub better-new : C.less (C.coneOrderKey nodes (coneOf (f .cone))) (C.coneOrderKey nodes (coneOf (best .cone))) ≡ true
+        → candidateIn nodes f ≡ betterOf (candidateIn nodes best) (candidateIn nodes f)
     unfolding candidateIn betterOf better ranked
     better-new h = rw (e, g, h)
 
-    pub better-old : C.less (C.coneOrderKey (coneOf (f .cone))) (C.coneOrderKey (coneOf (best .cone))) ≡ false → candidateIn best ≡ betterOf (candidateIn best) (candidateIn f)
+    pub better-old : C.less (C.coneOrderKey nodes (coneOf (f .cone))) (C.coneOrderKey nodes (coneOf (best .cone))) ≡ false
+        → candidateIn nodes best ≡ betterOf (candidateIn nodes best) (candidateIn nodes f)
     unfolding candidateIn betterOf better ranked
     better-old h = rw (e, g, h)
 
 -- ---- laws: what a bootstrap takes, as a form
 
-module _ (s : Settings) (c : C.Cone) (d : Option Candidate) where
-  pub form-skips : (o : Option (List Term)) (a : Aligned) → FormOf (c .support) o a → a .ok ≡ false → d ≡ turned s c d o
+module _ (s : Settings) (nodes : List LutNode) (c : C.Cone) (d : Option Candidate) where
+  pub form-skips : (o : Option (List Term)) (a : Aligned) → FormOf (c .support) o a → a .ok ≡ false → d ≡ turned s nodes c d o
   unfolding turned FormOf
   form-skips none a h e = refl
   form-skips (some ts) a h e = rw (sym (h .same) ∙ e)
 
   pub form-taken : (o : Option (List Term)) (a : Aligned) → FormOf (c .support) o a → a .ok ≡ true
-      → betterOf d (fitting s (reformed c (take (length (c .support)) (a .coefs)))) ≡ turned s c d o
+      → betterOf d (fitting s nodes (reformed c (take (length (c .support)) (a .coefs)))) ≡ turned s nodes c d o
   unfolding turned FormOf withForm reformed
   form-taken none a h e = absurd (true≢false (sym e ∙ h))
   form-taken (some ts) a h e =
       rw (sym (h .same) ∙ e)
-      (ap (λ (l : List ℤ). betterOf d (fitting s (record { support = c .support; coefficients = l; truth = c .truth }))) (h .coefficients e))
+      (ap (λ (l : List ℤ). betterOf d (fitting s nodes (record { support = c .support; coefficients = l; truth = c .truth }))) (h .coefficients e))
 
 terms-fine : (j : ℕ) (n : LutNode) → Fine j n → FineTerms j (termsOf n)
 unfolding Fine FineTerms termsOf

@@ -1,27 +1,15 @@
--- Cones beside the store, and what a bootstrap leaves.
+-- What a bootstrap leaves of the store.
 use mathlib.Core.Path.{_≡_}
 use mathlib.Core.List.{List}
-use Prim.Native.Nat.{ℕ, _+_, _≤_, _<_}
+use Prim.Native.Nat.{ℕ, _+_, _≤_}
 use lib.Dec.{eqb}
-use lib.ListN.{length, getD}
 use Rattle.laws.specs.Test.{if_then_else_}
-use Rattle.rules.specs.Cone as C
 use Rattle.rules.specs.Cone.{Result, ok, err}
 use Rattle.rules.specs.Store.{Stored}
-use Rattle.cone.specs.declared.Cone.{Cone}
-use Rattle.cone.specs.View.{coneOf, IsCone}
+use Rattle.cone.specs.View.{coneOf}
+use Rattle.cone.specs.Sources.{Stands}
 use Rattle.nodes.specs.View.{storeOf, IsStore}
 use Rattle.bootstrap.specs.declared.boot.Booted.{Booted}
-
--- ---- Cones beside the store.
-
--- Every source is one of the first `count` nodes.
-pub record Below (count : ℕ) (c : C.Cone) : Type 0 where
-  pub at : (i : ℕ) → i < length (c .support) → getD (c .support) i 0 < count
-
-pub record Stands (count : ℕ) (c : Cone) : Type 0 where
-  pub cone : IsCone c
-  pub below : Below count (coneOf c)
 
 -- The store has grown from `before` nodes by at most `more`.
 pub record Grown (before more : ℕ) (bytes : List ℕ) (count : ℕ) : Type 0 where

@@ -12,7 +12,8 @@ ghost use Rattle.rules.specs.CircuitText.{inLimits};
 ghost use Rattle.rules.specs.Store.{bootstrapCone, bootstrapped};
 ghost use Rattle.cone.specs.View.{coneOf, IsCone};
 ghost use Rattle.nodes.specs.View.{storeOf, IsStore};
-ghost use Rattle.bootstrap.specs.View.{Stands, Boots, bootedOf};
+ghost use Rattle.cone.specs.Sources.{Stands};
+ghost use Rattle.bootstrap.specs.View.{Boots, bootedOf};
 ghost use Rattle.bootstrap.specs.Boot.{SumOf};
 
 // The cone that takes the place, and how many nodes there are; or the number of the refusal.

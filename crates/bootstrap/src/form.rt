@@ -11,7 +11,7 @@ use nodes::node::kind_of;
 use rules::Settings;
 ghost use mathlib.Core.Path.{_≡_};
 ghost use mathlib.Core.Bool.{true};
-ghost use Prim.Native.Nat.{_≤_, _<_};
+ghost use Prim.Native.Nat.{ℕ, _≤_, _<_};
 ghost use lib.ListN.{length, take};
 ghost use Rattle.rules.specs.Builder.{knownEntries};
 ghost use Rattle.rules.specs.Cone.{linearTable, fits};
@@ -22,7 +22,7 @@ ghost use Rattle.scale.specs.Limits.{Within};
 ghost use Rattle.cone.specs.View.{coneOf, IsCone};
 ghost use Rattle.lut.specs.Forms.{formTerms, NodesTo};
 ghost use Rattle.nodes.specs.View.{nodeOf, storeOf, IsStore};
-ghost use Rattle.bootstrap.specs.View.{Stands};
+ghost use Rattle.cone.specs.Sources.{Below, Stands, AreNodes};
 ghost use Rattle.bootstrap.specs.Form.{entriesOf, candidateIn, fitting, reformed, betterOf, turned, Kept};
 
 // A cone by another form, where one was found; else the cone as it was.
@@ -63,21 +63,22 @@ fn enter_form(c: Cone, coefs: [i64; 11], span: usize) -> Entered
 }
 
 // Whether a cone may stand.
-fn is_fit(s: Settings, c: Cone) -> bool
-    requires { ⌜ IsCone c ⌝ }
-    ensures { λ r. ⌜ r ≡ fits s (coneOf c) ⌝ }
+fn is_fit(s: Settings, nodes: &[u8; 25536], c: Cone) -> bool
+    requires { ⌜ IsCone c × AreNodes (now nodes) (coneOf c .support) ⌝ }
+    ensures { λ r. ⌜ ((count : ℕ) → Below count (coneOf c) → r ≡ fits s (storeOf (now (nodes .entry)) count) (coneOf c)) ⌝ }
 {
     let limit = s.norm;
-    if cone::valid::is_over(limit, c.norm2()) {
+    if cone::valid::is_over(limit, c.norm2(nodes)) {
         return false;
     }
     cone::valid::is_lut_valid(s, c)
 }
 
 // The cone with other coefficients over its sources, where that fits.
-fn form_cone(s: Settings, c: Cone, coefs: [i64; 11]) -> Form
-    requires { ⌜ (s .m ≤ 32) × (IsCone c × Within 31 (take (c .n) coefs)) ⌝ }
-    ensures { λ r. ⌜ (candidateIn r ≡ fitting s (reformed (coneOf c) (take (c .n) coefs))) × Kept c r ⌝ }
+fn form_cone(s: Settings, nodes: &[u8; 25536], c: Cone, coefs: [i64; 11]) -> Form
+    requires { ⌜ (s .m ≤ 32) × (IsCone c × (AreNodes (now nodes) (coneOf c .support) × Within 31 (take (c .n) coefs))) ⌝ }
+    ensures is { λ r. ⌜ ((count : ℕ) → Below count (coneOf c) → candidateIn (storeOf (now (nodes .entry)) count) r ≡ fitting s (storeOf (now (nodes .entry)) count) (reformed (coneOf c) (take (c .n) coefs))) ⌝ }
+    ensures kept { λ r. ⌜ Kept c r ⌝ }
 {
     let none = Form {
         found: false,
@@ -100,16 +101,16 @@ fn form_cone(s: Settings, c: Cone, coefs: [i64; 11]) -> Form
         coefs,
         known,
     };
-    if !is_fit(s, cone) {
+    if !is_fit(s, nodes, cone) {
         return none;
     }
     Form { found: true, cone }
 }
 
 // The better of the best form so far and this one: span, then norm; the first of equals stays.
-fn better_form(best: Form, f: Form) -> Form
-    requires { ⌜ IsCone (best .cone) × IsCone (f .cone) ⌝ }
-    ensures is { λ r. ⌜ candidateIn r ≡ betterOf (candidateIn best) (candidateIn f) ⌝ }
+fn better_form(nodes: &[u8; 25536], best: Form, f: Form) -> Form
+    requires { ⌜ (IsCone (best .cone) × AreNodes (now nodes) (coneOf (best .cone) .support)) × (IsCone (f .cone) × AreNodes (now nodes) (coneOf (f .cone) .support)) ⌝ }
+    ensures is { λ r. ⌜ ((count : ℕ) → Below count (coneOf (best .cone)) → Below count (coneOf (f .cone)) → candidateIn (storeOf (now (nodes .entry)) count) r ≡ betterOf (candidateIn (storeOf (now (nodes .entry)) count) best) (candidateIn (storeOf (now (nodes .entry)) count) f)) ⌝ }
     ensures kept { λ r. ⌜ ((c : d.Cone) → Kept c best → Kept c f → Kept c r) ⌝ }
 {
     if !f.found {
@@ -120,7 +121,7 @@ fn better_form(best: Form, f: Form) -> Form
     }
     let new = f.cone;
     let old = best.cone;
-    if is_less(cone_order_key(new), cone_order_key(old)) {
+    if is_less(cone_order_key(nodes, new), cone_order_key(nodes, old)) {
         f
     } else {
         best
@@ -129,8 +130,9 @@ fn better_form(best: Form, f: Form) -> Form
 
 // The best form so far, and what node i takes if it is a bootstrap. All nodes up to i stand in the store.
 fn consider(s: Settings, nodes: &[u8; 25536], i: usize, c: Cone, best: Form) -> Form
-    requires { ⌜ (s .m ≤ 32) × (NodesTo (now nodes) i × (IsCone c × Kept c best)) ⌝ }
-    ensures { λ r. ⌜ (candidateIn r ≡ turned s (coneOf c) (candidateIn best) (formTerms (now (nodes .entry)) (nodeOf (now (nodes .entry)) i))) × Kept c r ⌝ }
+    requires { ⌜ (s .m ≤ 32) × (NodesTo (now nodes) i × (IsCone c × (AreNodes (now nodes) (coneOf c .support) × Kept c best))) ⌝ }
+    ensures is { λ r. ⌜ ((count : ℕ) → Below count (coneOf c) → candidateIn (storeOf (now (nodes .entry)) count) r ≡ turned s (storeOf (now (nodes .entry)) count) (coneOf c) (candidateIn (storeOf (now (nodes .entry)) count) best) (formTerms (now (nodes .entry)) (nodeOf (now (nodes .entry)) i))) ⌝ }
+    ensures kept { λ r. ⌜ Kept c r ⌝ }
 {
     let support = c.support;
     let n = c.n;
@@ -139,7 +141,7 @@ fn consider(s: Settings, nodes: &[u8; 25536], i: usize, c: Cone, best: Form) -> 
         return best;
     }
     let coefs = f.coefs;
-    better_form(best, form_cone(s, c, coefs))
+    better_form(nodes, best, form_cone(s, nodes, c, coefs))
 }
 
 // reusable_cone_coefficients: with many tables a sum, the cone by the first form of the least span and norm that fits, if there is one.

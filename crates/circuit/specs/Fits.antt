@@ -18,10 +18,11 @@ use Rattle.rules.specs.Form as F
 use Rattle.rules.specs.Form.{isName, isNameByte}
 use Rattle.rules.specs.Runs.{allBits}
 use Rattle.theorems.specs.LineBits.{WireBit}
-use Rattle.theorems.specs.SoundCircuits.{GoodName, GoodNames, WireBits, SoundGate, SoundGates, SoundOutput, SoundOutputs, read-sound}
+use Rattle.theorems.specs.SoundCircuits.{GoodName, GoodNames, GoodWeights, WireBits, SoundGate, SoundGates, SoundOutput, SoundOutputs, read-sound}
+use Rattle.theorems.specs.Weights.{GoodWeight}
 use Rattle.circuit.specs.declared.Circuit.{Circuit}
 use Rattle.circuit.specs.declared.Reading.the-variants.{Good}
-use Rattle.circuit.specs.View.{wireIn, slotWire, wiresIn, answersIn, gateIn, gatesIn, nameAt, inputName, inputNames, outputIn, outputsIn, circuitOf, NamedAt, Held}
+use Rattle.circuit.specs.View.{wireIn, slotWire, wiresIn, answersIn, gateIn, gatesIn, nameAt, inputName, inputIn, inputsIn, outputIn, outputsIn, circuitOf, NamedAt, Held}
 
 -- Gate i after n inputs: each slot is an earlier node's, or 128 or 129; a second slot of 255 is none, and two answers count then.
 pub record GateFits (gs : List ℕ) (n i : ℕ) : Type 0 where
@@ -68,6 +69,7 @@ pub record Fits (s gs ps : List ℕ) (c : Circuit) : Type 0 where
   pub gates : c .gates ≤ 96
   pub outs : c .outs ≤ 32
   pub input : (i : ℕ) → i < c .inputs → NameFits s ps (2 * i)
+  pub weight : (i : ℕ) → i < c .inputs → GoodWeight (getD ps (160 + i) 0)
   pub gate : GatesFit gs (c .inputs) (c .gates)
   pub out : (i : ℕ) → i < c .outs → OutFits s ps (c .inputs + c .gates) i
 
@@ -172,11 +174,12 @@ name-fits s ps j n g =
     let l = simp (length-take, length-drop) at w in
     record { later = omega arith; short = n .short; inside = n .inside; bytes = bytes-small (nameAt s ps j) (g .1) }
 
-names-at : (ns : List C.Name) (i : ℕ) (d : C.Name) → GoodNames ns → i < length ns → GoodName (getD ns i d)
-unfolding GoodNames
-names-at [] i d s h = absurd (not-suc-le-zero h)
-names-at (x ∷ ns) zero d s h = s .0
-names-at (x ∷ ns) (suc i) d s h = names-at ns i d (s .1) (le-of-suc-le-suc h)
+given-at : (gs : List C.Given) (i : ℕ) (d : C.Given) → GoodNames (C.givenNames gs) → GoodWeights gs → i < length gs
+    → GoodName (getD gs i d .name) × GoodWeight (getD gs i d .weight)
+unfolding C.givenNames GoodNames GoodWeights
+given-at [] i d s w h = absurd (not-suc-le-zero h)
+given-at (g ∷ gs) zero d s w h = (s .0, w .0)
+given-at (g ∷ gs) (suc i) d s w h = given-at gs i d (s .1) (w .1) (le-of-suc-le-suc h)
 
 -- ---- An output.
 
@@ -195,8 +198,8 @@ out-fits s ps n i p o =
 -- ---- The circuit.
 
 module _ (s gs ps : List ℕ) (c : Circuit) (e : readCircuit s ≡ F.Good (circuitOf s gs ps c)) where
-  a : length (inputNames s ps (c .inputs)) ≡ c .inputs
-  unfolding inputNames
+  a : length (inputsIn s ps (c .inputs)) ≡ c .inputs
+  unfolding inputsIn
   a = tabulate-length (c .inputs) _
 
   b : length (gatesIn gs (c .inputs) (c .gates)) ≡ c .gates
@@ -207,9 +210,12 @@ module _ (s gs ps : List ℕ) (c : Circuit) (e : readCircuit s ≡ F.Good (circu
   unfolding outputsIn
   d = tabulate-length (c .outs) _
 
-  name-in : (i : ℕ) → i < c .inputs → getD (inputNames s ps (c .inputs)) i [] ≡ nameAt s ps (2 * i)
-  unfolding inputNames inputName
-  name-in i h = tabulate-at (c .inputs) (inputName s ps) i [] h
+  input-in : GoodNames (C.givenNames (inputsIn s ps (c .inputs))) → GoodWeights (inputsIn s ps (c .inputs)) → (i : ℕ) → i < c .inputs
+      → GoodName (nameAt s ps (2 * i)) × GoodWeight (getD ps (160 + i) 0)
+  unfolding inputsIn inputIn inputName
+  input-in n w i h =
+      subst (λ (g : C.Given). GoodName (g .name) × GoodWeight (g .weight)) (tabulate-at (c .inputs) (inputIn s ps) i (inputIn s ps 0) h)
+      (given-at (inputsIn s ps (c .inputs)) i (inputIn s ps 0) n w (omega (arith, a)))
 
   gate-in : (i : ℕ) → i < c .gates → getD (gatesIn gs (c .inputs) (c .gates)) i (gateIn gs 0 0) ≡ gateIn gs (c .inputs) i
   unfolding gatesIn
@@ -230,15 +236,15 @@ module _ (s gs ps : List ℕ) (c : Circuit) (e : readCircuit s ≡ F.Good (circu
         inputs = omega (arith, a);
         gates = omega (arith, b);
         outs = omega (arith, d);
-        input = λ m l. name-fits s ps (2 * m) (held .places .inputs m l)
-            (subst GoodName (name-in m l) (names-at (inputNames s ps (c .inputs)) m [] (z .inputNames) (omega (arith, a))));
+        input = λ m l. name-fits s ps (2 * m) (held .places .inputs m l) (input-in (z .inputNames) (z .weights) m l .0);
+        weight = λ m l. input-in (z .inputNames) (z .weights) m l .1;
         gate = λ m l.
             gate-fits gs (c .inputs) m
             (subst (λ n. SoundGate (n + m) (gateIn gs (c .inputs) m)) a
-            (subst (SoundGate (length (inputNames s ps (c .inputs)) + m)) (gate-in m l)
+            (subst (SoundGate (length (inputsIn s ps (c .inputs)) + m)) (gate-in m l)
             (gate-at _ (gatesIn gs (c .inputs) (c .gates)) m (gateIn gs 0 0) (z .gatesSound) (omega (arith, b)))));
         out = λ m l.
-            let n : length (inputNames s ps (c .inputs)) + length (gatesIn gs (c .inputs) (c .gates)) ≡ c .inputs + c .gates = omega (arith, a, b) in
+            let n : length (inputsIn s ps (c .inputs)) + length (gatesIn gs (c .inputs) (c .gates)) ≡ c .inputs + c .gates = omega (arith, a, b) in
             out-fits s ps (c .inputs + c .gates) m (held .places .outputs m l)
             (subst (λ x. SoundOutput x (outputIn s ps m)) n
             (subst (SoundOutput _) (out-in m l) (output-at _ (outputsIn s ps (c .outs)) m (outputIn s ps 0) (z .outputsSound) (omega (arith, d)))));

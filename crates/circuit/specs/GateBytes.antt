@@ -10,12 +10,11 @@ use lib.Dec.{eqb}
 use lib.ListN.{length, getD, set}
 use lib.Seq.{drop-cons, paste, paste-suc}
 use Rattle.laws.specs.Test.{if_then_else_, zero≢one}
-use Rattle.rules.specs.Circuit as C
 use Rattle.rules.specs.CircuitText.{noNode}
 use Rattle.rules.specs.Form.{bitsFrom}
 use Rattle.theorems.specs.LineBits.{WireBit}
 use Rattle.circuit_conditions.specs.declared.Wires.{Wires}
-use Rattle.circuit.specs.Below.{Below, below-paste, paste-at}
+use Rattle.circuit.specs.Agree.{Below, below-paste, paste-at}
 use Rattle.circuit.specs.Bits.{bitsAt}
 use Rattle.circuit_text.specs.Brief.{twoWires}
 use Rattle.circuit.specs.Slots.{wireNumber, wire-back, number-small}

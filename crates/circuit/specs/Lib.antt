@@ -2,7 +2,7 @@
 pub mod View
 pub mod Bits
 pub mod Slots
-pub mod Below
+pub mod Agree
 pub mod GateBytes
 pub mod Listed
 pub mod Took

@@ -6,11 +6,11 @@ use Prim.Native.Nat.{ℕ, zero, suc, _+_, _*_, _<_, _≤_}
 use native.Mathlib.Nat.{not-suc-le-zero, le-of-suc-le-suc}
 use native.Mathlib.Omega.{arith}
 use mathlib.Core.Logic.{⊎-elim}
-use Rattle.laws.specs.Tabulate.{tabulate}
+use Rattle.laws.specs.Tabulate.{tabulate, map-tabulate}
 use Rattle.laws.specs.Test.{eq-or-ne, lt-or-le}
-use Rattle.rules.specs.Circuit.{Name}
+use Rattle.rules.specs.Circuit.{Name, Given, givenNames}
 use Rattle.rules.specs.CircuitText.{sameName, listed}
-use Rattle.circuit.specs.View.{nameAt, inputName, inputNames}
+use Rattle.circuit.specs.View.{nameAt, inputName, inputIn, inputsIn}
 
 or-true : (b : Bool) → (b || true) ≡ true
 or-true true = refl
@@ -43,14 +43,17 @@ listed-found w (suc n) f zero h e = rw e
 listed-found w (suc n) f (suc i) h e = rw (listed-found w n (λ k. f (suc k)) i (le-of-suc-le-suc h) e) (or-true (sameName w (f 0)))
 
 -- The inputs' names in the text.
-module _ (w : Name) (s ps : List ℕ) (n i : ℕ) where
-  pub names-found : i < n → sameName w (nameAt s ps (2 * i)) ≡ true → true ≡ listed w (inputNames s ps n)
-  unfolding inputNames inputName
-  names-found h e = sym (listed-found w n (inputName s ps) i h e)
+names-are : (s ps : List ℕ) (n : ℕ) → givenNames (inputsIn s ps n) ≡ tabulate n (inputName s ps)
+unfolding givenNames inputsIn inputIn
+names-are s ps n = map-tabulate (λ (g : Given). g .name) n (inputIn s ps)
 
-  pub names-none : n ≤ i → NoneOf w (inputName s ps) i → false ≡ listed w (inputNames s ps n)
-  unfolding inputNames
-  names-none h d = sym (listed-none w n (inputName s ps) (record { differs = λ j l. d .differs j (omega arith) }))
+module _ (w : Name) (s ps : List ℕ) (n i : ℕ) where
+  pub names-found : i < n → sameName w (nameAt s ps (2 * i)) ≡ true → true ≡ listed w (givenNames (inputsIn s ps n))
+  unfolding inputName
+  names-found h e = sym (ap (listed w) (names-are s ps n) ∙ listed-found w n (inputName s ps) i h e)
+
+  pub names-none : n ≤ i → NoneOf w (inputName s ps) i → false ≡ listed w (givenNames (inputsIn s ps n))
+  names-none h d = sym (ap (listed w) (names-are s ps n) ∙ listed-none w n (inputName s ps) (record { differs = λ j l. d .differs j (omega arith) }))
 
   pub names-next : NoneOf w (inputName s ps) i → sameName w (nameAt s ps (2 * i)) ≡ false → NoneOf w (inputName s ps) (i + 1)
   unfolding inputName

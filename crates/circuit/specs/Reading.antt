@@ -20,7 +20,7 @@ use Rattle.circuit.specs.declared.Reading.the-variants.{Good, Refused}
 use Rattle.circuit.specs.declared.take.Step.{Step}
 use Rattle.circuit.specs.Took.{Ready}
 use Rattle.circuit.specs.TookLine.{TookLine, numberOf, withForm}
-use Rattle.circuit.specs.View.{gatesIn, inputNames, outputsIn, circuitOf, prefixOf, Held}
+use Rattle.circuit.specs.View.{gatesIn, inputsIn, outputsIn, circuitOf, prefixOf, Held}
 
 -- The lines from a on, after those before line i.
 unfoldable pub circuitFrom : List ℕ → ℕ → Prefix → ℕ → F.Reading C.Circuit
@@ -31,7 +31,7 @@ module _ (s gs ps : List ℕ) (f : Settings) where
   abbrev blank : Circuit
   blank = record { settings = f; inputs = 0; gates = 0; outs = 0 }
 
-  ready-start : length ps ≡ 160 → Ready 1 (length s) ps blank
+  ready-start : length ps ≡ 192 → Ready 1 (length s) ps blank
   ready-start l =
       record {
         first = omega arith;
@@ -45,7 +45,7 @@ module _ (s gs ps : List ℕ) (f : Settings) where
       }
 
   from-start : readCircuit s ≡ circuitFrom s 1 (prefixOf 1 s gs ps blank) 0
-  unfolding readCircuit circuitFrom readFrom prefixOf nothing inputNames gatesIn outputsIn tabulate
+  unfolding readCircuit circuitFrom readFrom prefixOf nothing inputsIn gatesIn outputsIn tabulate
   from-start = refl
 
 numbered : (p : Prefix) (l : CircuitLine) → Numbered (conditions p l)
@@ -108,7 +108,7 @@ pub record Going (s gs ps : List ℕ) (c : Circuit) (a i : ℕ) : Type 0 where
   pub ready : Ready i (length s) ps c
   pub same : readCircuit s ≡ circuitFrom s i (prefixOf i s gs ps c) a
 
-pub going-start : (s gs ps : List ℕ) (f : Settings) → length gs ≡ 576 → length ps ≡ 160 → Going s gs ps (record { settings = f; inputs = 0; gates = 0; outs = 0 }) 0 1
+pub going-start : (s gs ps : List ℕ) (f : Settings) → length gs ≡ 576 → length ps ≡ 192 → Going s gs ps (record { settings = f; inputs = 0; gates = 0; outs = 0 }) 0 1
 going-start s gs ps f l k =
     record { inside = omega arith; few = omega arith; long = l; ready = ready-start s gs ps f k; same = from-start s gs ps f }
 

@@ -12,14 +12,13 @@ use Rattle.laws.specs.Tabulate.{tabulate-length}
 use Rattle.laws.specs.Test.{if_then_else_, isSome, is-T, T-is, and-right}
 use Rattle.rules.specs.declared.Settings.{Settings}
 use Rattle.rules.specs.Builder.{tableLimits}
-use Rattle.rules.specs.Circuit as C
 use Rattle.rules.specs.CircuitText.{Prefix, nodeCount, withLine}
 use Rattle.rules.specs.Form.{Condition, _when_}
 use Rattle.text.specs.Judged.{lowest, unmet}
 use Rattle.circuit.specs.declared.Circuit.{Circuit}
 use Rattle.circuit.specs.declared.take.Step.{Step}
 use Rattle.circuit_text.specs.Brief.{Brief, FbsBrief, briefConditions, told}
-use Rattle.circuit.specs.View.{gatesIn, inputNames, outputsIn, prefixOf, NamesIn}
+use Rattle.circuit.specs.View.{gatesIn, inputsIn, outputsIn, prefixOf, NamesIn}
 use Rattle.circuit_conditions.specs.Wires.{shape}
 
 -- What a line needs of those before it, in a text of k bytes: how many there were, and where the names stand.
@@ -27,7 +26,7 @@ pub record Ready (i k : ℕ) (ps : List ℕ) (c : Circuit) : Type 0 where
   pub first : 1 ≤ i
   pub early : i ≡ 1 → c .inputs + c .gates + c .outs ≡ 0
   pub late : (i ≡ 1 → ⊥) → i ≡ c .inputs + c .gates + c .outs + 2
-  pub long : length ps ≡ 160
+  pub long : length ps ≡ 192
   pub inputsFit : c .inputs ≤ 32
   pub gatesFit : c .gates ≤ 96
   pub outsFit : c .outs ≤ 32
@@ -83,7 +82,7 @@ module _ (i : ℕ) (s gs ps : List ℕ) (c : Circuit) where
       by false = refl
 
   pub input-count : length (prefixOf i s gs ps c .inputs) ≡ c .inputs
-  unfolding prefixOf inputNames
+  unfolding prefixOf inputsIn
   input-count = tabulate-length (c .inputs) _
 
   pub gate-count : length (prefixOf i s gs ps c .gates) ≡ c .gates
@@ -94,7 +93,7 @@ module _ (i : ℕ) (s gs ps : List ℕ) (c : Circuit) where
   unfolding prefixOf outputsIn
   output-count = tabulate-length (c .outs) _
 
-  pub same-inputs : prefixOf i s gs ps c .inputs ≡ inputNames s ps (c .inputs)
+  pub same-inputs : prefixOf i s gs ps c .inputs ≡ inputsIn s ps (c .inputs)
   unfolding prefixOf
   same-inputs = refl
 

@@ -15,7 +15,7 @@ use Rattle.rules.specs.Form.{_when_}
 use Rattle.text.specs.Judged.{lowest, unmet}
 use Rattle.circuit.specs.declared.Circuit.{Circuit}
 use Rattle.circuit_conditions.specs.declared.Wires.{Wires}
-use Rattle.circuit.specs.Below.{gates-more}
+use Rattle.circuit.specs.Agree.{gates-more}
 use Rattle.circuit.specs.Bits.{bitsAt, bits-at-length}
 use Rattle.circuit_text.specs.Brief.{GateBrief, briefConditions, told, twoWires}
 use Rattle.circuit.specs.GateBytes.{GateStands, gateBytes, bytes-length, put-below, put-gate}

@@ -72,14 +72,14 @@ kept-line n b (some l) e = (l, refl, Option·some-injective _ _ e)
 
 abbrev FineBrief : ℕ → Brief → Type 0
 FineBrief n (FbsBrief f) = Unit {0}
-FineBrief n (InBrief a) = Unit {0}
+FineBrief n (InBrief g) = Unit {0}
 FineBrief n (GateBrief b v) = FineWires n v
 FineBrief n (OutBrief a w) = WireBit w
 
 fine-brief : (n : ℕ) (l : CircuitLine) → SoundLine l → FineBrief n (brief n l)
 unfolding brief SoundLine
 fine-brief n (FbsLine f) h = tt
-fine-brief n (InLine a) h = tt
+fine-brief n (InLine g) h = tt
 fine-brief n (GateLine b ws) h = fine-wires n ws (h .1)
 fine-brief n (OutLine o) h = cap-bit (o .wire) (h .1)
 

@@ -1,6 +1,7 @@
 -- What is kept of a circuit that was read: counts, and two arrays.
 --   gates   6 bytes a gate: the slots of its two wires, and its four answers; of a gate of one wire the second slot is 255, and two answers count
---   ports   two numbers an input, where its name starts and ends in the text; from 64 on three an output, its name's start and end and its wire
+--   ports   two numbers an input, where its name starts and ends in the text; from 64 on three an output, its name's start and end and its wire;
+--           from 160 on the inputs' weights
 use mathlib.Core.Path.{_≡_}
 use mathlib.Core.List.{List, [], _∷_}
 use mathlib.Core.Option.{none, some}
@@ -58,8 +59,11 @@ nameAt s ps j = take (getD ps (j + 1) 0 - getD ps j 0) (drop (getD ps j 0) s)
 unfoldable pub inputName : List ℕ → List ℕ → ℕ → C.Name
 inputName s ps i = nameAt s ps (2 * i)
 
-unfoldable pub inputNames : List ℕ → List ℕ → ℕ → List C.Name
-inputNames s ps n = tabulate n (inputName s ps)
+unfoldable pub inputIn : List ℕ → List ℕ → ℕ → C.Given
+inputIn s ps i = record { name = inputName s ps i; weight = getD ps (160 + i) 0 }
+
+unfoldable pub inputsIn : List ℕ → List ℕ → ℕ → List C.Given
+inputsIn s ps n = tabulate n (inputIn s ps)
 
 unfoldable pub outputIn : List ℕ → List ℕ → ℕ → C.Output
 outputIn s ps i = record { name = nameAt s ps (64 + 3 * i); wire = portWire (getD ps (64 + 3 * i + 2) 0) }
@@ -73,7 +77,7 @@ unfoldable pub circuitOf : List ℕ → List ℕ → List ℕ → Circuit → C.
 circuitOf s gs ps c =
     record {
       settings = c .settings;
-      inputs = inputNames s ps (c .inputs);
+      inputs = inputsIn s ps (c .inputs);
       gates = gatesIn gs (c .inputs) (c .gates);
       outputs = outputsIn s ps (c .outs);
     }
@@ -87,7 +91,7 @@ unfoldable pub prefixOf : ℕ → List ℕ → List ℕ → List ℕ → Circuit
 prefixOf i s gs ps c =
     record {
       settings = if eqb i 1 then none else some (c .settings);
-      inputs = inputNames s ps (c .inputs);
+      inputs = inputsIn s ps (c .inputs);
       gates = gatesIn gs (c .inputs) (c .gates);
       outputs = outputsIn s ps (c .outs);
     }
@@ -107,5 +111,5 @@ PlacesIn k ps (Refused n i) = Unit {0}
 
 pub record Held (k : ℕ) (gs ps : List ℕ) (r : Reading) : Type 0 where
   pub gatesLong : length gs ≡ 576
-  pub portsLong : length ps ≡ 160
+  pub portsLong : length ps ≡ 192
   pub places : PlacesIn k ps r

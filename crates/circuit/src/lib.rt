@@ -13,7 +13,8 @@ use rules::Settings;
 
 // The settings and the counts of a circuit. Its gates, names and outputs stand in two arrays that `read` fills:
 //   gates   6 bytes a gate: the slots of its two wires, and its four answers; of a gate of one wire the second slot is 255, and two answers count
-//   ports   two numbers an input, where its name starts and ends in the text; from 64 on three an output, its name's start and end and its wire
+//   ports   two numbers an input, where its name starts and ends in the text; from 64 on three an output, its name's start and end and its wire;
+//           from 160 on the inputs' weights
 // A slot is a node's number, or 128 and 129 for the constants; an output's wire is a node's number, or 1000 and 1001.
 pub struct Circuit {
     pub settings: Settings,
@@ -29,8 +30,8 @@ pub enum Reading {
 }
 
 // The circuit that a text describes. The arrays are those of `Circuit`; a refusal leaves anything in them.
-pub fn read(s: &[u8], gates: &mut [u8; 576], ports: &mut [usize; 160]) -> Reading
-    requires { ⌜ (length (now gates) ≡ 576) × (length (now ports) ≡ 160) ⌝ }
+pub fn read(s: &[u8], gates: &mut [u8; 576], ports: &mut [usize; 192]) -> Reading
+    requires { ⌜ (length (now gates) ≡ 576) × (length (now ports) ≡ 192) ⌝ }
     ensures { λ r. ⌜ readingOf r (now (s .entry)) (now (gates .exit)) (now (ports .exit)) ≡ readCircuit (now (s .entry)) ⌝ }
     ensures { λ r. ⌜ Held (length (now (s .entry))) (now (gates .exit)) (now (ports .exit)) r ⌝ }
 {

@@ -4,7 +4,9 @@ ghost use mathlib.Core.List.{List};
 ghost use Prim.Native.Nat.{ℕ, _+_, _*_, _-_, _<_, _≤_};
 ghost use lib.ListN.{length, take, drop, set};
 ghost use lib.Seq.{paste};
+ghost use Rattle.rules.specs.Circuit.{givenNames};
 ghost use Rattle.rules.specs.CircuitText.{listed, circuitLine};
+ghost use Rattle.forms.specs.Forms.{givenAt};
 ghost use Rattle.text.specs.FirstLine.{firstLine};
 ghost use Rattle.text.specs.Name.{Named};
 ghost use Rattle.text.specs.Line.{lineStop};
@@ -14,7 +16,7 @@ ghost use Rattle.circuit_text.specs.Brief.{FbsBrief, InBrief, GateBrief, OutBri
 ghost use Rattle.circuit.specs.GateBytes.{GateStands, gateBytes};
 ghost use Rattle.circuit.specs.Took.{Ready, Took};
 ghost use Rattle.circuit.specs.TookLine.{TookLine};
-ghost use Rattle.circuit.specs.View.{inputNames, NamedAt};
+ghost use Rattle.circuit.specs.View.{inputsIn, NamedAt};
 ghost use Rattle.circuit_conditions.specs.Wires.{FineWires};
 use crate::Circuit;
 use crate::slot::port_of;
@@ -76,8 +78,8 @@ fn put_gate(gates: &mut [u8; 576], k: usize, g: [u8; 6])
 }
 
 // Where a name starts and ends.
-fn put_name(ports: &mut [usize; 160], j: usize, a: usize, b: usize)
-    requires { ⌜ (length (now ports) ≡ 160) × (j + 1 < 160) ⌝ }
+fn put_name(ports: &mut [usize; 192], j: usize, a: usize, b: usize)
+    requires { ⌜ (length (now ports) ≡ 192) × (j + 1 < 192) ⌝ }
     ensures { λ r. ⌜ now (ports .exit) ≡ set (set (now (ports .entry)) j a) (j + 1) b ⌝ }
 {
     ports[j] = a;
@@ -85,11 +87,11 @@ fn put_name(ports: &mut [usize; 160], j: usize, a: usize, b: usize)
 }
 
 // Whether the name in s from a up to b is one of the first n inputs'.
-fn is_listed(s: &[u8], ports: &[usize; 160], n: usize, a: usize, b: usize) -> bool
-    requires { ⌜ (length (now ports) ≡ 160) × (n ≤ 32) ⌝ }
+fn is_listed(s: &[u8], ports: &[usize; 192], n: usize, a: usize, b: usize) -> bool
+    requires { ⌜ (length (now ports) ≡ 192) × (n ≤ 32) ⌝ }
     requires { ⌜ Named (length (now s)) a b ⌝ }
     requires { ⌜ ((i : ℕ) → i < n → NamedAt (length (now s)) (now ports) (2 * i)) ⌝ }
-    ensures { λ r. ⌜ r ≡ listed (take (b - a) (drop a (now (s .entry)))) (inputNames (now (s .entry)) (now (ports .entry)) n) ⌝ }
+    ensures { λ r. ⌜ r ≡ listed (take (b - a) (drop a (now (s .entry)))) (givenNames (inputsIn (now (s .entry)) (now (ports .entry)) n)) ⌝ }
 {
     let mut i = 0;
     while i < n {
@@ -119,19 +121,20 @@ fn take_fbs(c: Circuit, line: usize, f: Settings, end: usize) -> Step
     }
 }
 
-// The name stands in s from a up to b.
+// The name stands in s from a up to b; w is the weight.
 fn take_in(
     c: Circuit,
     line: usize,
     s: &[u8],
     a: usize,
     b: usize,
+    w: u8,
     end: usize,
-    ports: &mut [usize; 160],
+    ports: &mut [usize; 192],
 ) -> Step
     requires { ⌜ Ready line (length (now s)) (now ports) c ⌝ }
     requires { ⌜ Named (length (now s)) a b ⌝ }
-    ensures { λ r. ⌜ ((gs : List ℕ) → Took line (now (s .entry)) gs (now (ports .entry)) c (InBrief (take (b - a) (drop a (now (s .entry))))) end r gs (now (ports .exit))) ⌝ }
+    ensures { λ r. ⌜ ((gs : List ℕ) → Took line (now (s .entry)) gs (now (ports .entry)) c (InBrief (givenAt (now (s .entry)) a b w)) end r gs (now (ports .exit))) ⌝ }
 {
     let n = c.inputs;
     let repeated = is_listed(s, ports, n, a, b);
@@ -144,6 +147,7 @@ fn take_in(
         };
     }
     put_name(ports, 2 * n, a, b);
+    ports[160 + n] = w as usize;
     let mut circuit = c;
     circuit.inputs = n + 1;
     Step {
@@ -198,7 +202,7 @@ fn take_out(
     b: usize,
     wire: Wire,
     end: usize,
-    ports: &mut [usize; 160],
+    ports: &mut [usize; 192],
 ) -> Step
     requires { ⌜ Ready line (length (now s)) (now ports) c ⌝ }
     requires { ⌜ Named (length (now s)) a b ⌝ }
@@ -233,7 +237,7 @@ pub fn take_line(
     s: &[u8],
     at: usize,
     gates: &mut [u8; 576],
-    ports: &mut [usize; 160],
+    ports: &mut [usize; 192],
 ) -> Step
     requires { ⌜ (at ≤ length (now s)) × (length (now gates) ≡ 576) ⌝ }
     requires { ⌜ Ready line (length (now s)) (now ports) c ⌝ }
@@ -242,7 +246,7 @@ pub fn take_line(
     let l = read_line(s, at, c.inputs + c.gates);
     match l {
         Line::Fbs(f, z) => take_fbs(c, line, f, z),
-        Line::In(a, b, z) => take_in(c, line, s, a, b, z, ports),
+        Line::In(a, b, w, z) => take_in(c, line, s, a, b, w, z, ports),
         Line::Gate(d, e, v, z) => take_gate(c, line, s, d, e, v, z, gates),
         Line::Out(a, b, w, z) => take_out(c, line, s, a, b, w, z, ports),
         Line::Nothing => Step {

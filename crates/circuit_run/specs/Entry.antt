@@ -20,7 +20,7 @@ use Rattle.circuit.specs.declared.Reading.the-variants.{Good, Refused}
 use Rattle.circuit.specs.Fits.{read-fits}
 use Rattle.circuit_run.specs.Run.{Runs, RunsOn, outputBits, padded-outputs, portBits, port-bits, ports-many}
 use Rattle.circuit_run.specs.RunGate.{padded}
-use Rattle.circuit.specs.View.{inputNames, gatesIn, outputsIn, circuitOf, readingOf, Held}
+use Rattle.circuit.specs.View.{inputsIn, gatesIn, outputsIn, circuitOf, readingOf, Held}
 
 -- ---- A circuit that was read.
 
@@ -63,7 +63,7 @@ module _ (s gs ps bits buffer : List ℕ) (r : Reading) (e : readingOf r s gs ps
     good = sym e ∙ ap (λ x. readingOf x s gs ps) q
 
     pub run-good : (o : RunOutcome ℕ) → o ≡ runOn (c .inputs) (c .outs) bits buffer (some (C.circuitRun (circuitOf s gs ps c) bits)) → o ≡ runCircuit s bits buffer
-    unfolding runCircuit runCircuitOn circuitOf inputNames outputsIn
+    unfolding runCircuit runCircuitOn circuitOf inputsIn outputsIn
     run-good o h = h ∙ sym (ap (λ x. runCircuitOn x bits buffer) good ∙ rw (tabulate-length, tabulate-length))
 
     pub read-runs : Held (length s) gs ps r → RunsOn gs ps c

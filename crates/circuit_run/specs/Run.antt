@@ -33,7 +33,7 @@ pub record Runs (n count : ℕ) (gs bits : List ℕ) : Type 0 where
 -- What it needs of a circuit that was read: of its wires alone.
 pub record RunsOn (gs ps : List ℕ) (c : Circuit) : Type 0 where
   pub gatesLong : length gs ≡ 576
-  pub portsLong : length ps ≡ 160
+  pub portsLong : length ps ≡ 192
   pub inputs : c .inputs ≤ 32
   pub gates : c .gates ≤ 96
   pub outs : c .outs ≤ 32

@@ -13,7 +13,7 @@ pub fn run_circuit(text: &[u8], bits: &[u8], values: &mut [u8]) -> RunReply
     ensures { λ r. ⌜ ran (runReply r) (now (values .exit)) ≡ runCircuit (now (text .entry)) (now (bits .entry)) (now (values .entry)) ⌝ }
 {
     let mut gates = [0u8; 576];
-    let mut ports = [0usize; 160];
+    let mut ports = [0usize; 192];
     let r = read(text, &mut gates, &mut ports);
     match r {
         Reading::Refused(number, line) => RunReply::Unreadable(number, line),

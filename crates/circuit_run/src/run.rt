@@ -76,8 +76,8 @@ fn gate_values(n: usize, count: usize, gates: &[u8; 576], bits: &[u8]) -> [u8; 1
 }
 
 // The bits of n outputs.
-fn put_outputs(ports: &[usize; 160], n: usize, values: &[u8; 128], out: &mut [u8])
-    requires { ⌜ (length (now ports) ≡ 160) × ((n ≤ 32) × (n ≤ length (now out))) ⌝ }
+fn put_outputs(ports: &[usize; 192], n: usize, values: &[u8; 128], out: &mut [u8])
+    requires { ⌜ (length (now ports) ≡ 192) × ((n ≤ 32) × (n ≤ length (now out))) ⌝ }
     requires { ⌜ ((i : ℕ) → i < n → GoodPort (getD (now ports) (64 + 3 * i + 2) 0)) ⌝ }
     ensures { λ r. ⌜ now (out .exit) ≡ over (portBits (now (values .entry)) (now (ports .entry)) n) (now (out .entry)) ⌝ }
 {
@@ -93,7 +93,7 @@ fn put_outputs(ports: &[usize; 160], n: usize, values: &[u8; 128], out: &mut [u8
 pub fn run_read(
     c: Circuit,
     gates: &[u8; 576],
-    ports: &[usize; 160],
+    ports: &[usize; 192],
     bits: &[u8],
     values: &mut [u8],
 ) -> RunReply

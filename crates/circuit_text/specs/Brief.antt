@@ -12,7 +12,7 @@ use Rattle.rules.specs.declared.Settings.{Settings}
 use Rattle.rules.specs.declared.Wire.{Wire}
 use Rattle.rules.specs.declared.Wire.the-variants.{Const, Node}
 use Rattle.rules.specs.Builder.{tableLimits}
-use Rattle.rules.specs.Circuit.{Name}
+use Rattle.rules.specs.Circuit.{Name, Given, givenNames}
 use Rattle.rules.specs.CircuitText.{CircuitLine, FbsLine, InLine, GateLine, OutLine, Prefix, inLimits, some?, listed, nodeCount, noNode, anyNoNode, matching, conditions}
 use Rattle.rules.specs.Form.{Condition, _when_}
 use Rattle.text.specs.Cap.{cap-table, cap-ten, cap-small}
@@ -24,14 +24,14 @@ use Rattle.circuit_conditions.specs.Wires.{noWires, withWire, withWires, shape,
 
 pub data Brief : Type 0 where
   FbsBrief : Settings → Brief
-  InBrief : Name → Brief
+  InBrief : Given → Brief
   GateBrief : List ℕ → Wires → Brief
   OutBrief : Name → Wire → Brief
 
 -- A line after n nodes.
 unfoldable pub brief : ℕ → CircuitLine → Brief
 brief n (FbsLine s) = FbsBrief (capSettings s)
-brief n (InLine a) = InBrief a
+brief n (InLine g) = InBrief g
 brief n (GateLine b ws) = GateBrief b (withWires n noWires ws)
 brief n (OutLine o) = OutBrief (o .name) (capWire (o .wire))
 
@@ -39,10 +39,10 @@ brief n (OutLine o) = OutBrief (o .name) (capWire (o .wire))
 
 unfoldable pub briefConditions : Prefix → Brief → List Condition
 briefConditions c (FbsBrief s) = (2 when not (tableLimits (s .p) (s .m) && (leb 1 (s .t) && leb (s .t) 10))) ∷ (4 when isSome (c .settings)) ∷ []
-briefConditions c (InBrief n) =
+briefConditions c (InBrief g) =
     (3 when leb 32 (length (c .inputs)))
     ∷ (4 when (not (isSome (c .settings)) || (ltb 0 (length (c .gates)) || ltb 0 (length (c .outputs)))))
-    ∷ (5 when listed n (c .inputs))
+    ∷ (5 when listed (g .name) (givenNames (c .inputs)))
     ∷ []
 briefConditions c (GateBrief b v) =
     (3 when leb 96 (length (c .gates)))
@@ -68,7 +68,7 @@ cap-limits s = rw (cap-table (s .p) (s .m), cap-ten (s .t))
 pub brief-conditions : (c : Prefix) (l : CircuitLine) → nodeCount c ≤ 65536 → briefConditions c (brief (nodeCount c) l) ≡ conditions c l
 unfolding briefConditions brief conditions
 brief-conditions c (FbsLine s) h = rw (cap-limits s)
-brief-conditions c (InLine n) h = rw (some-is (c .gates), some-is (c .outputs))
+brief-conditions c (InLine g) h = rw (some-is (c .gates), some-is (c .outputs))
 brief-conditions c (GateLine b ws) h = rw (some-is (c .outputs), astray-is (nodeCount c) ws h, shape-is (nodeCount c) b ws)
 brief-conditions c (OutLine o) h = ap (λ t. (3 when leb 32 (length (c .outputs))) ∷ (4 when not (isSome (c .settings))) ∷ (6 when t) ∷ []) (cap-noNode (nodeCount c) (o .wire) h)
 
@@ -80,7 +80,7 @@ twoWires n u v = if eqb n 1 then u ∷ [] else u ∷ v ∷ []
 
 unfoldable pub told : Brief → CircuitLine
 told (FbsBrief s) = FbsLine s
-told (InBrief n) = InLine n
+told (InBrief g) = InLine g
 told (GateBrief b v) = GateLine b (twoWires (v .count) (v .left) (v .right))
 told (OutBrief n w) = OutLine (record { name = n; wire = w })
 
@@ -109,7 +109,7 @@ gate-told n b (u ∷ v ∷ w ∷ ws) h a m = absurd (true≢false (sym m ∙ lon
 pub brief-told : (c : Prefix) (l : CircuitLine) → nodeCount c ≤ 65536 → lowest (conditions c l) ≡ 0 → told (brief (nodeCount c) l) ≡ l
 unfolding told brief conditions
 brief-told c (FbsLine s) h e = ap FbsLine (limits-small s (not-false _ (unmet _ _ (omega arith) e .0)))
-brief-told c (InLine n) h e = refl
+brief-told c (InLine g) h e = refl
 brief-told c (GateLine b ws) h e =
     let order = unmet _ _ (omega arith) (unmet _ _ (omega arith) e .1) in
     let nodes = unmet _ _ (omega arith) (order .1) in

@@ -12,7 +12,7 @@ use Rattle.rules.specs.Form.{Reader, give, onward, either, bitsFrom, inLine, ou
 use Rattle.text.specs.Capped.{capped, exact-some, exact-none}
 use Rattle.text.specs.Chain.{step, stop, first, second}
 use Rattle.text.specs.FirstLine.{Inner, Closes, noNewline, firstLine, inner-give, inner-or, inner-then, inner-word, inner-many, closes-or, closes-then, closes-give, closes-word, whole-found, whole-none, after-is}
-use Rattle.forms.specs.Forms.{capOutput}
+use Rattle.forms.specs.Forms.{capOutput, givenAt}
 use Rattle.text.specs.Name.{Named}
 use Rattle.text.specs.Line.{lineStop}
 use Rattle.forms.specs.LineForms.{inner-name, inner-number, inner-bits, inner-wire, inner-norm, closes-in, closes-out}
@@ -27,7 +27,7 @@ use Rattle.circuit_text.specs.WiresRead.{spacedWire, takes-spaced}
 -- What the code's line stands for: names and bits are parts of the text s.
 abbrev pub lineOf : List ℕ → Line → Option Brief
 lineOf s (Fbs f z) = some (FbsBrief f)
-lineOf s (In a b z) = some (InBrief (take (b - a) (drop a s)))
+lineOf s (In a b w z) = some (InBrief (givenAt s a b w))
 lineOf s (Gate d e v z) = some (GateBrief (bitsFrom (take (e - d) (drop d s))) v)
 lineOf s (Out a b w z) = some (OutBrief (take (b - a) (drop a s)) w)
 lineOf s Nothing = none
@@ -35,7 +35,7 @@ lineOf s Nothing = none
 -- Where those parts may stand in a text of k bytes, and where the line ends.
 abbrev pub Placed : ℕ → ℕ → Line → Type 0
 Placed k e (Fbs f z) = z ≡ e
-Placed k e (In a b z) = Named k a b × (z ≡ e)
+Placed k e (In a b w z) = Named k a b × (z ≡ e)
 Placed k e (Gate c d v z) = (c ≤ d) × (d ≤ k) × (z ≡ e)
 Placed k e (Out a b w z) = Named k a b × (z ≡ e)
 Placed k e Nothing = Unit {0}
@@ -103,12 +103,12 @@ module _ (n : ℕ) (s : List ℕ) (a : ℕ) where
         record { same = w .0; placed = w .1 }
 
     module _ (noFbs : capped capSettings (fbsLine (drop a s)) ≡ none) where
-      pub in-line : (b c e : ℕ) → inLine (drop a s) ≡ some (record { value = take (c - b) (drop b s); rest = drop e s }) → e ≤ length s
-          → Named (length s) b c → LineAt n s a (In b c e)
+      pub in-line : (b c w e : ℕ) → inLine (drop a s) ≡ some (record { value = givenAt s b c w; rest = drop e s }) → e ≤ length s
+          → Named (length s) b c → LineAt n s a (In b c w e)
       unfolding forms brief
-      in-line b c e h k m =
-          let w = line-found (InLine (take (c - b) (drop b s))) e (second _ (stop _ (exact-none capSettings _ noFbs)) (first _ (step _ h refl))) k i refl in
-          record { same = w .0; placed = (m, w .1) }
+      in-line b c w e h k m =
+          let x = line-found (InLine (givenAt s b c w)) e (second _ (stop _ (exact-none capSettings _ noFbs)) (first _ (step _ h refl))) k i refl in
+          record { same = x .0; placed = (m, x .1) }
 
       module _ (noIn : inLine (drop a s) ≡ none) where
         pub gate-line : (d c : ℕ) (v : Wires) (e : ℕ)

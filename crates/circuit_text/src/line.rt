@@ -7,15 +7,15 @@ use crate::gate::read_gate;
 use crate::settings::FbsRead;
 use crate::settings::read_fbs;
 use circuit_conditions::Wires;
-use forms::NameRead;
+use forms::InRead;
 use forms::OutRead;
 use rules::Settings;
 use rules::Wire;
 
-// Its settings; its name from start to end; its bits from start to end, and its wires; its name, and its wire. Last, where the line ends.
+// Its settings; its name from start to end, and its weight; its bits from start to end, and its wires; its name, and its wire. Last, where the line ends.
 pub enum Line {
     Fbs(Settings, usize),
-    In(usize, usize, usize),
+    In(usize, usize, u8, usize),
     Gate(usize, usize, Wires, usize),
     Out(usize, usize, Wire, usize),
     Nothing,
@@ -29,8 +29,8 @@ pub fn read_line(s: &[u8], at: usize, n: usize) -> Line
     if let FbsRead::At(f, e) = read_fbs(s, at) {
         return Line::Fbs(f, e);
     }
-    if let NameRead::At(a, b, e) = forms::read_in(s, at) {
-        return Line::In(a, b, e);
+    if let InRead::At(a, b, w, e) = forms::read_in(s, at) {
+        return Line::In(a, b, w, e);
     }
     if let GateRead::At(d, c, v, e) = read_gate(s, at, n) {
         return Line::Gate(d, c, v, e);

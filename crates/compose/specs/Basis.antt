@@ -11,10 +11,10 @@ use lib.IntN.{ℤ, pos, natAbs}
 use lib.ListN.{length, take}
 use Rattle.laws.specs.Over.{over}
 use Rattle.laws.specs.Test.{if_then_else_, if-both, eq-or-ne, neither-left, neither-right, both-left, both-right}
-use Rattle.rules.specs.Cone.{Cone, linearTable}
+use Rattle.rules.specs.Cone.{Cone, linearTable, terms}
 use Rattle.rules.specs.Network.{member}
 use Rattle.rules.specs.NetworkText.{allDifferent}
-use Rattle.rules.specs.Store.{terms, coefficientOf}
+use Rattle.rules.specs.Store.{coefficientOf}
 use Rattle.rules.specs.Composition.{unionSupport, gateTruth}
 use Rattle.scale.specs.Limits.{Within}
 use Rattle.compose.specs.declared.Basis.{Basis}

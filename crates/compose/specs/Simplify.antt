@@ -11,10 +11,10 @@ use lib.ListN.{length, getD, take, drop, drop-of-length-le}
 use lib.Seq.{drop-cons}
 use Rattle.laws.specs.Select.{select}
 use Rattle.laws.specs.Test.{if_then_else_}
-use Rattle.rules.specs.Cone.{Cone, coneBit}
+use Rattle.rules.specs.Cone.{Cone, coneBit, terms}
 use Rattle.rules.specs.Network.{Term}
 use Rattle.rules.specs.NetworkText.{sources, allDifferent}
-use Rattle.rules.specs.Store.{terms, isUsed}
+use Rattle.rules.specs.Store.{isUsed}
 use Rattle.rules.specs.Composition.{overRows, simplifyCone}
 use Rattle.theorems.specs.Terms.{coefs, termsOver, sources-are}
 use Rattle.compose.specs.declared.simplify.Retained.{Retained}

@@ -19,7 +19,7 @@ use Rattle.rules.specs.Circuit.{Output}
 use Rattle.rules.specs.Cone.{withinNorm}
 use Rattle.rules.specs.Form.{Reading, Good}
 use Rattle.rules.specs.Mapper.{isBasic, pruned, checked, answerWith, mapReply}
-use Rattle.rules.specs.Network.{Network, member, nodeNorm, largest}
+use Rattle.rules.specs.Network.{Network, member}
 use Rattle.rules.specs.NetworkText as limit
 use Rattle.rules.specs.Outcome.{Outcome, outcome}
 use Rattle.rules.specs.Store.{wireNeeds, outputNeeds, wantedBelow, live, renumberedOutput, keptFrom}
@@ -36,6 +36,7 @@ use Rattle.writer.specs.Outputs.{Signalled, Ported, kept-signal}
 use Rattle.lines.specs.Put.{Put, Room}
 use Rattle.writer.specs.Whole.{networkOf, kept-network}
 use Rattle.conclude.specs.Live.{Keeps}
+use Rattle.conclude.specs.Norm.{largestNorm}
 use Rattle.outputs.specs.Outputs.{PortIn, GoodPorts}
 
 -- The network that the nodes and the ports say, pruned and checked.
@@ -131,7 +132,7 @@ module _ (text ports : List ℕ) (outs : ℕ) (nodes : List ℕ) (count : ℕ) w
           output-needs (getD ports (64 + 3 * i + 2) 0) (tabulate outs (outputIn text ports)) i (outputIn text ports 0) (rw (tabulate-length outs (outputIn text ports)) h)
           (rw (tabulate-at outs (outputIn text ports) i (outputIn text ports 0) h, lt-ltb (getD ports (64 + 3 * i + 2) 0) 1000 l) (member-head (getD ports (64 + 3 * i + 2) 0) []))
 
-  kept-closed : IsStore nodes count → Closed kept nodes count
+  pub kept-closed : IsStore nodes count → Closed kept nodes count
   unfolding live
   kept-closed s =
       subst (λ k. Closed (wantedBelow k (storeOf nodes count) (outputNeeds (outputsIn text ports outs))) nodes count) (sym (store-length nodes count))
@@ -140,9 +141,9 @@ module _ (text ports : List ℕ) (outs : ℕ) (nodes : List ℕ) (count : ℕ) w
 -- ---- laws: the whole
 
 module _ (s : Settings) (text ports : List ℕ) (outs : ℕ) (nodes : List ℕ) (count : ℕ) (r : Bool)
-    (e : r ≡ (isBasic (s .policy) && not (withinNorm s (largest nodeNorm (keptFrom (live (storeOf nodes count) (outputsIn text ports outs)) 0 (storeOf nodes count)))))) where
+    (e : r ≡ (isBasic (s .policy) && not (withinNorm s (largestNorm (keptFrom (live (storeOf nodes count) (outputsIn text ports outs)) 0 (storeOf nodes count)))))) where
   pub over-refused : r ≡ true → (out : List ℕ) → outcome (mapReply (Reply.Refused 8 0)) out ≡ answerWith out (concluded s text ports outs nodes count)
-  unfolding concluded checked pruned answerWith mapReply
+  unfolding concluded checked pruned answerWith mapReply largestNorm
   over-refused t out = rw (sym e ∙ t) refl
 
   module _ (t : r ≡ false) (numbers : List ℕ) (f : Finishable s text ports outs nodes count) (k : Keeps (live (storeOf nodes count) (outputsIn text ports outs)) count numbers) where
@@ -163,7 +164,7 @@ module _ (s : Settings) (text ports : List ℕ) (outs : ℕ) (nodes : List ℕ) 
         (same-outputs text ports outs)
 
     is-good : concluded s text ports outs nodes count ≡ Good (networkOf whole text ports nodes numbers)
-    unfolding concluded checked pruned
+    unfolding concluded checked pruned largestNorm
     is-good = rw (sym e ∙ t) (ap Good (sym written-is))
 
     pub answer-is : (o : Outcome) (out : List ℕ) → o ≡ answerWith out (Good (networkOf whole text ports nodes numbers)) → o ≡ answerWith out (concluded s text ports outs nodes count)

@@ -1,22 +1,27 @@
 -- The largest norm of the nodes that are kept, from the last to the first.
-use mathlib.Core.Path.{_≡_, refl, sym, ap, _∙_}
+use mathlib.Core.Path.{_≡_, refl, sym, ap, ap₂, _∙_}
 use mathlib.Core.Bool.{Bool, true, false}
-use mathlib.Core.List.{List, [], _∷_, map}
-use Prim.Native.Nat.{ℕ, suc, _+_, _-_, _≤_, _<_, max}
-use native.Mathlib.Numerals.{add-one}
+use mathlib.Core.List.{List, _∷_}
+use Prim.Native.Nat.{ℕ, _+_, _-_, _≤_, _<_, max}
 use native.Mathlib.Omega.{arith}
 use lib.Dec.{eqb}
-use lib.IntN.{ℤ}
 use lib.ListN.{getD, drop, drop-of-length-le}
-use lib.Seq.{drop-cons}
 use borrow.Author.Tests.{eq-eqb, ne-eqb}
-use Rattle.laws.specs.Tabulate.{tabulate, tabulate-length, tabulate-at}
 use Rattle.laws.specs.Test.{if_then_else_}
-use Rattle.rules.specs.Network.{Term, LutNode, Input, Linear, Bootstrap, member, nodeNorm, largest}
-use Rattle.rules.specs.Scale.{norm}
-use Rattle.rules.specs.Store.{renumbered, renumberedTerm, renumberedNode, keptFrom}
-use Rattle.nodes.specs.View.{nodeOf, storeOf}
+use Rattle.rules.specs.Network.{LutNode, member, nodeNorm, largest}
+use Rattle.rules.specs.Store.{needs, renumbered, renumberedNode, keptFrom}
+use Rattle.theorems.specs.Members.{among-of}
+use Rattle.theorems.specs.Weights.{AllWithin}
+use Rattle.mapped.specs.PrunedNodes.{same-norm}
+use Rattle.nodes.specs.Nodes.{fine-needs}
+use Rattle.nodes.specs.Norm.{norm-among}
+use Rattle.nodes.specs.View.{nodeOf, storeOf, store-length, store-from, IsStore}
+use Rattle.writer.specs.Kept.{Closed}
 use Rattle.conclude.specs.Live.{Keeps}
+
+-- The largest norm of some nodes, each among all of them.
+unfoldable pub largestNorm : List LutNode → ℕ
+largestNorm nodes = largest (nodeNorm nodes) nodes
 
 -- The larger one of node i's norm and the norm so far, if the node is kept.
 unfoldable pub largerKept : List ℕ → ℕ → ℕ → ℕ → ℕ
@@ -36,51 +41,58 @@ pub larger-own : (live : List ℕ) (i own norm x : ℕ) → (getD live i 0 ≡ 0
 unfolding largerKept
 larger-own live i own norm x e q h = rw (ne-eqb (getD live i 0) 0 e) (omega arith)
 
-norm-kept : (kept : List ℕ) (n : LutNode) → nodeNorm (renumberedNode kept n) ≡ nodeNorm n
-unfolding nodeNorm renumberedNode renumberedTerm
-norm-kept kept (Input name) = refl
-norm-kept kept (Linear c ts) = ap norm (same ts)
-  where
-    same : (us : List Term) → map (λ (t : Term). t .coef) (map (renumberedTerm kept) us) ≡ map (λ (t : Term). t .coef) us
-    same [] = refl
-    same (u ∷ us) = ap (λ (l : List ℤ). u .coef ∷ l) (same us)
-norm-kept kept (Bootstrap i table) = refl
+-- what a node needs stands before it
+needs-within : (bytes : List ℕ) (count i : ℕ) → IsStore bytes count → i < count → AllWithin (storeOf bytes count) (needs (nodeOf bytes i))
+needs-within bytes count i s h j m = let l = fine-needs i (nodeOf bytes i) (s .fine i h) j m in rw (store-length bytes count) (omega arith)
 
--- The largest norm of the nodes from i on that are kept.
-unfoldable pub largestFrom : List ℕ → ℕ → List ℕ → ℕ → ℕ
-largestFrom bytes count kept i = largest nodeNorm (keptFrom kept i (drop i (storeOf bytes count)))
+module _ (bytes : List ℕ) (count : ℕ) (kept : List ℕ) where
+  abbrev all : List LutNode
+  all = keptFrom kept 0 (storeOf bytes count)
 
-pub largest-none : (bytes : List ℕ) (count : ℕ) (kept : List ℕ) → 0 ≡ largestFrom bytes count kept count
-unfolding largestFrom largest keptFrom storeOf
-largest-none bytes count kept = rw (drop-of-length-le (tabulate count (nodeOf bytes)) {i = count} (rw (tabulate-length count (nodeOf bytes)) (omega arith))) refl
+  -- a kept node's norm, reckoned among those before it, is its norm among the kept ones
+  norm-kept : IsStore bytes count → Closed kept bytes count → (i : ℕ) → i < count → member i kept ≡ true
+      → nodeNorm all (renumberedNode kept (nodeOf bytes i)) ≡ nodeNorm (storeOf bytes i) (nodeOf bytes i)
+  norm-kept s c i h m =
+      same-norm kept (storeOf bytes count) (nodeOf bytes i) (among-of (needs (nodeOf bytes i)) kept (λ j k. c .needed i h m j k)) (needs-within bytes count i s h)
+      ∙ sym (norm-among bytes i count (nodeOf bytes i) (s .fine i h) (omega arith))
 
-largest-next : (bytes : List ℕ) (count : ℕ) (kept : List ℕ) (i : ℕ) → i < count
-    → largestFrom bytes count kept i ≡ (if member i kept then max (nodeNorm (nodeOf bytes i)) (largestFrom bytes count kept (suc i)) else largestFrom bytes count kept (suc i))
-unfolding largestFrom storeOf keptFrom largest
-largest-next bytes count kept i h =
-    rw
-    (drop-cons (tabulate count (nodeOf bytes)) i (nodeOf bytes 0) (rw (tabulate-length count (nodeOf bytes)) h), tabulate-at count (nodeOf bytes) i (nodeOf bytes 0) h, add-one i)
-    (by (member i kept))
-  where
-    by : (b : Bool) → largest nodeNorm (if b then renumberedNode kept (nodeOf bytes i) ∷ keptFrom kept (suc i) (drop (suc i) (tabulate count (nodeOf bytes))) else keptFrom kept (suc i) (drop (suc i) (tabulate count (nodeOf bytes))))
-        ≡ (if b then max (nodeNorm (nodeOf bytes i)) (largest nodeNorm (keptFrom kept (suc i) (drop (suc i) (tabulate count (nodeOf bytes))))) else largest nodeNorm (keptFrom kept (suc i) (drop (suc i) (tabulate count (nodeOf bytes)))))
-    by true = ap (λ x. max x (largest nodeNorm (keptFrom kept (suc i) (drop (suc i) (tabulate count (nodeOf bytes)))))) (norm-kept kept (nodeOf bytes i))
-    by false = refl
+  -- The largest norm of the nodes from i on that are kept.
+  unfoldable pub largestFrom : ℕ → ℕ
+  largestFrom i = largest (nodeNorm all) (keptFrom kept i (drop i (storeOf bytes count)))
 
-pub largest-step : (bytes : List ℕ) (count : ℕ) (kept live : List ℕ) (i r x : ℕ) → 0 < i → i ≤ count → Keeps kept count live → r ≡ largestFrom bytes count kept i
-    → x ≡ largerKept live (i - 1) (nodeNorm (nodeOf bytes (i - 1))) r → x ≡ largestFrom bytes count kept (i - 1)
-unfolding largerKept
-largest-step bytes count kept live i r x p h keeps e q =
-    let s : suc (i - 1) ≡ i = omega arith in
-    q ∙ by (member (i - 1) kept) (keeps .at (i - 1) (omega arith)) ∙ ap (λ j. if member (i - 1) kept then max (nodeNorm (nodeOf bytes (i - 1))) (largestFrom bytes count kept j) else largestFrom bytes count kept j) (sym s)
-    ∙ sym (largest-next bytes count kept (i - 1) (omega arith))
-  where
-    by : (b : Bool) → getD live (i - 1) 0 ≡ (if b then renumbered kept (i - 1) + 1 else 0)
-        → (if eqb (getD live (i - 1) 0) 0 then r else max (nodeNorm (nodeOf bytes (i - 1))) r)
-        ≡ (if b then max (nodeNorm (nodeOf bytes (i - 1))) (largestFrom bytes count kept i) else largestFrom bytes count kept i)
-    by true l = rw (ne-eqb (getD live (i - 1) 0) 0 (λ z. omega arith)) (ap (max (nodeNorm (nodeOf bytes (i - 1)))) e)
-    by false l = rw (eq-eqb (getD live (i - 1) 0) 0 l) e
+  pub largest-none : 0 ≡ largestFrom count
+  unfolding largestFrom largest keptFrom
+  largest-none = rw (drop-of-length-le (storeOf bytes count) {i = count} (rw (store-length bytes count) (omega arith))) refl
 
-pub largest-all : (bytes : List ℕ) (count : ℕ) (kept : List ℕ) (i r : ℕ) → i ≤ 0 → r ≡ largestFrom bytes count kept i → r ≡ largest nodeNorm (keptFrom kept 0 (storeOf bytes count))
-unfolding largestFrom
-largest-all bytes count kept i r h e = let z : i ≡ 0 = omega arith in e ∙ ap (λ j. largest nodeNorm (keptFrom kept j (drop j (storeOf bytes count)))) z
+  largest-next : (i : ℕ) → i < count
+      → largestFrom i ≡ (if member i kept then max (nodeNorm all (renumberedNode kept (nodeOf bytes i))) (largestFrom (i + 1)) else largestFrom (i + 1))
+  unfolding largestFrom keptFrom
+  largest-next i h = ap (λ l. largest (nodeNorm all) (keptFrom kept i l)) (store-from bytes count i h) ∙ by (member i kept)
+    where
+      by : (b : Bool) → largest (nodeNorm all) (if b then renumberedNode kept (nodeOf bytes i) ∷ keptFrom kept (i + 1) (drop (i + 1) (storeOf bytes count)) else keptFrom kept (i + 1) (drop (i + 1) (storeOf bytes count)))
+          ≡ (if b then max (nodeNorm all (renumberedNode kept (nodeOf bytes i))) (largest (nodeNorm all) (keptFrom kept (i + 1) (drop (i + 1) (storeOf bytes count)))) else largest (nodeNorm all) (keptFrom kept (i + 1) (drop (i + 1) (storeOf bytes count))))
+      by true = unfold largest in refl
+      by false = refl
+
+  pub largest-step : (live : List ℕ) (i r x : ℕ) → 0 < i → i ≤ count → IsStore bytes count → Closed kept bytes count → Keeps kept count live → r ≡ largestFrom i
+      → x ≡ largerKept live (i - 1) (nodeNorm (storeOf bytes (i - 1)) (nodeOf bytes (i - 1))) r → x ≡ largestFrom (i - 1)
+  unfolding largerKept
+  largest-step live i r x p h s c keeps e q =
+      let t : i - 1 + 1 ≡ i = omega arith in
+      q ∙ by (member (i - 1) kept) (keeps .at (i - 1) (omega arith)) (λ m. norm-kept s c (i - 1) (omega arith) m)
+      ∙ ap (λ j. if member (i - 1) kept then max (nodeNorm all (renumberedNode kept (nodeOf bytes (i - 1)))) (largestFrom j) else largestFrom j) (sym t)
+      ∙ sym (largest-next (i - 1) (omega arith))
+    where
+      own : ℕ
+      own = nodeNorm (storeOf bytes (i - 1)) (nodeOf bytes (i - 1))
+
+      by : (b : Bool) → getD live (i - 1) 0 ≡ (if b then renumbered kept (i - 1) + 1 else 0)
+          → (b ≡ true → nodeNorm all (renumberedNode kept (nodeOf bytes (i - 1))) ≡ own)
+          → (if eqb (getD live (i - 1) 0) 0 then r else max own r)
+          ≡ (if b then max (nodeNorm all (renumberedNode kept (nodeOf bytes (i - 1)))) (largestFrom i) else largestFrom i)
+      by true l n = rw (ne-eqb (getD live (i - 1) 0) 0 (λ z. omega arith)) (ap₂ max (sym (n refl)) e)
+      by false l n = rw (eq-eqb (getD live (i - 1) 0) 0 l) e
+
+  pub largest-all : (i r : ℕ) → i ≤ 0 → r ≡ largestFrom i → r ≡ largestNorm all
+  unfolding largestFrom largestNorm
+  largest-all i r h e = let z : i ≡ 0 = omega arith in e ∙ ap (λ j. largest (nodeNorm all) (keptFrom kept j (drop j (storeOf bytes count)))) z

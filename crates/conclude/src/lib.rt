@@ -18,16 +18,17 @@ ghost use lib.ListN.{length};
 ghost use Rattle.rules.specs.Cone.{withinNorm};
 ghost use Rattle.rules.specs.Form.{Good};
 ghost use Rattle.rules.specs.Mapper.{isBasic, answerWith, mapReply};
-ghost use Rattle.rules.specs.Network.{nodeNorm, largest};
 ghost use Rattle.rules.specs.Outcome.{outcome};
 ghost use Rattle.rules.specs.Store.{keptFrom};
 ghost use Rattle.rules.specs.Writing.{networkText};
 ghost use Rattle.nodes.specs.View.{storeOf, IsStore};
+ghost use Rattle.writer.specs.Kept.{Closed};
 ghost use Rattle.writer.specs.Live.{Sourced};
 ghost use Rattle.writer.specs.Outputs.{Ported};
 ghost use Rattle.lines.specs.Put.{Room};
 ghost use Rattle.writer.specs.Whole.{networkOf};
 ghost use Rattle.conclude.specs.Live.{Keeps};
+ghost use Rattle.conclude.specs.Norm.{largestNorm};
 ghost use Rattle.conclude.specs.Conclude.{concluded, Finishable};
 
 // The network's text, or 11 where the buffer is too short for it. Its length comes first, of a text that goes into no byte.
@@ -35,7 +36,7 @@ fn answer(
     out: &mut [u8],
     s: &[u8],
     n: Network,
-    ports: &[usize; 160],
+    ports: &[usize; 192],
     nodes: &[u8; 25536],
     live: &[u16; 672],
 ) -> MapReply
@@ -53,7 +54,7 @@ fn answer(
 // Basic's last check is on the largest norm.
 fn is_over_norm(s: Settings, nodes: &[u8; 25536], live: &[u16; 672], count: usize) -> bool
     requires { ⌜ IsStore (now nodes) count × (length (now live) ≡ 672) ⌝ }
-    ensures { λ r. ⌜ ((kept : List ℕ) → Keeps kept count (now (live .entry)) → r ≡ (isBasic (s .policy) && not (withinNorm s (largest nodeNorm (keptFrom kept 0 (storeOf (now (nodes .entry)) count)))))) ⌝ }
+    ensures { λ r. ⌜ ((kept : List ℕ) → Keeps kept count (now (live .entry)) → Closed kept (now (nodes .entry)) count → r ≡ (isBasic (s .policy) && not (withinNorm s (largestNorm (keptFrom kept 0 (storeOf (now (nodes .entry)) count)))))) ⌝ }
 {
     let policy = s.policy;
     if !is_basic(policy) {
@@ -69,7 +70,7 @@ pub fn conclude(
     out: &mut [u8],
     s: &[u8],
     settings: Settings,
-    ports: &[usize; 160],
+    ports: &[usize; 192],
     outs: usize,
     nodes: &[u8; 25536],
     count: usize,

@@ -23,7 +23,7 @@ fn mark_output(wire: usize, live: &mut [u16; 672])
 }
 
 // Those of all outputs.
-fn mark_outputs(ports: &[usize; 160], outs: usize, live: &mut [u16; 672])
+fn mark_outputs(ports: &[usize; 192], outs: usize, live: &mut [u16; 672])
     requires { ⌜ GoodPorts (now ports) 672 outs × (length (now live) ≡ 672) ⌝ }
     ensures { λ _. ⌜ ((text : List ℕ) → Marking (adding (outputNeeds (outputsIn text (now (ports .entry)) outs))) (now (live .entry)) (now (live .exit))) ⌝ }
 {
@@ -38,7 +38,7 @@ fn mark_outputs(ports: &[usize; 160], outs: usize, live: &mut [u16; 672])
 pub fn keep(
     nodes: &[u8; 25536],
     count: usize,
-    ports: &[usize; 160],
+    ports: &[usize; 192],
     outs: usize,
     live: &mut [u16; 672],
 )

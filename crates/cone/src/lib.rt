@@ -1,15 +1,19 @@
 // Cones: sources, a coefficient each, a bit for each assignment (first source the highest bit). A cone alone: its values, its order, a gate of one
-// input behind it, and whether it may be bootstrapped. It leans on `linear`, `scale` and `rotation`.
+// input behind it, and whether it may be bootstrapped. It leans on `linear`, `scale`, `rotation` and the store's records (`nodes`).
 pub mod order;
 pub mod table;
 pub mod unary;
 pub mod valid;
+pub mod weights;
 
 ghost use mathlib.Core.Path.{_≡_};
-ghost use Prim.Native.Nat.{_≤_, _<_};
+ghost use Prim.Native.Nat.{ℕ, _≤_, _<_};
 ghost use Rattle.rules.specs.Cone as rules;
 ghost use Rattle.rules.specs.Span.{least};
+ghost use Rattle.nodes.specs.View.{storeOf};
 ghost use Rattle.cone.specs.View.{coneOf, IsCone, constantOf};
+ghost use Rattle.cone.specs.Sources.{Below, AreNodes};
+use crate::weights::weights_of;
 use linear::linear_least;
 use linear::linear_span;
 
@@ -93,13 +97,15 @@ impl Cone {
         linear_span(&coefs[..n])
     }
 
-    // The squared coefficients added.
-    pub fn norm2(self) -> u64
-        requires { ⌜ IsCone self ⌝ }
-        ensures { λ r. ⌜ r ≡ rules.norm2 (coneOf self) ⌝ }
+    // Each squared coefficient times its source's weight, added.
+    pub fn norm2(self, nodes: &[u8; 25536]) -> u64
+        requires { ⌜ IsCone self × AreNodes (now nodes) (coneOf self .support) ⌝ }
+        ensures { λ r. ⌜ ((count : ℕ) → Below count (coneOf self) → r ≡ rules.norm2 (storeOf (now (nodes .entry)) count) (coneOf self)) ⌝ }
     {
+        let support = self.support;
         let coefs = self.coefs;
         let n = self.n;
-        scale::coefficients_norm2(&coefs[..n])
+        let weights = weights_of(nodes, &support[..n]);
+        scale::coefficients_norm2(&coefs[..n], &weights)
     }
 }

@@ -2,10 +2,13 @@
 use crate::Cone;
 ghost use mathlib.Core.Path.{_≡_};
 ghost use mathlib.Core.List.{List};
+ghost use Prim.Native.Nat.{ℕ};
 ghost use Rattle.rules.specs.Network.{LutNode};
 ghost use Rattle.rules.specs.Cone.{less, coneOrderKey};
 ghost use Rattle.rules.specs.Mapper.{switchInputs};
+ghost use Rattle.nodes.specs.View.{storeOf};
 ghost use Rattle.cone.specs.View.{coneOf, IsCone};
+ghost use Rattle.cone.specs.Sources.{Below, AreNodes};
 ghost use Rattle.cone.specs.Order.{keyOf, sidesOf};
 
 // Span, then norm.
@@ -14,13 +17,13 @@ pub struct OrderKey {
     pub norm: u64,
 }
 
-pub fn cone_order_key(cone: Cone) -> OrderKey
-    requires { ⌜ IsCone cone ⌝ }
-    ensures { λ r. ⌜ keyOf r ≡ coneOrderKey (coneOf cone) ⌝ }
+pub fn cone_order_key(nodes: &[u8; 25536], cone: Cone) -> OrderKey
+    requires { ⌜ IsCone cone × AreNodes (now nodes) (coneOf cone .support) ⌝ }
+    ensures { λ r. ⌜ ((count : ℕ) → Below count (coneOf cone) → keyOf r ≡ coneOrderKey (storeOf (now (nodes .entry)) count) (coneOf cone)) ⌝ }
 {
     OrderKey {
         span: cone.span(),
-        norm: cone.norm2(),
+        norm: cone.norm2(nodes),
     }
 }
 

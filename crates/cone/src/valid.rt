@@ -3,9 +3,12 @@ use crate::Cone;
 use rules::Limit;
 use rules::Settings;
 ghost use mathlib.Core.Path.{_≡_};
+ghost use Prim.Native.Nat.{ℕ};
 ghost use Rattle.rules.specs.NetworkText.{over as overLimit};
 ghost use Rattle.rules.specs.Cone.{isLutValid, validateCone};
+ghost use Rattle.nodes.specs.View.{storeOf};
 ghost use Rattle.cone.specs.View.{coneOf, IsCone};
+ghost use Rattle.cone.specs.Sources.{Below, AreNodes};
 ghost use Rattle.cone.specs.Valid.{validityOf};
 
 // What validate_cone finds.
@@ -41,15 +44,15 @@ pub fn is_lut_valid(s: Settings, cone: Cone) -> bool
 }
 
 // validate_cone
-pub fn validate_cone(s: Settings, cone: Cone) -> Validity
-    requires { ⌜ IsCone cone ⌝ }
-    ensures { λ r. ⌜ validityOf (coneOf cone) r ≡ validateCone s (coneOf cone) ⌝ }
+pub fn validate_cone(s: Settings, nodes: &[u8; 25536], cone: Cone) -> Validity
+    requires { ⌜ IsCone cone × AreNodes (now nodes) (coneOf cone .support) ⌝ }
+    ensures { λ r. ⌜ ((count : ℕ) → Below count (coneOf cone) → validityOf (coneOf cone) r ≡ validateCone s (storeOf (now (nodes .entry)) count) (coneOf cone)) ⌝ }
 {
     if !is_lut_valid(s, cone) {
         return Validity::Invalid;
     }
     let limit = s.norm;
-    if is_over(limit, cone.norm2()) {
+    if is_over(limit, cone.norm2(nodes)) {
         return Validity::OverNorm;
     }
     Validity::Valid

@@ -5,40 +5,51 @@ use mathlib.Core.Option.{Option, none, some}
 use Prim.Native.Nat.{ℕ, _-_}
 use native.Mathlib.Omega.{arith}
 use lib.ListN.{length, take, drop}
-use Rattle.rules.specs.Circuit.{Name, Output}
+use Rattle.rules.specs.Circuit.{Name, Given, Output}
 use Rattle.rules.specs.declared.Wire.{Wire}
-use Rattle.rules.specs.Form.{Piece, name, inLine, outLine}
-use Rattle.forms.specs.declared.NameRead.{NameRead}
+use Rattle.rules.specs.Form.{Piece, inLine, outLine}
+use Rattle.forms.specs.declared.InRead.{InRead}
 use Rattle.forms.specs.declared.OutRead.{OutRead}
 use Rattle.text.specs.Capped.{capped, capped-none}
 use Rattle.text.specs.Name.{Named}
 use Rattle.text.specs.Reads.{Reads}
+use Rattle.theorems.specs.Weights.{GoodWeight}
+use Rattle.forms.specs.Weight.{one-good}
 use Rattle.forms.specs.Wire.{capWire}
 
--- ---- `(in NAME)`
+-- ---- `(in NAME)` and `(in NAME W)`
 
-abbrev pub nameFrom : NameRead → ℕ
-nameFrom (NameRead.At a b e) = a
-nameFrom NameRead.Nothing = 0
+abbrev pub inFrom : InRead → ℕ
+inFrom (InRead.At a b w e) = a
+inFrom InRead.Nothing = 0
 
-abbrev pub nameTo : NameRead → ℕ
-nameTo (NameRead.At a b e) = b
-nameTo NameRead.Nothing = 0
+abbrev pub inTo : InRead → ℕ
+inTo (InRead.At a b w e) = b
+inTo InRead.Nothing = 0
 
-abbrev pub nameEnd : NameRead → ℕ
-nameEnd (NameRead.At a b e) = e
-nameEnd NameRead.Nothing = 0
+abbrev pub inWeight : InRead → ℕ
+inWeight (InRead.At a b w e) = w
+inWeight InRead.Nothing = 1
 
-abbrev pub nameTaken : List ℕ → NameRead → Option (Piece Name)
-nameTaken s (NameRead.At a b e) = some (record { value = take (b - a) (drop a s); rest = drop e s })
-nameTaken s NameRead.Nothing = none
+abbrev pub inEnd : InRead → ℕ
+inEnd (InRead.At a b w e) = e
+inEnd InRead.Nothing = 0
 
-pub record ReadsIn (s : List ℕ) (at : ℕ) (r : NameRead) : Type 0 where
-  pub reads : Reads (length s) (nameTaken s r) (nameEnd r) (inLine (drop at s))
-  pub named : Named (length s) (nameFrom r) (nameTo r)
+-- An input whose name stands in s from a up to b.
+abbrev pub givenAt : List ℕ → ℕ → ℕ → ℕ → Given
+givenAt s a b w = record { name = take (b - a) (drop a s); weight = w }
 
-pub in-none : (s : List ℕ) (at : ℕ) → inLine (drop at s) ≡ none → ReadsIn s at NameRead.Nothing
-in-none s at e = record { reads = record { same = sym e; inside = omega arith }; named = omega arith }
+abbrev pub inTaken : List ℕ → InRead → Option (Piece Given)
+inTaken s (InRead.At a b w e) = some (record { value = givenAt s a b w; rest = drop e s })
+inTaken s InRead.Nothing = none
+
+pub record ReadsIn (s : List ℕ) (at : ℕ) (r : InRead) : Type 0 where
+  pub reads : Reads (length s) (inTaken s r) (inEnd r) (inLine (drop at s))
+  pub named : Named (length s) (inFrom r) (inTo r)
+  pub weighed : GoodWeight (inWeight r)
+
+pub in-none : (s : List ℕ) (at : ℕ) → inLine (drop at s) ≡ none → ReadsIn s at InRead.Nothing
+in-none s at e = record { reads = record { same = sym e; inside = omega arith }; named = omega arith; weighed = one-good }
 
 -- ---- `(out NAME WIRE)`
 
@@ -75,3 +86,7 @@ out-none s at e = record { reads = record { same = capped-none capOutput e; insi
 -- Where the name stands, once the answer is taken apart.
 pub named-at : {R : Type 0} (from to : R → ℕ) {n : ℕ} {r q : R} → Named n (from r) (to r) → r ≡ q → Named n (from q) (to q)
 named-at from to {n} h k = subst (λ x. Named n (from x) (to x)) k h
+
+-- The weight, once the answer is taken apart.
+pub weighed-at : {r q : InRead} → GoodWeight (inWeight r) → r ≡ q → GoodWeight (inWeight q)
+weighed-at h k = subst (λ x. GoodWeight (inWeight x)) k h

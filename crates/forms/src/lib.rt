@@ -1,4 +1,4 @@
-// What both texts are made of, from pieces: wires, norm limits, numbers with a sign, and the lines `(in NAME)` and `(out NAME WIRE)`.
+// What both texts are made of, from pieces: wires, norm limits, numbers with a sign, weights, and the lines `(in NAME)`, `(in NAME W)` and `(out NAME WIRE)`.
 // It leans on the pieces (`text`) and on no other code.
 ghost use mathlib.Core.Path.{_≡_};
 ghost use Prim.Native.Nat.{_≤_};
@@ -10,6 +10,7 @@ ghost use Rattle.text.specs.Reads.{Reads};
 ghost use Rattle.forms.specs.Forms.{ReadsIn, ReadsOut};
 ghost use Rattle.forms.specs.Limit.{limitTaken, limitEnd};
 ghost use Rattle.forms.specs.Signed.{capSigned, signedTaken, signedEnd, negative};
+ghost use Rattle.forms.specs.Weight.{ReadsWeight};
 ghost use Rattle.forms.specs.Wire.{capWire, wireTaken, wireEnd, nodeWire};
 use rules::Limit;
 use rules::Wire;
@@ -126,27 +127,58 @@ pub fn read_signed(s: &[u8], at: usize) -> Signed
     Signed::At(v as i64, e)
 }
 
-// A line's name, from its start to its end, and where the line ends.
-pub enum NameRead {
-    At(usize, usize, usize),
+// The weight behind an input's name, and where it ends.
+struct Weight {
+    value: u8,
+    end: usize,
+}
+
+// A blank and a number from 2 to 64, from `at` on; for anything else nothing is read, and the weight is 1.
+fn read_weight(s: &[u8], at: usize) -> Weight
+    requires { ⌜ at ≤ length (now s) ⌝ }
+    ensures { λ r. ⌜ ReadsWeight (now (s .entry)) at r ⌝ }
+{
+    let plain = Weight { value: 1, end: at };
+    let Found::At(a) = read_word(s, at, b" ") else {
+        return plain;
+    };
+    let Number::At(v, e) = read_number(s, a) else {
+        return plain;
+    };
+    if v < 2 {
+        return plain;
+    }
+    if 64 < v {
+        return plain;
+    }
+    Weight {
+        value: v as u8,
+        end: e,
+    }
+}
+
+// An input's name, from its start to its end, its weight, and where the line ends.
+pub enum InRead {
+    At(usize, usize, u8, usize),
     Nothing,
 }
 
-// `(in NAME)`, from `at` on.
-pub fn read_in(s: &[u8], at: usize) -> NameRead
+// `(in NAME)` or `(in NAME W)`, from `at` on.
+pub fn read_in(s: &[u8], at: usize) -> InRead
     requires { ⌜ at ≤ length (now s) ⌝ }
     ensures { λ r. ⌜ ReadsIn (now (s .entry)) at r ⌝ }
 {
     let Found::At(a) = read_word(s, at, b"(in ") else {
-        return NameRead::Nothing;
+        return InRead::Nothing;
     };
     let Found::At(b) = read_name(s, a) else {
-        return NameRead::Nothing;
+        return InRead::Nothing;
     };
-    let Found::At(e) = read_word(s, b, b")\n") else {
-        return NameRead::Nothing;
+    let w = read_weight(s, b);
+    let Found::At(e) = read_word(s, w.end, b")\n") else {
+        return InRead::Nothing;
     };
-    NameRead::At(a, b, e)
+    InRead::At(a, b, w.value, e)
 }
 
 // A line's name, from its start to its end, its wire, and where the line ends.

@@ -23,7 +23,8 @@ use Rattle.cone.specs.View.{coneOf, IsCone, view-sources}
 use Rattle.nodes.specs.View.{storeOf, IsStore}
 use Rattle.bootstrap.specs.declared.boot.Booted.{Booted}
 use Rattle.gate.specs.declared.map.Limited.{Limited}
-use Rattle.bootstrap.specs.View.{Stands, Boots, bootedOf, StandsBooted}
+use Rattle.cone.specs.Sources.{Stands}
+use Rattle.bootstrap.specs.View.{Boots, bootedOf, StandsBooted}
 use Rattle.gate.specs.View.{StandsBoth, limitedOf}
 
 -- ---- Room: a bootstrap may add a sum and a table; a cone of no source or one source stays as it was.

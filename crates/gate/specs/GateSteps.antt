@@ -1,9 +1,8 @@
 -- A binary gate's definition, by the cases of each step.
-use mathlib.Core.Path.{_≡_, refl, sym, ap, subst, _∙_}
+use mathlib.Core.Path.{_≡_, refl, sym, ap, _∙_}
 use mathlib.Core.Bool.{Bool, true, false}
 use mathlib.Core.List.{List, [], _∷_}
 use Prim.Native.Nat.{ℕ, zero, suc, _+_, _*_, _≤_, _<_}
-use native.Mathlib.Nat.{not-suc-le-zero}
 use native.Mathlib.Numerals.{add-one}
 use native.Mathlib.Omega.{arith}
 use borrow.Author.Tests.{eq-eqb, ne-eqb}
@@ -27,7 +26,8 @@ use Rattle.nodes.specs.View.{storeOf, IsStore}
 use Rattle.gate.specs.declared.map.Limited.{Limited}
 use Rattle.gate.specs.declared.map.Mapped.{Mapped}
 use Rattle.attempt.specs.declared.Tried.{Tried}
-use Rattle.bootstrap.specs.View.{Below, Stands, Grown}
+use Rattle.cone.specs.Sources.{Stands, below-same}
+use Rattle.bootstrap.specs.View.{Grown}
 use Rattle.gate.specs.View.{StandsBoth, Maps, limitedOf, mappedOf}
 use Rattle.attempt.specs.Tried.{triedOf}
 use Rattle.gate.specs.Gate.{room, roomOf, roomOf-most, Ready, Steps, Same}
@@ -178,16 +178,16 @@ module _ (left right : Cone) (gate : List ℕ) where
   abbrev pub unswitched : Sides
   unswitched = record { left = record { cone = left; new = false }; right = record { cone = right; new = false }; gate = gate; switched = false }
 
-  pub sides-switched : (v : Sides) → C.less (C.coneOrderKey (coneOf left)) (C.coneOrderKey (coneOf right)) ≡ true
-      → ((nodes : List LutNode) → sidesOf nodes v ≡ M.switchInputs (sidesOf nodes unswitched))
-      → (nodes : List LutNode) → sidesOf nodes v ≡ M.largerFirst (M.sides nodes (coneOf left) (coneOf right) gate)
-  unfolding M.largerFirst M.sides sidesOf sideOf
-  sides-switched v t e nodes = rw t (e nodes)
+  module _ (nodes : List LutNode) where
+    pub sides-switched : (v : Sides) → C.less (C.coneOrderKey nodes (coneOf left)) (C.coneOrderKey nodes (coneOf right)) ≡ true
+        → sidesOf nodes v ≡ M.switchInputs (sidesOf nodes unswitched) → sidesOf nodes v ≡ M.largerFirst (M.sides nodes (coneOf left) (coneOf right) gate)
+    unfolding M.largerFirst M.sides sidesOf sideOf
+    sides-switched v t e = rw t e
 
-  pub sides-kept : C.less (C.coneOrderKey (coneOf left)) (C.coneOrderKey (coneOf right)) ≡ false
-      → (nodes : List LutNode) → sidesOf nodes unswitched ≡ M.largerFirst (M.sides nodes (coneOf left) (coneOf right) gate)
-  unfolding M.largerFirst M.sides sidesOf sideOf
-  sides-kept t nodes = rw t
+    pub sides-kept : C.less (C.coneOrderKey nodes (coneOf left)) (C.coneOrderKey nodes (coneOf right)) ≡ false
+        → sidesOf nodes unswitched ≡ M.largerFirst (M.sides nodes (coneOf left) (coneOf right) gate)
+    unfolding M.largerFirst M.sides sidesOf sideOf
+    sides-kept t = rw t
 
   pub same-switched : (v : Sides) → ((nodes : List LutNode) → sidesOf nodes v ≡ M.switchInputs (sidesOf nodes unswitched)) → (v .left ≡ unswitched .right) × (v .right ≡ unswitched .left)
       → Same left right gate v
@@ -245,9 +245,9 @@ module _ (s : Settings) (nodes : List LutNode) (c d : C.Cone) (gate : List ℕ) 
       t : allEqual (d .truth) ≡ true → allEqual (throughGate c gate .truth) ≡ true
       t e = ap (λ x. allEqual (x .truth)) (sym is) ∙ e
 
-  pub unary-judged : (r : Result C.Cone) → allEqual (d .truth) ≡ false → r ≡ C.validateCone s d → (r >>= M.unchanged nodes) ≡ M.mapUnaryGate s nodes c gate
+  pub unary-judged : (r : Result C.Cone) → allEqual (d .truth) ≡ false → r ≡ C.validateCone s nodes d → (r >>= M.unchanged nodes) ≡ M.mapUnaryGate s nodes c gate
   unfolding M.mapUnaryGate throughGate
-  unary-judged r e q = ap (λ x. x >>= M.unchanged nodes) (q ∙ ap (C.validateCone s) is) ∙ rw (t e)
+  unary-judged r e q = ap (λ x. x >>= M.unchanged nodes) (q ∙ ap (C.validateCone s nodes) is) ∙ rw (t e)
     where
       t : allEqual (d .truth) ≡ false → allEqual (throughGate c gate .truth) ≡ false
       t e = ap (λ x. allEqual (x .truth)) (sym is) ∙ e
@@ -255,11 +255,7 @@ module _ (s : Settings) (nodes : List LutNode) (c d : C.Cone) (gate : List ℕ) 
 pub through-stands : (count : ℕ) (c d : Cone) (gate : List ℕ) → IsCone d → coneOf d ≡ throughGate (coneOf c) gate → Stands count c → Stands count d
 unfolding throughGate
 through-stands count c d gate is e st =
-    record { cone = is; below = subst (λ x. Below count x) (sym e) (record { at = st .below .at }) }
-
-pub constant-stands : (count : ℕ) (d : Cone) (bit : ℕ) → IsCone d → coneOf d ≡ C.constant bit → Stands count d
-unfolding C.constant
-constant-stands count d bit is e = record { cone = is; below = subst (λ x. Below count x) (sym e) (record { at = λ i h. absurd (not-suc-le-zero h) }) }
+    record { cone = is; below = below-same count (coneOf d) (coneOf c) (ap (λ (x : C.Cone). x .support) e) (st .below) }
 
 pub first-ready : (bytes : List ℕ) (count : ℕ) (left right : Cone) (gate : List ℕ) (w : Sides) → Same left right gate w → IsStore bytes count → count + 4 ≤ 672 → Stands count left
     → Stands count right → allBits gate ≡ true → Ready bytes count w

@@ -11,7 +11,8 @@ use Rattle.cone.specs.declared.order.Sides.{Sides}
 use Rattle.cone.specs.View.{coneOf}
 use Rattle.cone.specs.Order.{sideOf, sidesOf}
 use Rattle.nodes.specs.View.{storeOf}
-use Rattle.bootstrap.specs.View.{Stands, Grown}
+use Rattle.cone.specs.Sources.{Stands}
+use Rattle.bootstrap.specs.View.{Grown}
 use Rattle.gate.specs.declared.map.Limited.{Limited}
 use Rattle.gate.specs.declared.map.Mapped.{Mapped}
 

@@ -27,7 +27,8 @@ ghost use Rattle.rules.specs.Mapper.{Mapped as Gives};
 ghost use Rattle.cone.specs.View.{coneOf};
 ghost use Rattle.cone.specs.Order.{sidesOf};
 ghost use Rattle.nodes.specs.View.{storeOf, IsStore};
-ghost use Rattle.bootstrap.specs.View.{Stands, Grown};
+ghost use Rattle.cone.specs.Sources.{Stands};
+ghost use Rattle.bootstrap.specs.View.{Grown};
 ghost use Rattle.gate.specs.View.{StandsBoth, Maps, mappedOf};
 ghost use Rattle.attempt.specs.Tried.{triedOf};
 ghost use Rattle.gate.specs.Gate.{roomOf, Ready};
@@ -86,16 +87,23 @@ fn refused(number: usize, c: Cone) -> Mapped
 }
 
 // map_unary_gate
-pub fn map_unary(s: Settings, count: usize, c: Cone, zero: u8, one: u8) -> Mapped
-    requires { ⌜ (inLimits s ≡ true) × (Stands count c × ((zero ≤ 1) × (one ≤ 1))) ⌝ }
-    ensures is { λ r. ⌜ ((bytes : List ℕ) → mappedOf bytes r ≡ mapUnaryGate s (storeOf bytes count) (coneOf c) (zero ∷ one ∷ [])) ⌝ }
-    ensures stands { λ r. ⌜ ((bytes : List ℕ) → IsStore bytes count → Maps count 4 bytes r) ⌝ }
+pub fn map_unary(
+    s: Settings,
+    nodes: &[u8; 25536],
+    count: usize,
+    c: Cone,
+    zero: u8,
+    one: u8,
+) -> Mapped
+    requires { ⌜ (inLimits s ≡ true) × (IsStore (now nodes) count × (Stands count c × ((zero ≤ 1) × (one ≤ 1)))) ⌝ }
+    ensures is { λ r. ⌜ mappedOf (now (nodes .entry)) r ≡ mapUnaryGate s (storeOf (now (nodes .entry)) count) (coneOf c) (zero ∷ one ∷ []) ⌝ }
+    ensures stands { λ r. ⌜ Maps count 4 (now (nodes .entry)) r ⌝ }
 {
     let d = apply_unary(c, zero, one);
     if all_equal(d) {
         return unchanged(count, Cone::constant(first_truth(d)));
     }
-    let v = validate_cone(s, d);
+    let v = validate_cone(s, nodes, d);
     match v {
         Validity::Valid => unchanged(count, d),
         Validity::OverNorm => refused(8, d),
@@ -200,7 +208,7 @@ pub fn map_binary(
     ensures is { λ r. ⌜ mappedOf (now (nodes .exit)) r ≡ mapBinaryGate s (storeOf (now (nodes .entry)) count) (coneOf left) (coneOf right) gate ⌝ }
     ensures stands { λ r. ⌜ Maps count 4 (now (nodes .exit)) r ⌝ }
 {
-    let w = sides_of(left, right, gate);
+    let w = sides_of(nodes, left, right, gate);
     let b = limit_sources(s, nodes, count, w);
     if b.number != 0 {
         return refused(b.number, left);
@@ -229,12 +237,12 @@ pub fn map_two(
     let l = left.constant_value();
     if let Constant::Bit(v) = l {
         let at = 2 * (v as usize);
-        return map_unary(s, count, right, gate[at], gate[at + 1]);
+        return map_unary(s, nodes, count, right, gate[at], gate[at + 1]);
     }
     let r = right.constant_value();
     if let Constant::Bit(v) = r {
         let at = v as usize;
-        return map_unary(s, count, left, gate[at], gate[2 + at]);
+        return map_unary(s, nodes, count, left, gate[at], gate[2 + at]);
     }
     map_binary(s, nodes, count, left, right, gate)
 }

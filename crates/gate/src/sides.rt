@@ -13,7 +13,7 @@ use support::union_support_size;
 ghost use mathlib.Core.Path.{_≡_};
 ghost use mathlib.Core.Bool.{true};
 ghost use mathlib.Core.List.{List};
-ghost use Prim.Native.Nat.{_+_, _≤_};
+ghost use Prim.Native.Nat.{ℕ, _+_, _≤_};
 ghost use lib.ListN.{length};
 ghost use Rattle.rules.specs.CircuitText.{inLimits};
 ghost use Rattle.rules.specs.Composition.{unionSupport};
@@ -23,14 +23,15 @@ ghost use Rattle.rules.specs.Mapper.{sides, largerFirst, overLimit as isOver, b
 ghost use Rattle.cone.specs.View.{coneOf, IsCone};
 ghost use Rattle.cone.specs.Order.{sidesOf};
 ghost use Rattle.nodes.specs.View.{storeOf, IsStore};
-ghost use Rattle.bootstrap.specs.View.{Stands, bootedOf};
+ghost use Rattle.cone.specs.Sources.{Below, Stands, AreNodes};
+ghost use Rattle.bootstrap.specs.View.{bootedOf};
 ghost use Rattle.gate.specs.View.{limitedOf};
 ghost use Rattle.gate.specs.Gate.{room, Spends, Ready, Steps, Same};
 
 // Both sides of a gate, the larger one left.
-pub fn sides_of(left: Cone, right: Cone, gate: [u8; 4]) -> Sides
-    requires { ⌜ IsCone left × IsCone right ⌝ }
-    ensures is { λ r. ⌜ ((nodes : List LutNode) → sidesOf nodes r ≡ largerFirst (sides nodes (coneOf left) (coneOf right) gate)) ⌝ }
+pub fn sides_of(nodes: &[u8; 25536], left: Cone, right: Cone, gate: [u8; 4]) -> Sides
+    requires { ⌜ (IsCone left × AreNodes (now nodes) (coneOf left .support)) × (IsCone right × AreNodes (now nodes) (coneOf right .support)) ⌝ }
+    ensures is { λ r. ⌜ ((count : ℕ) → Below count (coneOf left) → Below count (coneOf right) → sidesOf (storeOf (now (nodes .entry)) count) r ≡ largerFirst (sides (storeOf (now (nodes .entry)) count) (coneOf left) (coneOf right) gate)) ⌝ }
     ensures same { λ r. ⌜ Same left right gate r ⌝ }
 {
     let l = Side {
@@ -47,7 +48,7 @@ pub fn sides_of(left: Cone, right: Cone, gate: [u8; 4]) -> Sides
         gate,
         switched: false,
     };
-    if is_less(cone_order_key(left), cone_order_key(right)) {
+    if is_less(cone_order_key(nodes, left), cone_order_key(nodes, right)) {
         return switch_inputs(s);
     }
     s

@@ -33,7 +33,8 @@ use Rattle.nodes.specs.View.{storeOf, IsStore}
 use Rattle.bootstrap.specs.declared.boot.Booted.{Booted}
 use Rattle.gate.specs.declared.map.Mapped.{Mapped}
 use Rattle.gates.specs.declared.Work.{Work}
-use Rattle.bootstrap.specs.View.{Stands, bootedOf, Boots}
+use Rattle.cone.specs.Sources.{Stands}
+use Rattle.bootstrap.specs.View.{bootedOf, Boots}
 use Rattle.gate.specs.View.{mappedOf, Maps}
 use Rattle.gates.specs.View.{conesIn}
 use Rattle.gates.specs.Wired.{Wired, SlotIn, Settled, stateOf, slot-cone, slot-constant, cones-length, cones-own, renewed-cones, renewed-wired, wired-more, wired-put, stands-more}

@@ -13,21 +13,23 @@ use Rattle.rules.specs.Cone as C
 use Rattle.rules.specs.Cone.{constant, identity}
 use Rattle.rules.specs.Mapper.{State}
 use Rattle.rules.specs.Network.{Input}
-use Rattle.circuit.specs.View.{nameAt, inputName, inputNames}
+use Rattle.theorems.specs.Weights.{GoodWeight}
+use Rattle.circuit.specs.View.{nameAt, inputName, inputIn, inputsIn}
 use Rattle.circuit.specs.Fits.{NameFits}
 use Rattle.cone.specs.declared.Cone.{Cone}
 use Rattle.cone.specs.View.{coneOf, IsCone}
 use Rattle.cone_wires.specs.Wires.{coneIn, IsPut}
-use Rattle.nodes.specs.View.{storeOf, IsStore}
-use Rattle.bootstrap.specs.View.{Below, Stands}
+use Rattle.nodes.specs.View.{given, storeOf, IsStore}
+use Rattle.cone.specs.Sources.{Stands, constant-stands, identity-stands}
 use Rattle.gates.specs.View.{conesIn}
 use Rattle.gates.specs.Wired.{SlotIn, Wired, stateOf, wired-more, wired-put, cones-own, ConstantsIn}
 
--- The names of the inputs stand in the text.
+-- The names of the inputs stand in the text, and their weights are from 1 to 64.
 pub record Inputs (s ps : List ℕ) (n : ℕ) : Type 0 where
-  pub long : length ps ≡ 160
+  pub long : length ps ≡ 192
   pub few : n ≤ 32
   pub name : (i : ℕ) → i < n → NameFits s ps (2 * i)
+  pub weight : (i : ℕ) → i < n → GoodWeight (getD ps (160 + i) 0)
 
 -- The slots of the constants hold their cones.
 pub record Constants (wires : List ℕ) : Type 0 where
@@ -38,7 +40,7 @@ pub record Constants (wires : List ℕ) : Type 0 where
 -- The first n inputs are the first nodes, and each is its own cone.
 pub record Started (s ps : List ℕ) (n : ℕ) (nodes wires : List ℕ) : Type 0 where
   pub wired : Wired nodes n wires n
-  pub state : stateOf nodes n wires n ≡ record { nodes = map Input (inputNames s ps n); cones = tabulate n identity }
+  pub state : stateOf nodes n wires n ≡ record { nodes = map Input (inputsIn s ps n); cones = tabulate n identity }
 
 -- ---- laws: the constants
 
@@ -56,14 +58,10 @@ module _ (wires between after : List ℕ) (off on : Cone) (p : IsPut wires 128 o
   pub constants-put : length wires ≡ 8580 → coneOf off ≡ constant 0 → coneOf on ≡ constant 1 → Constants after
   constants-put long e f = record { long = q .long ∙ p .long ∙ long; is = constant-is; seen = constant-seen e f }
 
-constant-stands : (wires : List ℕ) (b : ℕ) → Constants wires → b ≤ 1 → Stands 0 (coneIn wires (128 + b))
-unfolding constant
-constant-stands wires b c h = record { cone = c .is b h; below = subst (Below 0) (sym (c .seen b h)) (record { at = λ i l. absurd (not-suc-le-zero l) }) }
-
 -- ---- laws: the inputs
 
 pub started-none : (s ps nodes wires : List ℕ) → length nodes ≡ 25536 → Constants wires → Started s ps 0 nodes wires
-unfolding stateOf storeOf conesIn inputNames tabulate
+unfolding stateOf storeOf conesIn inputsIn tabulate
 started-none s ps nodes wires long c =
     record {
       wired =
@@ -78,18 +76,10 @@ started-none s ps nodes wires long c =
   where
     at : (i : ℕ) → SlotIn 0 i → Stands 0 (coneIn wires i)
     at i (inl h) = absurd (not-suc-le-zero h)
-    at i (inr h) = let e : 128 + (i - 128) ≡ i = omega arith in subst (λ k. Stands 0 (coneIn wires k)) e (constant-stands wires (i - 128) c (omega arith))
-
-identity-stands : (i : ℕ) (c : Cone) → IsCone c → coneOf c ≡ identity i → Stands (i + 1) c
-unfolding identity
-identity-stands i c is e = record { cone = is; below = subst (Below (i + 1)) (sym e) (record { at = at }) }
-  where
-    at : (k : ℕ) → k < 1 → getD (i ∷ []) k 0 < i + 1
-    at zero h = omega arith
-    at (suc k) h = absurd (omega arith)
+    at i (inr h) = let e : 128 + (i - 128) ≡ i = omega arith in subst (λ k. Stands 0 (coneIn wires k)) e (constant-stands 0 (coneIn wires (128 + (i - 128))) (i - 128) (c .is (i - 128) (omega arith)) (c .seen (i - 128) (omega arith)))
 
 pub inputs-first : (s ps : List ℕ) (m n : ℕ) → Inputs s ps n → m ≤ n → Inputs s ps m
-inputs-first s ps m n h l = let few = h .few in record { long = h .long; few = omega arith; name = λ i k. h .name i (omega arith) }
+inputs-first s ps m n h l = let few = h .few in record { long = h .long; few = omega arith; name = λ i k. h .name i (omega arith); weight = λ i k. h .weight i (omega arith) }
 
 pub name-few : (s ps : List ℕ) (j : ℕ) → NameFits s ps j → length (nameAt s ps j) ≤ 16
 unfolding nameAt
@@ -99,15 +89,15 @@ module _ (s ps nodes wires : List ℕ) (i : ℕ) (h : Started s ps i nodes wires
     (store slots : List ℕ) (c : Cone) (is : IsStore store (i + 1)) (put : IsPut wires i c slots) (cone : IsCone c) (own : coneOf c ≡ identity i) where
   next-wired : Wired store (i + 1) slots (i + 1)
   next-wired =
-      wired-put wires i c slots put store (i + 1) i (i + 1) (wired-more nodes store i (i + 1) wires i (h .wired) is (omega arith)) (identity-stands i c cone own)
+      wired-put wires i c slots put store (i + 1) i (i + 1) (wired-more nodes store i (i + 1) wires i (h .wired) is (omega arith)) (identity-stands (i + 1) i c (omega arith) cone own)
       (omega arith) (omega arith) (λ j l e. lt-of-le-ne (omega arith) e)
 
-  next-nodes : storeOf store (i + 1) ≡ storeOf nodes i ++ (Input (nameAt s ps (2 * i)) ∷ []) → storeOf store (i + 1) ≡ map Input (inputNames s ps (i + 1))
-  unfolding stateOf inputNames inputName
+  next-nodes : storeOf store (i + 1) ≡ storeOf nodes i ++ (Input (given (nameAt s ps (2 * i)) (getD ps (160 + i) 0)) ∷ []) → storeOf store (i + 1) ≡ map Input (inputsIn s ps (i + 1))
+  unfolding stateOf inputsIn inputIn inputName
   next-nodes e =
-      e ∙ ap (λ l. l ++ (Input (nameAt s ps (2 * i)) ∷ [])) (ap (λ st. st .nodes) (h .state) ∙ map-tabulate Input i (inputName s ps))
-      ∙ sym (tabulate-snoc i (λ k. Input (inputName s ps k)))
-      ∙ sym (rw (add-one i) (map-tabulate Input (suc i) (inputName s ps)))
+      e ∙ ap (λ l. l ++ (Input (inputIn s ps i) ∷ [])) (ap (λ st. st .nodes) (h .state) ∙ map-tabulate Input i (inputIn s ps))
+      ∙ sym (tabulate-snoc i (λ k. Input (inputIn s ps k)))
+      ∙ sym (rw (add-one i) (map-tabulate Input (suc i) (inputIn s ps)))
 
   next-cones : conesIn slots (i + 1) ≡ tabulate (i + 1) identity
   unfolding stateOf
@@ -115,6 +105,6 @@ module _ (s ps nodes wires : List ℕ) (i : ℕ) (h : Started s ps i nodes wires
       cones-own wires i c slots put (omega arith) ∙ ap₂ {C = List C.Cone} (λ l x. l ++ (x ∷ [])) (ap (λ st. st .cones) (h .state)) own
       ∙ sym (rw (add-one i) (tabulate-snoc i identity))
 
-  pub started-next : storeOf store (i + 1) ≡ storeOf nodes i ++ (Input (nameAt s ps (2 * i)) ∷ []) → Started s ps (i + 1) store slots
+  pub started-next : storeOf store (i + 1) ≡ storeOf nodes i ++ (Input (given (nameAt s ps (2 * i)) (getD ps (160 + i) 0)) ∷ []) → Started s ps (i + 1) store slots
   unfolding stateOf
   started-next e = record { wired = next-wired; state = ap₂ {C = State} (λ ns cs. record { nodes = ns; cones = cs }) (next-nodes e) next-cones }

@@ -21,7 +21,7 @@ use Rattle.cone.specs.View.{coneOf}
 use Rattle.cone.specs.Order.{sideOf}
 use Rattle.cone_wires.specs.Wires.{coneIn, IsPut}
 use Rattle.nodes.specs.View.{storeOf, IsStore}
-use Rattle.bootstrap.specs.View.{Below, Stands}
+use Rattle.cone.specs.Sources.{Below, Stands}
 use Rattle.gates.specs.View.{wireCone, conesIn}
 use Rattle.circuit.specs.View.{wireIn, slotWire}
 

@@ -23,7 +23,8 @@ ghost use Rattle.rules.specs.CircuitText.{inLimits};
 ghost use Rattle.rules.specs.Mapper.{isBasic, usedSettings, isForced, mapGate, coneAt, atLine, mapNext, mapGates};
 ghost use Rattle.cone.specs.View.{coneOf, IsCone};
 ghost use Rattle.nodes.specs.View.{storeOf, IsStore};
-ghost use Rattle.bootstrap.specs.View.{Stands, Boots, bootedOf};
+ghost use Rattle.cone.specs.Sources.{Stands};
+ghost use Rattle.bootstrap.specs.View.{Boots, bootedOf};
 ghost use Rattle.gate.specs.View.{Maps, mappedOf};
 ghost use Rattle.gates.specs.View.{conesIn};
 ghost use Rattle.gates.specs.Wired.{Wired, Renewed, Settled, stateOf};
@@ -68,8 +69,8 @@ pub fn used(s: Settings) -> Settings
 }
 
 // An output names the node.
-fn is_output(ports: &[usize; 160], outs: usize, id: usize) -> bool
-    requires { ⌜ (length (now ports) ≡ 160) × ((outs ≤ 32) × (id < 1000)) ⌝ }
+fn is_output(ports: &[usize; 192], outs: usize, id: usize) -> bool
+    requires { ⌜ (length (now ports) ≡ 192) × ((outs ≤ 32) × (id < 1000)) ⌝ }
     ensures { λ r. ⌜ ((text : List ℕ) → r ≡ named id (outputsIn text (now (ports .entry)) outs)) ⌝ }
 {
     let mut i = 0;
@@ -83,8 +84,8 @@ fn is_output(ports: &[usize; 160], outs: usize, id: usize) -> bool
 }
 
 // Basic bootstraps every gate; with one table a sum, the gates that an output names are.
-fn is_forced(s: Settings, ports: &[usize; 160], outs: usize, id: usize) -> bool
-    requires { ⌜ (length (now ports) ≡ 160) × ((outs ≤ 32) × (id < 1000)) ⌝ }
+fn is_forced(s: Settings, ports: &[usize; 192], outs: usize, id: usize) -> bool
+    requires { ⌜ (length (now ports) ≡ 192) × ((outs ≤ 32) × (id < 1000)) ⌝ }
     ensures { λ r. ⌜ ((text : List ℕ) → r ≡ isForced s (outputsIn text (now (ports .entry)) outs) id) ⌝ }
 {
     let policy = s.policy;
@@ -142,7 +143,7 @@ fn map_gate(
     let r = slot_of(gates, 6 * i + 1);
     let left = cone_at(wires, l);
     if r == 255 {
-        return map_unary(s, count, left, gates[6 * i + 2], gates[6 * i + 3]);
+        return map_unary(s, nodes, count, left, gates[6 * i + 2], gates[6 * i + 3]);
     }
     let right = cone_at(wires, r);
     let gate = answers_of(gates, i);
@@ -267,12 +268,12 @@ pub fn map_gates(
     nodes: &mut [u8; 25536],
     wires: &mut [u8; 8580],
     gates: &[u8; 576],
-    ports: &[usize; 160],
+    ports: &[usize; 192],
     inputs: usize,
     n: usize,
     outs: usize,
 ) -> Work
-    requires { ⌜ (inLimits s ≡ true) × ((inputs ≤ 32) × (Wired (now nodes) inputs (now wires) inputs × (GoodGates (now gates) inputs n × ((length (now ports) ≡ 160) × (outs ≤ 32))))) ⌝ }
+    requires { ⌜ (inLimits s ≡ true) × ((inputs ≤ 32) × (Wired (now nodes) inputs (now wires) inputs × (GoodGates (now gates) inputs n × ((length (now ports) ≡ 192) × (outs ≤ 32))))) ⌝ }
     ensures is { λ r. ⌜ ((text : List ℕ) → stateRead (now (nodes .exit)) (now (wires .exit)) (inputs + n) r ≡ mapGates s (outputsIn text (now (ports .entry)) outs) (stateOf (now (nodes .entry)) inputs (now (wires .entry)) inputs) (gatesIn (now (gates .entry)) inputs n)) ⌝ }
     ensures works { λ r. ⌜ Works inputs (6 * n) (now (nodes .exit)) (now (wires .exit)) (inputs + n) r ⌝ }
 {

@@ -18,12 +18,12 @@ fn put_constants(wires: &mut [u8; 8580])
     put_cone(wires, 129, on);
 }
 
-// Input i: its name is node i, and slot i holds that node's cone.
+// Input i: its name and its weight are node i, and slot i holds that node's cone.
 fn put_next(
     s: &[u8],
     nodes: &mut [u8; 25536],
     wires: &mut [u8; 8580],
-    ports: &[usize; 160],
+    ports: &[usize; 192],
     i: usize,
 )
     requires { ⌜ Inputs (now s) (now ports) (i + 1) × Started (now s) (now ports) i (now nodes) (now wires) ⌝ }
@@ -31,7 +31,8 @@ fn put_next(
 {
     let from = ports[2 * i];
     let to = ports[2 * i + 1];
-    put_input(nodes, i, &s[from..to]);
+    let weight = ports[160 + i];
+    put_input(nodes, i, &s[from..to], weight);
     let own = Cone::identity(i);
     put_cone(wires, i, own);
 }
@@ -40,7 +41,7 @@ pub fn start(
     s: &[u8],
     nodes: &mut [u8; 25536],
     wires: &mut [u8; 8580],
-    ports: &[usize; 160],
+    ports: &[usize; 192],
     n: usize,
 )
     requires { ⌜ (length (now nodes) ≡ 25536) × ((length (now wires) ≡ 8580) × Inputs (now s) (now ports) n) ⌝ }

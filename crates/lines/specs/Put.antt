@@ -10,8 +10,9 @@ use lib.IntN.{ℤ, pos, negsuc, natAbs}
 use lib.Signed.{ltZ}
 use Rattle.laws.specs.Test.{zero≢one}
 use Rattle.laws.specs.Integer.{ltZ-true, plus, minus}
-use Rattle.rules.specs.Writing.{bitsText, digits, signedText}
+use Rattle.rules.specs.Writing.{bitsText, digits, signedText, weightText}
 use Rattle.theorems.specs.Decimals.{digits-one, digits-more}
+use Rattle.theorems.specs.Pieces.{one-unwritten, weight-written}
 use Rattle.laws.specs.Laid.{laid, laid-nil, laid-one, laid-behind, laid-append, laid-length}
 
 -- The bytes s from `at` on, as far as the buffer reaches; the next place is behind them.
@@ -27,6 +28,9 @@ put-lost at b out h = record { place = refl; bytes = sym (laid-behind at (b ∷ 
 
 pub put-length : {at next : ℕ} {s before after : List ℕ} → Put at s before next after → length after ≡ length before
 put-length {at} {next} {s} {before} {after} p = rw (p .bytes) (laid-length at s before)
+
+pub put-none : (at : ℕ) (out : List ℕ) → Put at [] out at out
+put-none at out = record { place = omega arith; bytes = sym (laid-nil at out) }
 
 -- two pieces in turn
 pub put-both : {at b c : ℕ} {s t d e f : List ℕ} → Put at s d b e → Put b t e c f → Put at (s ++ t) d c f
@@ -162,3 +166,18 @@ put-as e p = put-text (ap signedText (sym e)) p
 
 pub room-as : {at : ℕ} {w z : ℤ} → w ≡ z → natAbs z ≤ 31 → Room at (signedText z) → (natAbs w ≤ 31) × Room at (signedText w)
 room-as e h r = (rw e h, room-text (ap signedText (sym e)) r)
+
+-- ---- A weight.
+
+pub put-unwritten : {at w : ℕ} {out : List ℕ} → w ≡ 1 → Put at (weightText w) out at out
+put-unwritten {at} {w} {out} e = put-text (ap weightText e ∙ one-unwritten) (put-none at out)
+
+pub put-written : {at to next w : ℕ} {before out after : List ℕ} → (w ≡ 1 → ⊥) → Put at (32 ∷ []) before to out → Put to (digits w) out next after
+    → Put at (weightText w) before next after
+put-written {w = w} h p q = put-text (weight-written w h) (put-both p q)
+
+pub blank-room : {at w : ℕ} → (w ≡ 1 → ⊥) → Room at (weightText w) → Room at (32 ∷ [])
+blank-room {at} {w} h r = shorter (digits w) (room-text (weight-written w h) r)
+
+pub weight-room : {at to w : ℕ} {before out : List ℕ} → (w ≡ 1 → ⊥) → Room at (weightText w) → Put at (32 ∷ []) before to out → Room to (digits w)
+weight-room {w = w} h r p = room p (room-text (weight-written w h) r)

@@ -10,10 +10,10 @@ ghost use mathlib.Core.List.{[], _∷_, _++_};
 ghost use Prim.Native.Nat.{ℕ, _≤_};
 ghost use lib.IntN.{natAbs};
 ghost use lib.ListN.{getD};
-ghost use Rattle.rules.specs.Network.{Input, Bootstrap};
-ghost use Rattle.rules.specs.Writing.{digits, limitText, wireText, nodeText};
+ghost use Rattle.rules.specs.Network.{Bootstrap};
+ghost use Rattle.rules.specs.Writing.{digits, limitText, wireText, weightText, nodeText};
 ghost use Rattle.lines.specs.Put.{Put, Room};
-ghost use Rattle.lines.specs.Lines.{netText, termText, outText};
+ghost use Rattle.lines.specs.Lines.{netText, inText, termText, outText};
 
 // NORM
 fn put_norm(out: &mut [u8], at: usize, norm: Limit) -> usize
@@ -40,14 +40,27 @@ pub fn put_net(out: &mut [u8], at: usize, p: usize, m: usize, norm: Limit) -> us
     put_all(out, f, b")\n")
 }
 
-// `(in NAME)`
-pub fn put_in(out: &mut [u8], at: usize, name: &[u8]) -> usize
-    requires { ⌜ Room at (nodeText (Input (now name))) ⌝ }
-    ensures { λ r. ⌜ Put at (nodeText (Input (now (name .entry)))) (now (out .entry)) r (now (out .exit)) ⌝ }
+// A blank and W; 1 is not written.
+fn put_weight(out: &mut [u8], at: usize, weight: usize) -> usize
+    requires { ⌜ Room at (weightText weight) ⌝ }
+    ensures { λ r. ⌜ Put at (weightText weight) (now (out .entry)) r (now (out .exit)) ⌝ }
+{
+    if weight == 1 {
+        return at;
+    }
+    let to = put(out, at, b' ');
+    put_number(out, to, weight)
+}
+
+// `(in NAME)` or `(in NAME W)`
+pub fn put_in(out: &mut [u8], at: usize, name: &[u8], weight: usize) -> usize
+    requires { ⌜ Room at (inText (now name) weight) ⌝ }
+    ensures { λ r. ⌜ Put at (inText (now (name .entry)) weight) (now (out .entry)) r (now (out .exit)) ⌝ }
 {
     let a = put_all(out, at, b"(in ");
     let b = put_all(out, a, name);
-    put_all(out, b, b")\n")
+    let c = put_weight(out, b, weight);
+    put_all(out, c, b")\n")
 }
 
 // ` (COEF ID)`

@@ -20,8 +20,7 @@ use Rattle.rules.specs.Network.{Term, LutNode, Input, Linear, Bootstrap, member
 use Rattle.rules.specs.NetworkText.{sources}
 use Rattle.rules.specs.Store.{needs, termsOf, coefficientOf, sameSources}
 use Rattle.lut.specs.declared.forms.Aligned.{Aligned}
-use Rattle.nodes.specs.Nodes.{kindOf, sources-at}
-use Rattle.theorems.specs.Terms.{sources-length}
+use Rattle.nodes.specs.Nodes.{kindOf}
 use Rattle.nodes.specs.View.{term, nodeOf, IsNode}
 
 -- the number of the first term of this source; as many as there are where it has none
@@ -35,7 +34,7 @@ pub record AlignedTo (support : List ℕ) (ts : List Term) (a : Aligned) : Type 
 
 -- the terms of what a bootstrap takes
 unfoldable pub formTerms : List ℕ → LutNode → Option (List Term)
-formTerms bytes (Input name) = none
+formTerms bytes (Input g) = none
 formTerms bytes (Linear c ts) = none
 formTerms bytes (Bootstrap j table) = some (termsOf (nodeOf bytes j))
 
@@ -50,15 +49,9 @@ pub record NodesTo (bytes : List ℕ) (i : ℕ) : Type 0 where
 
 pub terms-none : (n : LutNode) → (kindOf n ≡ 1 → ⊥) → 0 ≡ length (termsOf n)
 unfolding kindOf termsOf
-terms-none (Input name) h = refl
+terms-none (Input g) h = refl
 terms-none (Linear c ts) h = absurd (h refl)
 terms-none (Bootstrap j table) h = refl
-
-pub terms-need : (n : LutNode) (k : ℕ) → k < length (termsOf n) → (k < length (needs n)) × (getD (needs n) k 0 ≡ getD (termsOf n) k (term (pos 0) 0) .node)
-unfolding termsOf needs
-terms-need (Input name) k h = absurd (not-suc-le-zero h)
-terms-need (Linear c ts) k h = (rw (sources-length ts) h, sources-at ts k h)
-terms-need (Bootstrap j table) k h = absurd (not-suc-le-zero h)
 
 -- ---- laws: a turn of the loop that looks for a source
 
@@ -167,12 +160,12 @@ module _ (support : List ℕ) (ts : List Term) where
 
 pub form-none : (support bytes : List ℕ) (n : LutNode) (coefs : List ℤ) → (kindOf n ≡ 2 → ⊥) → FormOf support (formTerms bytes n) (record { ok = false; coefs = coefs })
 unfolding FormOf formTerms kindOf
-form-none support bytes (Input name) coefs h = refl
+form-none support bytes (Input g) coefs h = refl
 form-none support bytes (Linear c ts) coefs h = refl
 form-none support bytes (Bootstrap j table) coefs h = absurd (h refl)
 
 pub form-some : (support bytes : List ℕ) (n : LutNode) (a : Aligned) → kindOf n ≡ 2 → AlignedTo support (termsOf (nodeOf bytes (getD (needs n) 0 0))) a → FormOf support (formTerms bytes n) a
 unfolding FormOf formTerms kindOf needs
-form-some support bytes (Input name) a h w = absurd (omega arith)
+form-some support bytes (Input g) a h w = absurd (omega arith)
 form-some support bytes (Linear c ts) a h w = absurd (omega arith)
 form-some support bytes (Bootstrap j table) a h w = w

@@ -12,8 +12,7 @@ use lib.ListN.{length, drop, List·getD-eq-default}
 use Rattle.laws.specs.Test.{if_then_else_, lt-or-le}
 use Rattle.rules.specs.Builder.{Entries, completion}
 use Rattle.rules.specs.CircuitText.{sameName}
-use Rattle.rules.specs.Network.{LutNode, Linear, Bootstrap}
-use Rattle.rules.specs.NetworkText.{nodeAt}
+use Rattle.rules.specs.Network.{LutNode, Linear, Bootstrap, nodeAt}
 use Rattle.rules.specs.Store.{sameNode, numberOf, intern, linearTerms}
 use Rattle.theorems.specs.Interned.{number-here, number-on, number-end, number-new}
 use Rattle.theorems.specs.Completions.{completion-is}

@@ -6,7 +6,8 @@ ghost use lib.ListN.{length};
 ghost use Rattle.rules.specs.CircuitText.{sameName};
 ghost use Rattle.rules.specs.Network.{Input};
 ghost use Rattle.rules.specs.Store.{numberOf};
-ghost use Rattle.nodes.specs.View.{nodeIn, recordAt, storeOf, putAt, IsStore};
+ghost use Rattle.theorems.specs.Weights.{GoodWeight};
+ghost use Rattle.nodes.specs.View.{given, nodeIn, recordAt, storeOf, putAt, IsStore};
 ghost use Rattle.lut.specs.Store.{IsRecord, Interns};
 use crate::Linked;
 use crate::Signal;
@@ -65,11 +66,11 @@ pub fn intern(nodes: &mut [u8; 25536], count: usize, bytes: &[u8; 38]) -> Linked
 }
 
 // An input is a new node: names are different.
-pub fn put_input(nodes: &mut [u8; 25536], count: usize, name: &[u8])
-    requires { ⌜ IsStore (now nodes) count × (count < 672) × (length (now name) ≤ 16) ⌝ }
-    ensures store { λ _. ⌜ storeOf (now (nodes .exit)) (count + 1) ≡ storeOf (now (nodes .entry)) count ++ (Input (now (name .entry)) ∷ []) ⌝ }
+pub fn put_input(nodes: &mut [u8; 25536], count: usize, name: &[u8], weight: usize)
+    requires { ⌜ IsStore (now nodes) count × (count < 672) × (length (now name) ≤ 16) × GoodWeight weight ⌝ }
+    ensures store { λ _. ⌜ storeOf (now (nodes .exit)) (count + 1) ≡ storeOf (now (nodes .entry)) count ++ (Input (given (now (name .entry)) weight) ∷ []) ⌝ }
     ensures still { λ _. ⌜ IsStore (now (nodes .exit)) (count + 1) ⌝ }
 {
-    let bytes = record::input(name);
+    let bytes = record::input(name, weight as u8);
     put_record(nodes, count, &bytes);
 }

@@ -2,7 +2,7 @@
 -- Each has a valid encoding, and so has what a gate makes of it.
 use mathlib.Core.Path.{_≡_, refl, sym, ap, _∙_}
 use mathlib.Core.Bool.{Bool, true, false, not}
-use mathlib.Core.List.{List, [], _∷_, map}
+use mathlib.Core.List.{List, [], _∷_, map, zipWith}
 use mathlib.Core.Logic.{⊎-elim}
 use mathlib.Core.Option.{Option, none, some, Option·map, Option·some-injective}
 use Prim.Native.Nat.{ℕ, zero, suc, _+_, _-_, _≤_, _<_, _^_}
@@ -16,13 +16,12 @@ use Rattle.laws.specs.Test.{if_then_else_, zero≢one, both-left, both-right, e
 use Rattle.rules.specs.declared.Settings.{Settings}
 use Rattle.rules.specs.CircuitText.{inLimits}
 use Rattle.rules.specs.Composition.{unionSupport, gateTruth, allEqual, Scales, mergedCoefficients, findCandidate, simplifyCone, mergeCones, compose}
-use Rattle.rules.specs.Cone.{Cone, constant, identity, linearTable, values, coneSpan, norm2, isLutValid, withinNorm, fits, ok, err, _>>=_, validateCone, Candidate}
+use Rattle.rules.specs.Cone.{Cone, constant, identity, terms, linearTable, values, coneSpan, norm2, isLutValid, withinNorm, fits, ok, err, _>>=_, validateCone, Candidate}
 use Rattle.rules.specs.Mapper.{unchanged, mapUnaryGate}
-use Rattle.rules.specs.Network.{LutNode}
+use Rattle.rules.specs.Network.{LutNode, norm}
 use Rattle.rules.specs.NetworkText.{allDifferent}
 use Rattle.rules.specs.Rotation.{pairSum, rotatable}
 use Rattle.rules.specs.Runs.{allBits}
-use Rattle.rules.specs.Scale.{norm}
 use Rattle.rules.specs.Span.{leastFrom, greatestFrom, least, greatest, span}
 use Rattle.theorems.specs.Bits.{bit-at, map-bits}
 use Rattle.theorems.specs.ConeValues.{values-long}
@@ -43,7 +42,7 @@ use Rattle.mapped.specs.ConeUnary.{throughGate}
 
 -- What computes the values, the span and the norm of given coefficients.
 unfoldable pub numbers : Unit {0}
-unfolding values coneSpan linearTable norm2 norm span least greatest leastFrom greatestFrom
+unfolding values coneSpan linearTable norm2 norm terms zipWith span least greatest leastFrom greatestFrom
 numbers = tt
 
 one-row : (Q : ℕ → Type 0) → Q 0 → (i : ℕ) → i < 1 → Q i
@@ -63,7 +62,7 @@ module _ (s : Settings) (limits : inLimits s ≡ true) where
   unfolding constant numbers
   constant-valid b h =
       table-valid s (constant b) refl (omega (arith, least-p s limits, least-m s limits)) (b ∷ [])
-      (record { long = refl; bits = standing-shape s (constant b) (is-constant b h refl) .bits; turns = short-turns (s .p) (b ∷ []) (least-p s limits) (omega arith); agrees = one-row _ refl })
+      (record { long = refl; bits = standing-shape s [] (constant b) (is-constant b h refl) .bits; turns = short-turns (s .p) (b ∷ []) (least-p s limits) (omega arith); agrees = one-row _ refl })
 
   node-valid : (n : ℕ) → isLutValid s (identity n) ≡ true
   unfolding identity numbers allBits
@@ -71,11 +70,11 @@ module _ (s : Settings) (limits : inLimits s ≡ true) where
       table-valid s (identity n) refl (omega (arith, least-p s limits, least-m s limits)) (0 ∷ 1 ∷ [])
       (record { long = refl; bits = tt; turns = short-turns (s .p) (0 ∷ 1 ∷ []) (least-p s limits) (omega arith); agrees = two-rows _ refl refl })
 
-  standing-valid : (c : Cone) → Standing s c → isLutValid s c ≡ true
+  standing-valid : (nodes : List LutNode) (c : Cone) → Standing s nodes c → isLutValid s c ≡ true
   unfolding fits
-  standing-valid c (is-constant b h e) = rw e (constant-valid b h)
-  standing-valid c (is-node n e) = rw e (node-valid n)
-  standing-valid c (is-judged j) = both-right (withinNorm s (norm2 c)) (isLutValid s c) (j .fit)
+  standing-valid nodes c (is-constant b h e) = rw e (constant-valid b h)
+  standing-valid nodes c (is-node n e) = rw e (node-valid n)
+  standing-valid nodes c (is-judged j) = both-right (withinNorm s (norm2 nodes c)) (isLutValid s c) (j .fit)
 
 -- ---- A gate's answers in the place of the truth, and of the table.
 
@@ -120,40 +119,41 @@ module _ (P : ℕ) (c : Cone) (gate t : List ℕ) (long : length (values c) ≡ 
 -- ---- A gate on one cone.
 
 module _ (s : Settings) (limits : inLimits s ≡ true) where
-  through-valid : (c : Cone) (gate : List ℕ) → Standing s c → T (allBits gate) → isLutValid s (throughGate c gate) ≡ true
+  through-valid : (nodes : List LutNode) (c : Cone) (gate : List ℕ) → Standing s nodes c → T (allBits gate) → isLutValid s (throughGate c gate) ≡ true
   unfolding throughGate coneSpan values
-  through-valid c gate h b =
-      let shape = standing-shape s c h in
+  through-valid nodes c gate h b =
+      let shape = standing-shape s nodes c h in
       let long = values-long c (shape .same) (shape .rows) in
-      let r = valid-table s c long (standing-valid s limits c h) in
+      let r = valid-table s c long (standing-valid s limits nodes c h) in
       table-valid s (throughGate c gate) (long ∙ sym (length-map (c .truth) (λ b. getD gate b 0))) (r .0) _ (through-table (s .p) c gate (r .1 .0) long b (r .1 .1))
 
-  validated-refusal : (nodes : List LutNode) (c : Cone) (k : ℕ) → isLutValid s c ≡ true → (validateCone s c >>= unchanged nodes) ≡ err k
-      → (k ≡ 8) × (withinNorm s (norm2 c) ≡ false)
+  validated-refusal : (nodes : List LutNode) (c : Cone) (k : ℕ) → isLutValid s c ≡ true → (validateCone s nodes c >>= unchanged nodes) ≡ err k
+      → (k ≡ 8) × (withinNorm s (norm2 nodes c) ≡ false)
   unfolding validateCone unchanged
-  validated-refusal nodes c k v e = by (withinNorm s (norm2 c)) (rw v at e)
+  validated-refusal nodes c k v e = by (withinNorm s (norm2 nodes c)) (rw v at e)
     where
       by : (b : Bool) → ((if not b then err 8 else ok c) >>= unchanged nodes) ≡ err k → (k ≡ 8) × (b ≡ false)
       by true e = absurd (err-not k _ (sym e))
       by false e = (sym (err-same 8 k e), refl)
 
-  pub unary-refusal : (nodes : List LutNode) (c : Cone) (gate : List ℕ) (k : ℕ) → Standing s c → T (allBits gate) → mapUnaryGate s nodes c gate ≡ err k
-      → (k ≡ 8) × (withinNorm s (norm2 c) ≡ false)
-  unfolding mapUnaryGate throughGate unchanged norm2
+  pub unary-refusal : (nodes : List LutNode) (c : Cone) (gate : List ℕ) (k : ℕ) → Standing s nodes c → T (allBits gate) → mapUnaryGate s nodes c gate ≡ err k
+      → (k ≡ 8) × (withinNorm s (norm2 nodes c) ≡ false)
+  unfolding mapUnaryGate throughGate unchanged norm2 terms
   unary-refusal nodes c gate k h b e = by (allEqual (throughGate c gate .truth)) e
     where
-      by : (a : Bool) → (if a then unchanged nodes (constant (getD (throughGate c gate .truth) 0 0)) else (validateCone s (throughGate c gate) >>= unchanged nodes)) ≡ err k
-          → (k ≡ 8) × (withinNorm s (norm2 c) ≡ false)
+      by : (a : Bool) → (if a then unchanged nodes (constant (getD (throughGate c gate .truth) 0 0)) else (validateCone s nodes (throughGate c gate) >>= unchanged nodes)) ≡ err k
+          → (k ≡ 8) × (withinNorm s (norm2 nodes c) ≡ false)
       by true e = absurd (err-not k _ (sym e))
-      by false e = validated-refusal nodes (throughGate c gate) k (through-valid c gate h b) e
+      by false e = validated-refusal nodes (throughGate c gate) k (through-valid nodes c gate h b) e
 
 -- ---- A composition.
 
-validate-fits : (s : Settings) (c : Cone) → fits s c ≡ true → validateCone s c ≡ ok c
+validate-fits : (s : Settings) (nodes : List LutNode) (c : Cone) → fits s nodes c ≡ true → validateCone s nodes c ≡ ok c
 unfolding validateCone fits
-validate-fits s c e = rw (both-right (withinNorm s (norm2 c)) (isLutValid s c) e, both-left (withinNorm s (norm2 c)) (isLutValid s c) e)
+validate-fits s nodes c e = rw (both-right (withinNorm s (norm2 nodes c)) (isLutValid s c) e, both-left (withinNorm s (norm2 nodes c)) (isLutValid s c) e)
 
-module _ (s : Settings) (limits : inLimits s ≡ true) (left right : Cone) (gate : List ℕ) (sl : Standing s left) (sr : Standing s right) (gate-bits : T (allBits gate)) where
+module _ (s : Settings) (limits : inLimits s ≡ true) (nodes : List LutNode) (left right : Cone) (gate : List ℕ) (sl : Standing s nodes left) (sr : Standing s nodes right)
+    (gate-bits : T (allBits gate)) where
   abbrev union : List ℕ
   union = unionSupport (left .support) (right .support)
 
@@ -172,30 +172,30 @@ module _ (s : Settings) (limits : inLimits s ≡ true) (left right : Cone) (gate
   unfolding mergedCone
   merged-apart p few =
       simplified-shape (merged p) (merged-same p) few
-      (union-different (left .support) (right .support) (standing-shape s left sl .apart) (standing-shape s right sr .apart))
+      (union-different (left .support) (right .support) (standing-shape s nodes left sl .apart) (standing-shape s nodes right sr .apart))
       (gateTruth-bits left right gate union gate-bits) .apart
 
   -- the cone of a candidate fits when it is simplified
-  merges : (d : Candidate) → length union ≤ 11 → Found s left right gate d → mergeCones s d ≡ ok (simplifyCone (d .cone))
+  merges : (d : Candidate) → length union ≤ 11 → Found s nodes left right gate d → mergeCones s nodes d ≡ ok (simplifyCone (d .cone))
   unfolding mergeCones
   merges d few f =
-      validate-fits s (simplifyCone (d .cone))
-      (rw (f .is) (simplified-fits (merged (f .pair)) (merged-same (f .pair)) (merged-apart (f .pair) few) s (merged-rows (f .pair)) (rw (f .is) at (f .fit))))
+      validate-fits s nodes (simplifyCone (d .cone))
+      (rw (f .is) (simplified-fits (merged (f .pair)) (merged-same (f .pair)) (merged-apart (f .pair) few) s nodes (merged-rows (f .pair)) (rw (f .is) at (f .fit))))
 
-  pub compose-refusal : (nodes : List LutNode) (k : ℕ) → compose s nodes left right gate ≡ some (err k) → ⊥
+  pub compose-refusal : (k : ℕ) → compose s nodes left right gate ≡ some (err k) → ⊥
   unfolding compose
-  compose-refusal nodes k e = by (ltb (s .t + 1) (length union)) (allEqual truth) refl e
+  compose-refusal k e = by (ltb (s .t + 1) (length union)) (allEqual truth) refl e
     where
       truth : List ℕ
       truth = gateTruth union left right gate
 
-      from : (o : Option Candidate) → length union ≤ 11 → ((d : Candidate) → o ≡ some d → Found s left right gate d)
-          → Option·map (mergeCones s) o ≡ some (err k) → ⊥
+      from : (o : Option Candidate) → length union ≤ 11 → ((d : Candidate) → o ≡ some d → Found s nodes left right gate d)
+          → Option·map (mergeCones s nodes) o ≡ some (err k) → ⊥
       from none few f e = zero≢one (cc)
-      from (some d) few f e = err-not k (simplifyCone (d .cone)) (sym (Option·some-injective (mergeCones s d) (err k) e) ∙ merges d few (f d refl))
+      from (some d) few f e = err-not k (simplifyCone (d .cone)) (sym (Option·some-injective (mergeCones s nodes d) (err k) e) ∙ merges d few (f d refl))
 
       by : (a b : Bool) → ltb (s .t + 1) (length union) ≡ a
-          → (if a then none else if b then some (ok (constant (getD truth 0 0))) else Option·map (mergeCones s) (findCandidate s nodes union left right truth)) ≡ some (err k) → ⊥
+          → (if a then none else if b then some (ok (constant (getD truth 0 0))) else Option·map (mergeCones s nodes) (findCandidate s nodes union left right truth)) ≡ some (err k) → ⊥
       by true b f e = zero≢one (cc)
       by false true f e = err-not k (constant (getD truth 0 0)) (sym (Option·some-injective (ok (constant (getD truth 0 0))) (err k) e))
       by false false f e =

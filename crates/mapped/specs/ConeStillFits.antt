@@ -9,6 +9,7 @@ use Rattle.laws.specs.Test.{both-left, both-right}
 use Rattle.rules.specs.declared.Settings.{Settings}
 use Rattle.rules.specs.Composition.{simplifyCone}
 use Rattle.rules.specs.Cone.{Cone, values, norm2, isLutValid, withinNorm, fits}
+use Rattle.rules.specs.Network.{LutNode}
 use Rattle.rules.specs.NetworkText.{allDifferent}
 use Rattle.rules.specs.Span.{least}
 use Rattle.theorems.specs.ConeValues.{values-long}
@@ -36,12 +37,12 @@ module _ (c : Cone) (same : length (c .coefficients) ≡ length (c .support)) (a
           ∙ k .agrees (rowIn c i) (rowIn-lt c same i h)
           ∙ sym (simplified-truth c same i h)
 
-  pub simplified-fits : (s : Settings) → length (c .truth) ≡ 2 ^ length (c .support) → fits s c ≡ true → fits s (simplifyCone c) ≡ true
+  pub simplified-fits : (s : Settings) (nodes : List LutNode) → length (c .truth) ≡ 2 ^ length (c .support) → fits s nodes c ≡ true → fits s nodes (simplifyCone c) ≡ true
   unfolding fits
-  simplified-fits s rows e =
-      let r = valid-table s c (values-long c same rows) (both-right (withinNorm s (norm2 c)) (isLutValid s c) e) in
+  simplified-fits s nodes rows e =
+      let r = valid-table s c (values-long c same rows) (both-right (withinNorm s (norm2 nodes c)) (isLutValid s c) e) in
       rw (
-        simplified-norm c same,
-        both-left (withinNorm s (norm2 c)) (isLutValid s c) e,
+        simplified-norm nodes c,
+        both-left (withinNorm s (norm2 nodes c)) (isLutValid s c) e,
         table-valid s (simplifyCone c) simplified-long (rw (simplified-span c same) (r .0)) (r .1 .0) (simplified-table (s .p) (r .1 .0) (r .1 .1)),
       )

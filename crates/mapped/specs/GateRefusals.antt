@@ -12,7 +12,7 @@ use lib.ListN.{length, getD, take, drop}
 use Rattle.laws.specs.Test.{if_then_else_, if-both, zero≢one}
 use Rattle.rules.specs.declared.Settings.{Settings}
 use Rattle.rules.specs.declared.Wire.{Wire}
-use Rattle.rules.specs.Circuit.{Name, Gate, Output, wireBit}
+use Rattle.rules.specs.Circuit.{Given, Gate, Output, wireBit}
 use Rattle.rules.specs.CircuitText.{inLimits, anyNoNode, matching}
 use Rattle.rules.specs.Composition.{compose}
 use Rattle.rules.specs.Cone.{Cone, Result, ok, err, norm2, withinNorm}
@@ -32,18 +32,19 @@ use Rattle.mapped.specs.GateMeaning.{Means}
 use Rattle.mapped.specs.GateSides.{Sided, left-booted, right-booted, kept-switched, kept-left, kept-right, kept-limited, kept-first}
 use Rattle.mapped.specs.Gates.{Cones, Known, left-bits, right-bits, constant-bit, four-answers, wire-in, wire-means, wires-mapped}
 
-pub data Refusal (s : Settings) (k : ℕ) : Type 0 where
-  over-norm : k ≡ 8 → (c : Cone) → Standing s c → withinNorm s (norm2 c) ≡ false → Refusal s k
-  uncomposed : k ≡ 9 → (nodes : List LutNode) (left right : Cone) (gate : List ℕ) → Standing s left → Standing s right
-      → length (left .support) ≤ 1 → length (right .support) ≤ 1 → T (allBits gate) → compose s nodes left right gate ≡ none → Refusal s k
+-- Over the nodes of a store that begins with the inputs.
+pub data Refusal (s : Settings) (inputs : List Given) (k : ℕ) : Type 0 where
+  over-norm : k ≡ 8 → (nodes : List LutNode) → Store (netFor s) inputs nodes → (c : Cone) → Standing s nodes c → withinNorm s (norm2 nodes c) ≡ false → Refusal s inputs k
+  uncomposed : k ≡ 9 → (nodes : List LutNode) → Store (netFor s) inputs nodes → (left right : Cone) (gate : List ℕ) → Standing s nodes left → Standing s nodes right
+      → length (left .support) ≤ 1 → length (right .support) ≤ 1 → T (allBits gate) → compose s nodes left right gate ≡ none → Refusal s inputs k
 
-pub refusal-number : (s : Settings) (k : ℕ) → Refusal s k → (8 ≤ k) × (k ≤ 9)
-refusal-number s k (over-norm e c st n) = (omega arith, omega arith)
-refusal-number s k (uncomposed e nodes left right gate sl sr l r b n) = (omega arith, omega arith)
+pub refusal-number : (s : Settings) (inputs : List Given) (k : ℕ) → Refusal s inputs k → (8 ≤ k) × (k ≤ 9)
+refusal-number s inputs k (over-norm e nodes store c st n) = (omega arith, omega arith)
+refusal-number s inputs k (uncomposed e nodes store left right gate sl sr l r b n) = (omega arith, omega arith)
 
 -- ---- A binary gate.
 
-module _ (s : Settings) (inputs : List Name) (before : List LutNode) (f g h : List ℕ → ℕ) (limits : inLimits s ≡ true) (room : length before + 6 ≤ 672) where
+module _ (s : Settings) (inputs : List Given) (before : List LutNode) (f g h : List ℕ → ℕ) (limits : inLimits s ≡ true) (room : length before + 6 ≤ 672) where
   abbrev Kept : Sides → Type 0
   Kept w = Sided s inputs before f g h w
 
@@ -83,9 +84,9 @@ module _ (s : Settings) (inputs : List Name) (before : List LutNode) (f g h : Li
       by none c e = (c, e)
       by (some (ok d)) c e = absurd (err-not k _ (sym e))
       by (some (err j)) c e =
-          absurd (compose-refusal s limits (w .left .cone) (w .right .cone) (w .gate) (q .left .standing) (q .right .standing) (q .answerBits) (w .nodes) j c)
+          absurd (compose-refusal s limits (w .nodes) (w .left .cone) (w .right .cone) (w .gate) (q .left .standing) (q .right .standing) (q .answerBits) j c)
 
-  third-refused : (w : Sides) (k : ℕ) → Kept w → length (w .left .cone .support) ≤ 1 → thirdAttempt s w ≡ err k → Refusal s k
+  third-refused : (w : Sides) (k : ℕ) → Kept w → length (w .left .cone .support) ≤ 1 → thirdAttempt s w ≡ err k → Refusal s inputs k
   unfolding thirdAttempt
   third-refused w k q few e =
       let z = right-boots w q in
@@ -93,10 +94,10 @@ module _ (s : Settings) (inputs : List Name) (before : List LutNode) (f g h : Li
       let one = right-booted s w v (z .1) in
       let p = kept-right s inputs before f g h limits room w v q (z .1) in
       let r = attempt-refused v (err 9) k p (rw (z .1) at e) in
-      uncomposed (sym (err-same 9 k (r .1))) (v .nodes) (v .left .cone) (v .right .cone) (v .gate) (p .left .standing) (p .right .standing)
+      uncomposed (sym (err-same 9 k (r .1))) (v .nodes) (p .store) (v .left .cone) (v .right .cone) (v .gate) (p .left .standing) (p .right .standing)
       (rw (one .1) few) (one .0) (p .answerBits) (r .0)
 
-  second-refused : (w : Sides) (k : ℕ) → Kept w → secondAttempt s w ≡ err k → Refusal s k
+  second-refused : (w : Sides) (k : ℕ) → Kept w → secondAttempt s w ≡ err k → Refusal s inputs k
   unfolding secondAttempt
   second-refused w k q e =
       let z = left-boots w q in
@@ -104,7 +105,7 @@ module _ (s : Settings) (inputs : List Name) (before : List LutNode) (f g h : Li
       let p = kept-left s inputs before f g h limits room w v q (z .1) in
       third-refused v k p (left-booted s w v (z .1) .0) (attempt-refused v (thirdAttempt s v) k p (rw (z .1) at e) .1)
 
-  binary-refused : (left right : Cone) (gate : List ℕ) (k : ℕ) → Kept (largerFirst (sides before left right gate)) → mapBinaryGate s before left right gate ≡ err k → Refusal s k
+  binary-refused : (left right : Cone) (gate : List ℕ) (k : ℕ) → Kept (largerFirst (sides before left right gate)) → mapBinaryGate s before left right gate ≡ err k → Refusal s inputs k
   unfolding mapBinaryGate
   binary-refused left right gate k q e =
       let first = largerFirst (sides before left right gate) in
@@ -121,43 +122,43 @@ not-three gate u v w ws e =
     let n = length ws in
     false≢true (rw (ne-eqb (suc (suc (suc n))) 1 (omega arith), ne-eqb (suc (suc (suc n))) 2 (omega arith)) at e)
 
-module _ (s : Settings) (inputs : List Name) (limits : inLimits s ≡ true) where
-  unary-refused : (nodes : List LutNode) (c : Cone) (gate : List ℕ) (k : ℕ) → Standing s c → T (allBits gate) → mapUnaryGate s nodes c gate ≡ err k → Refusal s k
-  unary-refused nodes c gate k st good e = let r = unary-refusal s limits nodes c gate k st good e in over-norm (r .0) c st (r .1)
+module _ (s : Settings) (inputs : List Given) (limits : inLimits s ≡ true) where
+  unary-refused : (nodes : List LutNode) → Store (netFor s) inputs nodes → (c : Cone) (gate : List ℕ) (k : ℕ) → Standing s nodes c → T (allBits gate) → mapUnaryGate s nodes c gate ≡ err k → Refusal s inputs k
+  unary-refused nodes store c gate k st good e = let r = unary-refusal s limits nodes c gate k st good e in over-norm (r .0) nodes store c st (r .1)
 
   module _ (nodes : List LutNode) (store : Store (netFor s) inputs nodes) (room : length nodes + 6 ≤ 672) where
     two-refused : (left right : Cone) (gate : List ℕ) (k : ℕ) (f g : List ℕ → ℕ) → Means s inputs nodes left f → Means s inputs nodes right g
-        → length gate ≡ 4 → T (allBits gate) → mapGate s nodes (left ∷ right ∷ []) gate ≡ err k → Refusal s k
+        → length gate ≡ 4 → T (allBits gate) → mapGate s nodes (left ∷ right ∷ []) gate ≡ err k → Refusal s inputs k
     unfolding mapGate
     two-refused left right gate k f g a b four good = by (isConstant left) (isConstant right)
       where
         by : (t u : Bool) → (if t then mapUnaryGate s nodes right (take 2 (drop (2 * constantValue left) gate))
             else if u then mapUnaryGate s nodes left (getD gate (constantValue right) 0 ∷ getD gate (2 + constantValue right) 0 ∷ [])
-            else mapBinaryGate s nodes left right gate) ≡ err k → Refusal s k
-        by true u e = unary-refused nodes right _ k (b .standing) (left-bits gate four good (constantValue left) (constant-bit left (a .standing))) e
-        by false true e = unary-refused nodes left _ k (a .standing) (right-bits gate four good (constantValue right) (constant-bit right (b .standing))) e
+            else mapBinaryGate s nodes left right gate) ≡ err k → Refusal s inputs k
+        by true u e = unary-refused nodes store right _ k (b .standing) (left-bits gate four good (constantValue left) (constant-bit left (a .standing))) e
+        by false true e = unary-refused nodes store left _ k (a .standing) (right-bits gate four good (constantValue right) (constant-bit right (b .standing))) e
         by false false e =
             let h : List ℕ → ℕ = λ bits. getD gate (2 * f bits + g bits) 0 in
             binary-refused s inputs nodes f g h limits room left right gate k (kept-first s inputs nodes f g h limits room left right gate store a b four good (λ bits q. refl)) e
 
     wires-refused : (cones : List Cone) (F : List ℕ → List ℕ) (n : ℕ) → Cones s inputs nodes cones F n → (ws : List Wire) (gate : List ℕ) (k : ℕ)
-        → anyNoNode n ws ≡ false → WireBits ws → T (allBits gate) → matching gate ws ≡ true → mapGate s nodes (map (coneAt cones) ws) gate ≡ err k → Refusal s k
+        → anyNoNode n ws ≡ false → WireBits ws → T (allBits gate) → matching gate ws ≡ true → mapGate s nodes (map (coneAt cones) ws) gate ≡ err k → Refusal s inputs k
     unfolding WireBits
     wires-refused cones F n known [] gate k w c good q e = absurd (unfold matching in (zero≢one (cc)))
     wires-refused cones F n known (v ∷ []) gate k w c good q e =
-        unary-refused nodes (coneAt cones v) gate k (wire-means s inputs nodes store F n cones v known (wire-in n (v ∷ []) 0 w) (c .0) .standing) good (unfold mapGate in e)
+        unary-refused nodes store (coneAt cones v) gate k (wire-means s inputs nodes store F n cones v known (wire-in n (v ∷ []) 0 w) (c .0) .standing) good (unfold mapGate in e)
     wires-refused cones F n known (v ∷ u ∷ []) gate k w c good q e =
         two-refused (coneAt cones v) (coneAt cones u) gate k (λ bits. wireBit (F bits) v) (λ bits. wireBit (F bits) u)
         (wire-means s inputs nodes store F n cones v known (wire-in n (v ∷ u ∷ []) 0 w) (c .0))
         (wire-means s inputs nodes store F n cones u known (wire-in n (v ∷ u ∷ []) 1 w) (c .1 .0)) (four-answers gate v u q) good e
     wires-refused cones F n known (v ∷ u ∷ x ∷ ws) gate k w c good q e = absurd (not-three gate v u x ws q)
 
-  forced-boots : (t : Bool) (m : Mapped) → Store (netFor s) inputs (m .nodes) → Standing s (m .cone) → (b : Stored) × (forced s t m ≡ ok b)
+  forced-boots : (t : Bool) (m : Mapped) → Store (netFor s) inputs (m .nodes) → Standing s (m .nodes) (m .cone) → (b : Stored) × (forced s t m ≡ ok b)
   unfolding forced
   forced-boots t m store st = if-both (λ r. (b : Stored) × (r ≡ ok b)) t (booted s inputs (m .nodes) (m .cone) store st) (_, refl)
 
   pub next-refused : (outputs : List Output) (st : State) (F : List ℕ → List ℕ) (k n : ℕ) (g : Gate) (j : ℕ) → Known s inputs st F k n → SoundGate n g
-      → length inputs ≤ 32 → k < 96 → mapNext s outputs st g ≡ err j → Refusal s j
+      → length inputs ≤ 32 → k < 96 → mapNext s outputs st g ≡ err j → Refusal s inputs j
   unfolding mapNext
   next-refused outputs st F k n g j known sound few more e =
       ⊎-elim

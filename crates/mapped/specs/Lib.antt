@@ -39,6 +39,7 @@ pub mod TwoSourceCones
 pub mod TwoSources
 pub mod Agrees
 pub mod Proved
+pub mod SourceWeights
 pub mod AlwaysMapped
 pub mod TwoSourcesMet
 pub mod SumRun

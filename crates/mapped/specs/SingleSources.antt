@@ -1,5 +1,5 @@
--- Two cones of at most one source each can always be composed under Span, where M is at least 3 and the norm limit none or at least 2: a truth of two sources
--- has one value for each sum, or for each difference, or is one source's alone.
+-- Two cones of at most one source each can always be composed under Span, where M is at least 3 and the norm limit has room for any two sources: a truth of two
+-- sources has one value for each sum, or for each difference, or is one source's alone.
 use mathlib.Core.Path.{_≡_, refl, sym, ap, ap₂, subst, subst₂, _∙_}
 use mathlib.Core.Bool.{Bool, true, false, not, true≢false}
 use mathlib.Core.List.{List, [], _∷_, _++_, zipWith, flatMap}
@@ -23,13 +23,13 @@ use Rattle.rules.specs.declared.Policy.the-variants.{Span}
 use Rattle.rules.specs.declared.Settings.{Settings}
 use Rattle.rules.specs.CircuitText.{inLimits}
 use Rattle.rules.specs.Composition.{unionSupport, gateTruth, allEqual, Scales, scales, scalePairs, triedPairs, mergedCoefficients, evaluate, findCandidate, mergeCones, compose}
-use Rattle.rules.specs.Cone.{Cone, constant, values, coneSpan, norm2, withinNorm, fits, ok, Candidate, better, bestFrom, best}
-use Rattle.rules.specs.Network.{LutNode, member}
+use Rattle.rules.specs.Cone.{Cone, constant, terms, values, coneSpan, norm2, withinNorm, fits, ok, Candidate, better, bestFrom, best}
+use Rattle.rules.specs.Network.{LutNode, weightOf, nodeAt, member}
 use Rattle.rules.specs.NetworkText.{over}
 use Rattle.rules.specs.Runs.{allBits}
 use Rattle.rules.specs.Scale.{gcdFrom, startsNegative, divisor, quotients, normalised, isScalePair}
 use Rattle.rules.specs.Span.{least}
-use Rattle.rules.specs.Store.{terms, coefficientOf}
+use Rattle.rules.specs.Store.{coefficientOf}
 use Rattle.theorems.specs.Bits.{bit-at, all-bits-nil, all-bits-cons}
 use Rattle.theorems.specs.ConeTruths.{some-source-of}
 use Rattle.theorems.specs.SettingLimits.{least-p, least-t}
@@ -47,6 +47,16 @@ within-least s m n r h = ap not (by (s .norm) r)
     by : (l : Limit) → AtLeast m l → over l n ≡ false
     by Unlimited r = unfold over in refl
     by (AtMost k) r = unfold over AtLeast in (le-ltb k n (omega arith))
+
+-- The norm limit has room for any two different sources among these nodes.
+pub record RoomForTwo (s : Settings) (nodes : List LutNode) : Type 0 where
+  pub least : ℕ
+  pub limit : AtLeast least (s .norm)
+  pub pairs : (l r : ℕ) → (l ≡ r → ⊥) → weightOf (nodeAt nodes l) + weightOf (nodeAt nodes r) ≤ least
+
+-- and so for one
+pub room-one : (s : Settings) (nodes : List LutNode) (room : RoomForTwo s nodes) (n : ℕ) → weightOf (nodeAt nodes n) ≤ room .least
+room-one s nodes room n = omega (arith, room .pairs n (suc n) (λ e. omega arith))
 
 -- A cone of one source, and one of none.
 abbrev lone : ℕ → List ℕ → Cone
@@ -71,55 +81,55 @@ four-rows Q a b c d zero h = a
 four-rows Q a b c d (suc zero) h = b
 four-rows Q a b c d (suc (suc i)) h = two-rows (λ k. Q (suc (suc k))) c d i (omega arith)
 
-module _ (s : Settings) (limits : inLimits s ≡ true) (long : 3 ≤ s .m) (roomy : AtLeast 2 (s .norm)) where
+module _ (s : Settings) (nodes : List LutNode) (limits : inLimits s ≡ true) (long : 3 ≤ s .m) (room : RoomForTwo s nodes) where
   -- a table of at most three bits is always one that a rotation gives
-  small-fits : (c : Cone) (t : List ℕ) → norm2 c ≤ 2 → length (values c) ≡ length (c .truth) → coneSpan c ≤ 3 → length t ≡ coneSpan c → T (allBits t)
-      → ((i : ℕ) → i < length (values c) → getD t (natAbs (getD (values c) i (pos 0) -ℤ least (values c))) 0 ≡ getD (c .truth) i 0) → fits s c ≡ true
+  small-fits : (c : Cone) (t : List ℕ) → norm2 nodes c ≤ room .least → length (values c) ≡ length (c .truth) → coneSpan c ≤ 3 → length t ≡ coneSpan c → T (allBits t)
+      → ((i : ℕ) → i < length (values c) → getD t (natAbs (getD (values c) i (pos 0) -ℤ least (values c))) 0 ≡ getD (c .truth) i 0) → fits s nodes c ≡ true
   unfolding fits
   small-fits c t n e w l b a =
       let turns = short-turns (s .p) t (least-p s limits) (omega arith) in
-      rw (within-least s 2 (norm2 c) roomy n, table-valid s c e (omega arith) t (record { long = l; bits = b; turns = turns; agrees = a }))
+      rw (within-least s (room .least) (norm2 nodes c) (room .limit) n, table-valid s c e (omega arith) t (record { long = l; bits = b; turns = turns; agrees = a }))
 
-  one-fits : (n : ℕ) (truth : List ℕ) → length truth ≡ 2 → T (allBits truth) → fits s (lone n truth) ≡ true
+  one-fits : (n : ℕ) (truth : List ℕ) → length truth ≡ 2 → T (allBits truth) → fits s nodes (lone n truth) ≡ true
   unfolding numbers
   one-fits n [] e b = absurd (omega arith)
   one-fits n (x ∷ []) e b = absurd (omega arith)
-  one-fits n (x ∷ y ∷ []) e b = small-fits (lone n (x ∷ y ∷ [])) (x ∷ y ∷ []) (omega arith) refl (omega arith) refl b (two-rows _ refl refl)
+  one-fits n (x ∷ y ∷ []) e b = small-fits (lone n (x ∷ y ∷ [])) (x ∷ y ∷ []) (omega (arith, room-one s nodes room n)) refl (omega arith) refl b (two-rows _ refl refl)
   one-fits n (x ∷ y ∷ z ∷ truth) e b = absurd (omega arith)
 
-  module _ (l r x y z w : ℕ) (bits : T (allBits (x ∷ y ∷ z ∷ w ∷ []))) where
+  module _ (l r x y z w : ℕ) (apart : l ≡ r → ⊥) (bits : T (allBits (x ∷ y ∷ z ∷ w ∷ []))) where
     abbrev Two : ℤ → ℤ → Cone
     Two a b = record { support = l ∷ r ∷ []; coefficients = a ∷ b ∷ []; truth = x ∷ y ∷ z ∷ w ∷ [] }
 
     bit : (i : ℕ) → getD (x ∷ y ∷ z ∷ w ∷ []) i 0 ≤ 1
     bit i = bit-at (x ∷ y ∷ z ∷ w ∷ []) i bits
 
-    sum-fits : y ≡ z → fits s (Two (pos 1) (pos 1)) ≡ true
+    sum-fits : y ≡ z → fits s nodes (Two (pos 1) (pos 1)) ≡ true
     unfolding numbers
     sum-fits e =
-        small-fits (Two (pos 1) (pos 1)) (x ∷ y ∷ w ∷ []) (omega arith) refl (omega arith) refl
+        small-fits (Two (pos 1) (pos 1)) (x ∷ y ∷ w ∷ []) (omega (arith, room .pairs l r apart)) refl (omega arith) refl
         (all-bits-cons x _ (bit 0) (all-bits-cons y _ (bit 1) (all-bits-cons w [] (bit 3) all-bits-nil))) (four-rows _ refl refl e refl)
 
-    difference-fits : x ≡ w → fits s (Two (pos 1) (negsuc 0)) ≡ true
+    difference-fits : x ≡ w → fits s nodes (Two (pos 1) (negsuc 0)) ≡ true
     unfolding numbers
     difference-fits e =
-        small-fits (Two (pos 1) (negsuc 0)) (y ∷ x ∷ z ∷ []) (omega arith) refl (omega arith) refl
+        small-fits (Two (pos 1) (negsuc 0)) (y ∷ x ∷ z ∷ []) (omega (arith, room .pairs l r apart)) refl (omega arith) refl
         (all-bits-cons y _ (bit 1) (all-bits-cons x _ (bit 0) (all-bits-cons z [] (bit 2) all-bits-nil))) (four-rows _ refl refl refl e)
 
-    first-fits : x ≡ y → z ≡ w → fits s (Two (pos 1) (pos 0)) ≡ true
+    first-fits : x ≡ y → z ≡ w → fits s nodes (Two (pos 1) (pos 0)) ≡ true
     unfolding numbers
     first-fits e f =
-        small-fits (Two (pos 1) (pos 0)) (x ∷ z ∷ []) (omega arith) refl (omega arith) refl
+        small-fits (Two (pos 1) (pos 0)) (x ∷ z ∷ []) (omega (arith, room-one s nodes room l)) refl (omega arith) refl
         (all-bits-cons x _ (bit 0) (all-bits-cons z [] (bit 2) all-bits-nil)) (four-rows _ refl e refl f)
 
-    second-fits : x ≡ z → y ≡ w → fits s (Two (pos 0) (pos 1)) ≡ true
+    second-fits : x ≡ z → y ≡ w → fits s nodes (Two (pos 0) (pos 1)) ≡ true
     unfolding numbers
     second-fits e f =
-        small-fits (Two (pos 0) (pos 1)) (x ∷ y ∷ []) (omega arith) refl (omega arith) refl
+        small-fits (Two (pos 0) (pos 1)) (x ∷ y ∷ []) (omega (arith, room-one s nodes room r)) refl (omega arith) refl
         (all-bits-cons x _ (bit 0) (all-bits-cons y [] (bit 1) all-bits-nil)) (four-rows _ refl refl e f)
 
     -- one of the four does
-    some-fits : (fits s (Two (pos 1) (pos 1)) ≡ false) → (fits s (Two (pos 1) (negsuc 0)) ≡ false) → (fits s (Two (pos 1) (pos 0)) ≡ false) → (fits s (Two (pos 0) (pos 1)) ≡ false) → ⊥
+    some-fits : (fits s nodes (Two (pos 1) (pos 1)) ≡ false) → (fits s nodes (Two (pos 1) (negsuc 0)) ≡ false) → (fits s nodes (Two (pos 1) (pos 0)) ≡ false) → (fits s nodes (Two (pos 0) (pos 1)) ≡ false) → ⊥
     some-fits a b c d =
         let bx = bit 0 in
         let by = bit 1 in
@@ -157,21 +167,21 @@ unfolding flatMap
 each-none f Q h [] e = tt
 each-none f Q h (p ∷ ps) e = let r = none-appended (f p) (flatMap f ps) e in (h p (r .0), each-none f Q h ps (r .1))
 
-evaluate-none : (s : Settings) (nodes : List LutNode) (p : Scales) (c : Cone) → evaluate s nodes p c ≡ [] → fits s c ≡ false
+evaluate-none : (s : Settings) (nodes : List LutNode) (p : Scales) (c : Cone) → evaluate s nodes p c ≡ [] → fits s nodes c ≡ false
 unfolding evaluate
-evaluate-none s nodes p c e = by (fits s c) _ e
+evaluate-none s nodes p c e = by (fits s nodes c) _ e
   where
     by : (b : Bool) (d : Candidate) → (if b then d ∷ [] else []) ≡ [] → b ≡ false
     by true d e = absurd (zero≢one (cc))
     by false d e = refl
 
-module _ (s : Settings) (left right : Cone) (U truth : List ℕ) where
+module _ (s : Settings) (nodes : List LutNode) (left right : Cone) (U truth : List ℕ) where
   abbrev pub Unfit : Scales → Type 0
-  Unfit p = fits s (record { support = U; coefficients = mergedCoefficients U left right p; truth = truth }) ≡ false
+  Unfit p = fits s nodes (record { support = U; coefficients = mergedCoefficients U left right p; truth = truth }) ≡ false
 
-  none-fits : (nodes : List LutNode) → findCandidate s nodes U left right truth ≡ none → Each Unfit (triedPairs (s .policy) (coneSpan left) (coneSpan right))
+  none-fits : findCandidate s nodes U left right truth ≡ none → Each Unfit (triedPairs (s .policy) (coneSpan left) (coneSpan right))
   unfolding findCandidate best
-  none-fits nodes e = each-none _ Unfit (λ p q. evaluate-none s nodes p _ q) (triedPairs (s .policy) (coneSpan left) (coneSpan right)) (no-best _ e)
+  none-fits e = each-none _ Unfit (λ p q. evaluate-none s nodes p _ q) (triedPairs (s .policy) (coneSpan left) (coneSpan right)) (no-best _ e)
 
 -- ---- The pairs of single sources.
 
@@ -193,15 +203,15 @@ pairs-one-two = refl
 
 -- ---- Cones of one source or none.
 
-small-cone : (s : Settings) (c : Cone) → Standing s c → length (c .support) ≤ 1 → (c ≡ bare (c .truth)) ⊎ ((n : ℕ) × (c ≡ lone n (c .truth)))
-small-cone s c h l = by (c .support) refl l
+small-cone : (s : Settings) (nodes : List LutNode) (c : Cone) → Standing s nodes c → length (c .support) ≤ 1 → (c ≡ bare (c .truth)) ⊎ ((n : ℕ) × (c ≡ lone n (c .truth)))
+small-cone s nodes c h l = by (c .support) refl l
   where
     same : (ns : List ℕ) (cs : List ℤ) → c .support ≡ ns → c .coefficients ≡ cs → c ≡ record { support = ns; coefficients = cs; truth = c .truth }
     same ns cs p q = λ i. record { support = p i; coefficients = q i; truth = c .truth }
 
     by : (ns : List ℕ) → c .support ≡ ns → length ns ≤ 1 → (c ≡ bare (c .truth)) ⊎ ((n : ℕ) × (c ≡ lone n (c .truth)))
-    by [] e k = inl (same [] [] e (nil-of (c .coefficients) (standing-shape s c h .same ∙ ap length e)))
-    by (n ∷ []) e k = inr (n, same (n ∷ []) (pos 1 ∷ []) e (standing-single s c h (ap length e)))
+    by [] e k = inl (same [] [] e (nil-of (c .coefficients) (standing-shape s nodes c h .same ∙ ap length e)))
+    by (n ∷ []) e k = inr (n, same (n ∷ []) (pos 1 ∷ []) e (standing-single s nodes c h (ap length e)))
     by (n ∷ m ∷ ns) e k = absurd (omega arith)
 
 lone-span : (n : ℕ) (x : List ℕ) → coneSpan (lone n x) ≡ 2
@@ -263,27 +273,27 @@ pairs-of Q a b l r ps e f g h = subst (Each Q) (ap (λ n. scalePairs n b) e ∙ 
 
 -- ---- They are always composed.
 
-module _ (s : Settings) (limits : inLimits s ≡ true) (policy : s .policy ≡ Span) (long : 3 ≤ s .m) (roomy : AtLeast 2 (s .norm)) where
+module _ (s : Settings) (nodes : List LutNode) (limits : inLimits s ≡ true) (policy : s .policy ≡ Span) (long : 3 ≤ s .m) (room : RoomForTwo s nodes) where
   one-unfit : (left right : Cone) (n : ℕ) (U truth : List ℕ) (p : Scales) → U ≡ n ∷ [] → length truth ≡ 2 ^ length U → T (allBits truth)
-      → mergedCoefficients (n ∷ []) left right p ≡ pos 1 ∷ [] → Unfit s left right U truth p → ⊥
+      → mergedCoefficients (n ∷ []) left right p ≡ pos 1 ∷ [] → Unfit s nodes left right U truth p → ⊥
   one-unfit left right n U truth p e rows bits m u =
-      true≢false (sym (one-fits s limits long roomy n truth (rows ∙ ap (λ (l : List ℕ). 2 ^ length l) e) bits) ∙ unfit)
+      true≢false (sym (one-fits s nodes limits long room n truth (rows ∙ ap (λ (l : List ℕ). 2 ^ length l) e) bits) ∙ unfit)
     where
-      unfit : fits s (lone n truth) ≡ false
-      unfit = rw m at (subst (λ W. Unfit s left right W truth p) e u)
+      unfit : fits s nodes (lone n truth) ≡ false
+      unfit = rw m at (subst (λ W. Unfit s nodes left right W truth p) e u)
 
   two-unfit : (l r : ℕ) (x y U truth : List ℕ) → (l ≡ r → ⊥) → U ≡ l ∷ r ∷ [] → length truth ≡ 2 ^ length U → T (allBits truth)
-      → Each (Unfit s (lone l x) (lone r y) U truth) (scalePairs 2 2) → ⊥
+      → Each (Unfit s nodes (lone l x) (lone r y) U truth) (scalePairs 2 2) → ⊥
   unfolding merging
   two-unfit l r x y U truth apart e rows bits u =
-      let q = subst (Each (Unfit s (lone l x) (lone r y) (l ∷ r ∷ []) truth)) pairs-two-two (subst (λ W. Each (Unfit s (lone l x) (lone r y) W truth) (scalePairs 2 2)) e u) in
+      let q = subst (Each (Unfit s nodes (lone l x) (lone r y) (l ∷ r ∷ []) truth)) pairs-two-two (subst (λ W. Each (Unfit s nodes (lone l x) (lone r y) W truth) (scalePairs 2 2)) e u) in
       by truth (rows ∙ ap (λ (l : List ℕ). 2 ^ length l) e) bits
       (at (pos 1) (pos 1) (q .1 .1 .1 .1 .0)) (at (pos 1) (negsuc 0) (q .1 .1 .0)) (at (pos 1) (pos 0) (q .1 .1 .1 .0)) (at (pos 0) (pos 1) (q .0))
     where
       F : List ℕ → List ℤ → Type 0
-      F t cs = fits s (record { support = l ∷ r ∷ []; coefficients = cs; truth = t }) ≡ false
+      F t cs = fits s nodes (record { support = l ∷ r ∷ []; coefficients = cs; truth = t }) ≡ false
 
-      at : (a b : ℤ) → Unfit s (lone l x) (lone r y) (l ∷ r ∷ []) truth (scales a b) → F truth (normalised (a ∷ b ∷ []))
+      at : (a b : ℤ) → Unfit s nodes (lone l x) (lone r y) (l ∷ r ∷ []) truth (scales a b) → F truth (normalised (a ∷ b ∷ []))
       at a b u = rw (merged-two l r x y apart a b) at u
 
       by : (t : List ℕ) → length t ≡ 4 → T (allBits t) → F t (pos 1 ∷ pos 1 ∷ []) → F t (pos 1 ∷ negsuc 0 ∷ []) → F t (pos 1 ∷ pos 0 ∷ []) → F t (pos 0 ∷ pos 1 ∷ []) → ⊥
@@ -291,10 +301,10 @@ module _ (s : Settings) (limits : inLimits s ≡ true) (policy : s .policy ≡ S
       by (x ∷ []) q b = absurd (omega arith)
       by (x ∷ y ∷ []) q b = absurd (omega arith)
       by (x ∷ y ∷ z ∷ []) q b = absurd (omega arith)
-      by (x ∷ y ∷ z ∷ w ∷ []) q b = some-fits s limits long roomy l r x y z w b
+      by (x ∷ y ∷ z ∷ w ∷ []) q b = some-fits s nodes limits long room l r x y z w apart b
       by (x ∷ y ∷ z ∷ w ∷ v ∷ t) q b = absurd (omega arith)
 
-  module _ (nodes : List LutNode) (gate : List ℕ) (gate-bits : T (allBits gate)) where
+  module _ (gate : List ℕ) (gate-bits : T (allBits gate)) where
     abbrev Composed : Cone → Cone → Type 0
     Composed left right = compose s nodes left right gate ≡ none → ⊥
 
@@ -306,7 +316,7 @@ module _ (s : Settings) (limits : inLimits s ≡ true) (policy : s .policy ≡ S
 
     -- within the cap on sources a truth that is one bit throughout is a constant, and else a candidate is looked for
     from-pairs : (left right : Cone) → length (union left right) ≤ 2
-        → (allEqual (truthOf left right) ≡ false → Each (Unfit s left right (union left right) (truthOf left right)) (triedPairs Span (coneSpan left) (coneSpan right)) → ⊥)
+        → (allEqual (truthOf left right) ≡ false → Each (Unfit s nodes left right (union left right) (truthOf left right)) (triedPairs Span (coneSpan left) (coneSpan right)) → ⊥)
         → Composed left right
     unfolding compose
     from-pairs left right few h =
@@ -318,16 +328,16 @@ module _ (s : Settings) (limits : inLimits s ≡ true) (policy : s .policy ≡ S
         truth : List ℕ
         truth = truthOf left right
 
-        no-candidate : (o : Option Candidate) → Option·map (mergeCones s) o ≡ none → o ≡ none
+        no-candidate : (o : Option Candidate) → Option·map (mergeCones s nodes) o ≡ none → o ≡ none
         no-candidate none e = refl
         no-candidate (some d) e = absurd (zero≢one (cc))
 
         by : (a b : Bool) → allEqual truth ≡ b → a ≡ false
-            → (if a then none else if b then some (ok (constant (getD truth 0 0))) else Option·map (mergeCones s) (findCandidate s nodes U left right truth)) ≡ none → ⊥
+            → (if a then none else if b then some (ok (constant (getD truth 0 0))) else Option·map (mergeCones s nodes) (findCandidate s nodes U left right truth)) ≡ none → ⊥
         by true b g f e = true≢false f
         by false true g f e = zero≢one (cc)
         by false false g f e =
-            h g (subst (λ q. Each (Unfit s left right U truth) (triedPairs q (coneSpan left) (coneSpan right))) policy (none-fits s left right U truth nodes (no-candidate _ e)))
+            h g (subst (λ q. Each (Unfit s nodes left right U truth) (triedPairs q (coneSpan left) (coneSpan right))) policy (none-fits s nodes left right U truth (no-candidate _ e)))
 
     rows : (left right : Cone) → length (truthOf left right) ≡ 2 ^ length (union left right)
     rows left right = gateTruth-length left right gate (union left right)
@@ -364,10 +374,10 @@ module _ (s : Settings) (limits : inLimits s ≡ true) (policy : s .policy ≡ S
           (λ v e. two-unfit l r x y _ _ apart (union-two l r x y apart) (rows (lone l x) (lone r y)) (bits (lone l x) (lone r y))
           (pairs-of _ _ _ 2 2 _ (lone-span l x) (lone-span r y) refl e))
 
-    pub single-composed : (left right : Cone) → Standing s left → Standing s right → length (left .support) ≤ 1 → length (right .support) ≤ 1
+    pub single-composed : (left right : Cone) → Standing s nodes left → Standing s nodes right → length (left .support) ≤ 1 → length (right .support) ≤ 1
         → compose s nodes left right gate ≡ none → ⊥
     single-composed left right sl sr fl fr =
-        by (small-cone s left sl fl) (small-cone s right sr fr)
+        by (small-cone s nodes left sl fl) (small-cone s nodes right sr fr)
       where
         x : List ℕ
         x = left .truth

@@ -5,16 +5,17 @@ use mathlib.Core.List.{List, [], _∷_, _++_, map, append-nil, append-assoc}
 use mathlib.Core.Logic.{⊎-elim}
 use Prim.Native.Nat.{ℕ, _<_, _≤_}
 use native.Mathlib.Omega.{arith}
-use lib.ListN.{length, getD, length-append, List·getD-append}
+use lib.ListN.{length, getD, length-append}
 use lib.IntN.{ℤ, pos, natAbs}
-use Rattle.rules.specs.Network.{LutNode, isLinear, Input, isInput, count}
-use Rattle.rules.specs.NetworkText.{nodeAt, Net, NodeLine}
-use Rattle.rules.specs.Circuit.{Name}
+use Rattle.rules.specs.Network.{LutNode, isLinear, Input, isInput, count, nodeAt}
+use Rattle.rules.specs.NetworkText.{Net, NodeLine}
+use Rattle.rules.specs.Circuit.{Given}
 use Rattle.rules.specs.declared.Settings.{Settings}
 use Rattle.rules.specs.Store.{intern}
 use Rattle.theorems.specs.Admissible.{NodesPass, Passes, nodes-snoc}
 use Rattle.theorems.specs.Counts.{count-snoc}
 use Rattle.theorems.specs.Interned.{interned}
+use Rattle.theorems.specs.NodesAt.{node-before}
 
 -- Each of these is an earlier node and no sum.
 unfoldable pub Sources : List LutNode → List ℕ → Type 0
@@ -22,10 +23,10 @@ Sources nodes [] = Unit {0}
 Sources nodes (n ∷ ns) = ((n < length nodes) × (isLinear (nodeAt nodes n) ≡ false)) × Sources nodes ns
 
 -- The nodes pass admission in turn; the inputs are the first of them.
-pub record Store (n : Net) (names : List Name) (nodes : List LutNode) : Type 0 where
+pub record Store (n : Net) (inputs : List Given) (nodes : List LutNode) : Type 0 where
   pub passes : NodesPass n [] nodes
   pub rest : List LutNode
-  pub first : nodes ≡ map Input names ++ rest
+  pub first : nodes ≡ map Input inputs ++ rest
   pub no-more : count isInput rest ≡ 0
 
 -- The value of a node as a bit, under values of all nodes.
@@ -54,8 +55,7 @@ pub grown-longer : (nodes more : List LutNode) → Grown nodes more → length n
 grown-longer nodes more g = omega (arith, ap length (g .is), length-append nodes (g .tail))
 
 pub grown-node : (nodes more : List LutNode) (i : ℕ) → Grown nodes more → i < length nodes → nodeAt more i ≡ nodeAt nodes i
-unfolding nodeAt
-grown-node nodes more i g h = ap (λ ms. getD ms i (Input [])) (g .is) ∙ List·getD-append nodes (g .tail) (Input []) i h
+grown-node nodes more i g h = ap (λ ms. nodeAt ms i) (g .is) ∙ node-before nodes (g .tail) i h
 
 pub grown-sources : (nodes more : List LutNode) (ns : List ℕ) → Grown nodes more → Sources nodes ns → Sources more ns
 unfolding Sources
@@ -66,21 +66,21 @@ grown-sources nodes more (n ∷ ns) g h =
 
 -- ---- One more node.
 
-store-snoc : (n : Net) (names : List Name) (nodes : List LutNode) (x : LutNode) → Store n names nodes → Passes n nodes [] (NodeLine x) → isInput x ≡ false
-    → Store n names (nodes ++ (x ∷ []))
-store-snoc n names nodes x s p e =
+store-snoc : (n : Net) (inputs : List Given) (nodes : List LutNode) (x : LutNode) → Store n inputs nodes → Passes n nodes [] (NodeLine x) → isInput x ≡ false
+    → Store n inputs (nodes ++ (x ∷ []))
+store-snoc n inputs nodes x s p e =
     record {
       passes = nodes-snoc n [] nodes x (s .passes) p;
       rest = s .rest ++ (x ∷ []);
-      first = ap {B = List LutNode} (λ ms. ms ++ (x ∷ [])) (s .first) ∙ append-assoc (map Input names) (s .rest) (x ∷ []);
+      first = ap {B = List LutNode} (λ ms. ms ++ (x ∷ [])) (s .first) ∙ append-assoc (map Input inputs) (s .rest) (x ∷ []);
       no-more = count-snoc isInput (s .rest) x ∙ rw (s .no-more, e);
     }
 
 -- An interned node that passes after the nodes keeps the store.
-pub store-interned : (n : Net) (names : List Name) (nodes : List LutNode) (x : LutNode) → Store n names nodes → Passes n nodes [] (NodeLine x) → isInput x ≡ false
-    → Store n names (intern x nodes)
-store-interned n names nodes x s p e =
-    ⊎-elim (λ h. subst (Store n names) (sym h) s) (λ h. subst (Store n names) (sym h) (store-snoc n names nodes x s p e)) (interned x nodes .is)
+pub store-interned : (n : Net) (inputs : List Given) (nodes : List LutNode) (x : LutNode) → Store n inputs nodes → Passes n nodes [] (NodeLine x) → isInput x ≡ false
+    → Store n inputs (intern x nodes)
+store-interned n inputs nodes x s p e =
+    ⊎-elim (λ h. subst (Store n inputs) (sym h) s) (λ h. subst (Store n inputs) (sym h) (store-snoc n inputs nodes x s p e)) (interned x nodes .is)
 
 pub grown-interned : (x : LutNode) (nodes : List LutNode) → Grown nodes (intern x nodes)
 grown-interned x nodes =

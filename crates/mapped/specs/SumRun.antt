@@ -9,16 +9,17 @@ use native.Mathlib.Omega.{arith}
 use borrow.Author.Tests.{leb-false}
 use lib.Dec.{T}
 use lib.IntN.{ℤ, pos, natAbs, _+ℤ_, _*ℤ_}
-use lib.ListN.{length, getD, length-append, List·getD-append}
+use lib.ListN.{length, getD, length-append}
 use Rattle.laws.specs.Test.{neither-left, neither-right, zero≢one}
 use Rattle.rules.specs.Form.{Good}
-use Rattle.rules.specs.Network.{Term, LutNode, Input, Linear, Network, isLinear, count, isInput, sumFrom, nodeValues}
-use Rattle.rules.specs.NetworkText.{sources, unknown, nodeAt, anyBadSource, readAdmitted}
+use Rattle.rules.specs.Network.{Term, LutNode, Linear, Network, isLinear, count, isInput, sumFrom, nodeValues, nodeAt}
+use Rattle.rules.specs.NetworkText.{sources, unknown, anyBadSource, readAdmitted}
 use Rattle.rules.specs.Runs.{bitsFor}
 use Rattle.rules.specs.SumReading.{sumOfBits, Shown, sumReading}
 use Rattle.theorems.specs.Admissible.{NodesPass, netOf, lin-passes, admitted-admissible}
 use Rattle.theorems.specs.Bits.{all-bits, bits-nil, bits-cons}
 use Rattle.theorems.specs.Bounds.{Bounded}
+use Rattle.theorems.specs.NodesAt.{node-before}
 use Rattle.theorems.specs.SumLine.{LineOf, line-of}
 use Rattle.theorems.specs.SumReadingExact.{sum-reading-exact}
 use Rattle.mapped.specs.StoreValues.{ValueOf, run-value, run-bounded, source-value}
@@ -57,11 +58,11 @@ termBits values (t ∷ ts) = natAbs (getD values (t .node) (pos 0)) ∷ termBits
 module _ (front back : List LutNode) (values : List ℤ) (b : Bounded (front ++ back) values) where
   source-is-bit : (i : ℕ) → (unknown front i || isLinear (nodeAt front i)) ≡ false
       → (getD values i (pos 0) ≡ pos (natAbs (getD values i (pos 0)))) × (natAbs (getD values i (pos 0)) ≤ 1)
-  unfolding unknown nodeAt
+  unfolding unknown
   source-is-bit i e =
       let h = leb-false (length front) i (neither-left (unknown front i) _ e) in
       source-value (front ++ back) values b i (rw length-append (omega arith))
-      (ap isLinear (List·getD-append front back (Input []) i h) ∙ neither-right (unknown front i) _ e)
+      (ap isLinear (node-before front back i h) ∙ neither-right (unknown front i) _ e)
 
   terms-are-bits : (ts : List Term) → anyBadSource front (sources ts) ≡ false
       → T (bitsFor (length ts) (termBits values ts)) × (map (λ (t : Term). getD values (t .node) (pos 0)) ts ≡ map pos (termBits values ts))

@@ -53,12 +53,12 @@ used-total (c ∷ cs) (n ∷ ns) = by (isNonzero c) refl (used-total cs ns)
 
 -- ---- M = 2 leaves a cone at most one source.
 
-module _ (s : Settings) (short : s .m ≤ 2) where
-  fits-total : (c : Cone) → fits s c ≡ true → total (c .coefficients) ≤ 1
+module _ (s : Settings) (nodes : List LutNode) (short : s .m ≤ 2) where
+  fits-total : (c : Cone) → fits s nodes c ≡ true → total (c .coefficients) ≤ 1
   unfolding coneSpan values
-  fits-total c e = omega (arith, fit-span s c e, span-table (c .coefficients))
+  fits-total c e = omega (arith, fit-span s nodes c e, span-table (c .coefficients))
 
-  pub one-source : (c : Cone) → Standing s c → length (c .support) ≤ 1
+  pub one-source : (c : Cone) → Standing s nodes c → length (c .support) ≤ 1
   unfolding constant identity
   one-source c (is-constant b h e) = rw e (omega arith)
   one-source c (is-node n e) = rw e (omega arith)
@@ -101,7 +101,7 @@ two-as f g h t =
     }
 
 -- A cone that fits depends on sources whose coefficients are not 0.
-module _ (s : Settings) (c : Cone) (same : length (c .coefficients) ≡ length (c .support)) (rows : length (c .truth) ≡ 2 ^ length (c .support)) (fit : fits s c ≡ true) where
+module _ (s : Settings) (nodes : List LutNode) (c : Cone) (same : length (c .coefficients) ≡ length (c .support)) (rows : length (c .truth) ≡ 2 ^ length (c .support)) (fit : fits s nodes c ≡ true) where
   abbrev used : List ℕ
   used = sources (select isUsed (termsOver (c .coefficients) (c .support)))
 
@@ -110,7 +110,7 @@ module _ (s : Settings) (c : Cone) (same : length (c .coefficients) ≡ length (
     where
       unseen : member n used ≡ false → coneBit (d .one) c ≡ coneBit (d .other) c
       unseen e =
-          one-truth c same (fits-consistent s c same rows fit) (d .one) (d .other) (bits-of (d .one) (c .support) (λ m h. d .one-bits m))
+          one-truth c same (fits-consistent s nodes c same rows fit) (d .one) (d .other) (bits-of (d .one) (c .support) (λ m h. d .one-bits m))
           (bits-of (d .other) (c .support) (λ m h. d .other-bits m))
           (weigh-used (d .one) (d .other) (c .coefficients) (c .support) same
           (λ m h. d .alone m (λ q. true≢false (sym h ∙ ap (λ k. member k used) q ∙ e))))
@@ -119,12 +119,12 @@ module _ (s : Settings) (c : Cone) (same : length (c .coefficients) ≡ length (
   one-at-most : s .m ≤ 2 → DependsOnTwo (λ bit. coneBit bit c) → ⊥
   one-at-most short t =
       t .apart (not-both used (t .first) (t .second)
-      (omega (arith, sources-length (select isUsed (termsOver (c .coefficients) (c .support))), used-total (c .coefficients) (c .support), fits-total s short c fit))
+      (omega (arith, sources-length (select isUsed (termsOver (c .coefficients) (c .support))), used-total (c .coefficients) (c .support), fits-total s nodes short c fit))
       (depends-used (t .first) (t .on-first)) (depends-used (t .second) (t .on-second)))
 
 -- ---- A gate that depends on two sources is not composed.
 
-module _ (s : Settings) (short : s .m ≤ 2) (left right : Cone) (gate : List ℕ) (two : DependsOnTwo (answer left right gate)) where
+module _ (s : Settings) (nodes : List LutNode) (short : s .m ≤ 2) (left right : Cone) (gate : List ℕ) (two : DependsOnTwo (answer left right gate)) where
   abbrev union : List ℕ
   union = unionSupport (left .support) (right .support)
 
@@ -149,16 +149,16 @@ module _ (s : Settings) (short : s .m ≤ 2) (left right : Cone) (gate : List �
       at : allEqual rows ≡ true → (bit : ℕ → ℕ) → ((n : ℕ) → bit n ≤ 1) → coneBit bit merged ≡ getD rows 0 0
       at e bit b = unfold mergedCone in (constant-bit (mergedCone left right gate []) (gateTruth-length left right gate union) e bit (all-bits-of bit b))
 
-  no-candidate : (d : Candidate) → Found s left right gate d → ⊥
+  no-candidate : (d : Candidate) → Found s nodes left right gate d → ⊥
   unfolding mergedCone
   no-candidate d f =
-      one-at-most s (mergedCone left right gate (mergedCoefficients union left right (f .pair))) (merged-long union left right (f .pair))
-      (gateTruth-length left right gate union) (subst (λ m. fits s m ≡ true) (f .is) (f .fit)) short (merged-two _)
+      one-at-most s nodes (mergedCone left right gate (mergedCoefficients union left right (f .pair))) (merged-long union left right (f .pair))
+      (gateTruth-length left right gate union) (subst (λ m. fits s nodes m ≡ true) (f .is) (f .fit)) short (merged-two _)
 
-  pub compose-none : (nodes : List LutNode) → compose s nodes left right gate ≡ none
+  pub compose-none : compose s nodes left right gate ≡ none
   unfolding compose
-  compose-none nodes = rw varies (if-both (λ o. o ≡ none) (ltb (s .t + 1) (length union)) refl (by (findCandidate s nodes union left right rows) (found s nodes left right gate)))
+  compose-none = rw varies (if-both (λ o. o ≡ none) (ltb (s .t + 1) (length union)) refl (by (findCandidate s nodes union left right rows) (found s nodes left right gate)))
     where
-      by : (o : Option Candidate) → ((d : Candidate) → o ≡ some d → Found s left right gate d) → Option·map (mergeCones s) o ≡ none
+      by : (o : Option Candidate) → ((d : Candidate) → o ≡ some d → Found s nodes left right gate d) → Option·map (mergeCones s nodes) o ≡ none
       by none f = refl
       by (some d) f = absurd (no-candidate d (f d refl))

@@ -128,7 +128,7 @@ module _ (s : Settings) where
   module _ (short : s .m ≤ 2) where
     attempt-none : (w : Sides) (next : Result Mapped) → Small w → orElse w (attempt s w) next ≡ next
     unfolding attempt orElse
-    attempt-none w next k = ap (λ o. orElse w o next) (compose-none s short (w .left .cone) (w .right .cone) (w .gate) (k .two) (w .nodes))
+    attempt-none w next k = ap (λ o. orElse w o next) (compose-none s (w .nodes) short (w .left .cone) (w .right .cone) (w .gate) (k .two))
 
     third-refuses : (w : Sides) → Small w → thirdAttempt s w ≡ err 9
     unfolding thirdAttempt
@@ -139,23 +139,23 @@ module _ (s : Settings) where
     second-refuses w k = let z = left-stays w k in rw (z .1) (attempt-none (z .0) (thirdAttempt s (z .0)) (z .2) ∙ third-refuses (z .0) (z .2))
 
     binary-refuses : (nodes : List LutNode) (left right : Cone) (gate : List ℕ) → Small (sides nodes left right gate) → mapBinaryGate s nodes left right gate ≡ err 9
-    unfolding mapBinaryGate largerFirst
+    unfolding mapBinaryGate largerFirst sides
     binary-refuses nodes left right gate k =
-        let first = if-both Small (less (coneOrderKey (sides nodes left right gate .left .cone)) (coneOrderKey (sides nodes left right gate .right .cone))) (small-switched (sides nodes left right gate) k) k in
+        let first = if-both Small (less (coneOrderKey nodes (sides nodes left right gate .left .cone)) (coneOrderKey nodes (sides nodes left right gate .right .cone))) (small-switched (sides nodes left right gate) k) k in
         let z = limit-stays (largerFirst (sides nodes left right gate)) first in
         rw (z .1) (attempt-none (z .0) (secondAttempt s (z .0)) (z .2) ∙ second-refuses (z .0) (z .2))
 
-    gate-refuses : (nodes : List LutNode) (left right : Cone) (gate : List ℕ) → Standing s left → Standing s right → DependsOnTwo (answer left right gate)
+    gate-refuses : (nodes : List LutNode) (left right : Cone) (gate : List ℕ) → Standing s nodes left → Standing s nodes right → DependsOnTwo (answer left right gate)
         → mapGate s nodes (left ∷ right ∷ []) gate ≡ err 9
     unfolding mapGate sides
     gate-refuses nodes left right gate sl sr two =
-        let l = one-source s short left sl in
-        let r = one-source s short right sr in
+        let l = one-source s nodes short left sl in
+        let r = one-source s nodes short right sr in
         rw (left-varies left right gate two r, right-varies left right gate two l)
         (binary-refuses nodes left right gate
-        (record { left = l; right = r; left-bits = standing-shape s left sl .bits; right-bits = standing-shape s right sr .bits; two = two }))
+        (record { left = l; right = r; left-bits = standing-shape s nodes left sl .bits; right-bits = standing-shape s nodes right sr .bits; two = two }))
 
-    next-refuses : (outputs : List Output) (st : State) (g : Gate) (left right : Cone) → map (coneAt (st .cones)) (g .wires) ≡ left ∷ right ∷ [] → Standing s left → Standing s right
+    next-refuses : (outputs : List Output) (st : State) (g : Gate) (left right : Cone) → map (coneAt (st .cones)) (g .wires) ≡ left ∷ right ∷ [] → Standing s (st .nodes) left → Standing s (st .nodes) right
         → DependsOnTwo (answer left right (g .bits)) → mapNext s outputs st g ≡ err 9
     unfolding mapNext
     next-refuses outputs st g left right e sl sr two = rw (e, gate-refuses (st .nodes) left right (g .bits) sl sr two)

@@ -30,7 +30,7 @@ abbrev circuit : Circuit
 circuit =
     record {
       settings = record { p = 16; m = 16; t = 10; norm = Unlimited; policy = Basic; many = false };
-      inputs = bytes "a" ∷ bytes "b" ∷ [];
+      inputs = record { name = bytes "a"; weight = 1 } ∷ record { name = bytes "b"; weight = 1 } ∷ [];
       gates = gate ∷ [];
       outputs = record { name = bytes "y"; wire = Node 2 } ∷ [];
     }

@@ -18,7 +18,7 @@ unfoldable pub uncappedCompose : Settings → List LutNode → Cone → Cone →
 uncappedCompose s nodes left right gate =
     let support = unionSupport (left .support) (right .support) in
     let truth = gateTruth support left right gate in
-    let merged = Option·map (mergeCones s) (findCandidate s nodes support left right truth) in
+    let merged = Option·map (mergeCones s nodes) (findCandidate s nodes support left right truth) in
     if allEqual truth then some (ok (constant (getD truth 0 0))) else merged
 
 unfoldable pub uncappedAttempt : Settings → Sides → Option (Result Cone)

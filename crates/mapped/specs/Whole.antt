@@ -76,7 +76,7 @@ module _ (c : Circuit) (sound : Sound c) where
       let i = parts .inputsFit in
       let g = parts .gatesFit in
       gates-known s (c .inputs) (used-limits (c .settings) (sound .settings .limits)) (c .outputs) (start c) st (λ bits. bits) 0 (length (c .inputs)) (c .gates)
-      (start-known s c (parts .different) i) (parts .gatesSound) i (omega arith) e
+      (start-known s c (parts .different) (parts .weights) i) (parts .gatesSound) i (omega arith) e
 
   -- when a gate is reached, and of that gate
   pub reached-known : (before after : List Gate) (g : Gate) (st : State) → c .gates ≡ before ++ (g ∷ after) → mapGates s (c .outputs) (start c) before ≡ Good st
@@ -89,14 +89,14 @@ module _ (c : Circuit) (sound : Sound c) where
       let l = ap length split ∙ length-append before (g ∷ after) in
       let z = gate-sound (length (c .inputs)) before g after (subst (SoundGates (length (c .inputs))) split (parts .gatesSound)) in (
         gates-known s (c .inputs) (used-limits (c .settings) (sound .settings .limits)) (c .outputs) (start c) st (λ bits. bits) 0 (length (c .inputs)) before
-            (start-known s c (parts .different) i) (z .0) i (omega arith) e,
+            (start-known s c (parts .different) (parts .weights) i) (z .0) i (omega arith) e,
         z .1,
         omega arith,
       )
 
   -- why the gate is refused
   pub gate-refusal : (before after : List Gate) (g : Gate) (st : State) (k : ℕ) → c .gates ≡ before ++ (g ∷ after) → mapGates s (c .outputs) (start c) before ≡ Good st
-      → mapNext s (c .outputs) st g ≡ err k → Refusal s k
+      → mapNext s (c .outputs) st g ≡ err k → Refusal s (c .inputs) k
   gate-refusal before after g st k split e q =
       let z = reached-known before after g st split e in
       let l = z .2 in
@@ -137,7 +137,7 @@ module _ (c : Circuit) (sound : Sound c) where
 
 checked-same : (s : Settings) (v w : Network) → checked s v ≡ Good w → v ≡ w
 unfolding checked
-checked-same s v w = by (isBasic (s .policy) && not (withinNorm s (largest nodeNorm (v .nodes))))
+checked-same s v w = by (isBasic (s .policy) && not (withinNorm s (largest (nodeNorm (v .nodes)) (v .nodes))))
   where
     by : (b : Bool) → (if b then Refused 8 0 else Good v) ≡ Good w → v ≡ w
     by true e = absurd (zero≢one (cc))
@@ -199,7 +199,7 @@ module _ (text buffer : List ℕ) where
         let r = gates-refused s (c .outputs) (start c) (c .gates) k line e in
         let sound = read-sound text c read in
         let g = reached-known c sound (r .before) (r .after) (r .gate) (r .state) (r .are) (r .reached) .1 in
-        let l = refusal-number s k (gate-refusal c sound (r .before) (r .after) (r .gate) (r .state) k (r .are) (r .reached) (r .refuses)) in
+        let l = refusal-number s (c .inputs) k (gate-refusal c sound (r .before) (r .after) (r .gate) (r .state) k (r .are) (r .reached) (r .refuses)) in
         let most = l .1 in
         is-refused c (r .before) (r .after) (r .gate) (r .state) k read (r .are) (r .reached) (r .refuses) (l .0) (omega arith) (g .placed)
         (refusal k (r .gate .line) (rw (read, e, r .at) refl))
@@ -207,15 +207,15 @@ module _ (text buffer : List ℕ) where
     over-or-not : (st : State) (done : Outputs) → mapGates (usedSettings (c .settings)) (c .outputs) (start c) (c .gates) ≡ Good st
         → mapOutputs (usedSettings (c .settings)) (st .cones) (record { nodes = st .nodes; outputs = [] }) (c .outputs) ≡ ok done → Whole text buffer
     unfolding andThen mapCircuit mapWith finish atLine checked
-    over-or-not st done e q = by (isBasic (s .policy) && not (withinNorm s (largest nodeNorm (pruned s done .nodes)))) refl
+    over-or-not st done e q = by (isBasic (s .policy) && not (withinNorm s (largest (nodeNorm (pruned s done .nodes)) (pruned s done .nodes)))) refl
       where
         s : Settings
         s = usedSettings (c .settings)
 
-        by : (b : Bool) → (isBasic (s .policy) && not (withinNorm s (largest nodeNorm (pruned s done .nodes)))) ≡ b → Whole text buffer
+        by : (b : Bool) → (isBasic (s .policy) && not (withinNorm s (largest (nodeNorm (pruned s done .nodes)) (pruned s done .nodes)))) ≡ b → Whole text buffer
         by true t =
             is-over c st done read e q (both-left (isBasic (s .policy)) _ t)
-            (not-true (withinNorm s (largest nodeNorm (pruned s done .nodes))) (both-right (isBasic (s .policy)) _ t)) (refusal 8 0 (rw (read, e, q, t) refl))
+            (not-true (withinNorm s (largest (nodeNorm (pruned s done .nodes)) (pruned s done .nodes))) (both-right (isBasic (s .policy)) _ t)) (refusal 8 0 (rw (read, e, q, t) refl))
         by false t = network-whole (pruned s done) (rw (read, e, q, t) refl)
 
     circuit-whole : (r : Reading State) → mapGates (usedSettings (c .settings)) (c .outputs) (start c) (c .gates) ≡ r → Whole text buffer

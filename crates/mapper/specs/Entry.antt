@@ -24,7 +24,7 @@ use Rattle.circuit.specs.declared.Circuit.{Circuit}
 use Rattle.circuit.specs.declared.Reading.{Reading}
 use Rattle.circuit.specs.declared.Reading.the-variants.{Good, Refused}
 use Rattle.circuit.specs.Fits.{Fits, answer-bits, read-fits}
-use Rattle.circuit.specs.View.{gatesIn, inputName, inputNames, outputsIn, circuitOf, readingOf, Held}
+use Rattle.circuit.specs.View.{gatesIn, inputIn, inputsIn, outputsIn, circuitOf, readingOf, Held}
 use Rattle.gates.specs.declared.Work.{Work}
 use Rattle.gates.specs.Wired.{SlotIn, stateOf}
 use Rattle.gates.specs.Gates.{GoodGates}
@@ -57,7 +57,7 @@ module _ (s gs ps : List ℕ) (c : Circuit) (r : Read s gs ps c) where
   read-limits u e = ap inLimits e ∙ used-limits (c .settings) (fits .limits)
 
   pub read-inputs : Inputs s ps (c .inputs)
-  read-inputs = record { long = r .held .portsLong; few = fits .inputs; name = fits .input }
+  read-inputs = record { long = r .held .portsLong; few = fits .inputs; name = fits .input; weight = fits .weight }
 
   pub read-gates : GoodGates gs (c .inputs) (c .gates)
   read-gates =
@@ -101,10 +101,10 @@ with-once u c = sym (then-then _ _ _)
 
 started-is : (s gs ps : List ℕ) (c : Circuit) (nodes wires : List ℕ) → Started s ps (c .inputs) nodes wires
     → stateOf nodes (c .inputs) wires (c .inputs) ≡ start (circuitOf s gs ps c)
-unfolding start circuitOf inputNames
+unfolding start circuitOf inputsIn
 started-is s gs ps c nodes wires h =
     h .state
-    ∙ ap (λ n. record { nodes = map Input (tabulate (c .inputs) (inputName s ps)); cones = tabulate n identity }) (sym (tabulate-length (c .inputs) (inputName s ps)))
+    ∙ ap (λ n. record { nodes = map Input (tabulate (c .inputs) (inputIn s ps)); cones = tabulate n identity }) (sym (tabulate-length (c .inputs) (inputIn s ps)))
 
 module _ (s gs ps : List ℕ) (c : Circuit) (u : Settings) (eu : u ≡ usedSettings (c .settings)) (nodes wires after ports : List ℕ) (w : Work) (h : Started s ps (c .inputs) nodes wires)
     (e : doneRead s after ports (c .outs) w ≡ mapOnce u (outputsIn s ps (c .outs)) (stateOf nodes (c .inputs) wires (c .inputs)) (gatesIn gs (c .inputs) (c .gates))) where

@@ -21,7 +21,7 @@ fn map_circuit(
     out: &mut [u8],
     c: Circuit,
     gates: &[u8; 576],
-    ports: &mut [usize; 160],
+    ports: &mut [usize; 192],
 ) -> MapReply
     requires { ⌜ Read (now s) (now gates) (now ports) c ⌝ }
     ensures { λ r. ⌜ outcome (mapReply r) (now (out .exit)) ≡ answerWith (now (out .entry)) (mapCircuit (circuitOf (now (s .entry)) (now (gates .entry)) (now (ports .entry)) c)) ⌝ }
@@ -52,7 +52,7 @@ pub fn map(s: &[u8], out: &mut [u8]) -> MapReply
     ensures { λ r. ⌜ outcome (mapReply r) (now (out .exit)) ≡ mapper (now (s .entry)) (now (out .entry)) ⌝ }
 {
     let mut gates = [0u8; 576];
-    let mut ports = [0usize; 160];
+    let mut ports = [0usize; 192];
     let r = read(s, &mut gates, &mut ports);
     match r {
         Reading::Good(c) => map_circuit(s, out, c, &gates, &mut ports),

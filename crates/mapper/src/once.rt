@@ -20,7 +20,7 @@ pub fn map_once(
     nodes: &mut [u8; 25536],
     wires: &mut [u8; 8580],
     gates: &[u8; 576],
-    ports: &mut [usize; 160],
+    ports: &mut [usize; 192],
     inputs: usize,
     n: usize,
     outs: usize,

@@ -8,8 +8,8 @@ use lib.ListN.{length, getD}
 use lib.Signed.{quotZ}
 use Rattle.laws.specs.Integer.{ints, plus, minus, add-parts, plus-mul, minus-mul}
 use Rattle.rules.specs.Scale.{divisor, quotients, normalised}
-use Rattle.rules.specs.Cone.{Cone, linearTable}
-use Rattle.rules.specs.Store.{terms, coefficientOf}
+use Rattle.rules.specs.Cone.{Cone, linearTable, terms}
+use Rattle.rules.specs.Store.{coefficientOf}
 use Rattle.rules.specs.Composition.{Scales, mergedCoefficients}
 use Rattle.scale.specs.Divisor.{divisor-not-zero, normalised-exact}
 use Rattle.compose.specs.Basis.{coefficientsOver}

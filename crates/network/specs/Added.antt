@@ -13,7 +13,7 @@ use Rattle.laws.specs.Test.{if_then_else_, isSome, and-left, is-T}
 use Rattle.rules.specs.declared.Limit.{Limit}
 use Rattle.rules.specs.declared.Wire.{Wire}
 use Rattle.rules.specs.Builder.{tableLimits}
-use Rattle.rules.specs.Circuit.{Output}
+use Rattle.rules.specs.Circuit.{Given, Output}
 use Rattle.rules.specs.CircuitText.{noNode}
 use Rattle.rules.specs.Network.{LutNode, Input, Linear, Bootstrap, isInput}
 use Rattle.rules.specs.NetworkText as N
@@ -110,7 +110,7 @@ module _ (judge : Bool) {text nodes ports : List ℕ} {h : Header} (k : Holds te
   node-prefix n after a s e f g i =
       rw (e, f, g) (ap (λ (x : List LutNode). record { net = netOf h; nodes = x; outputs = outputsOf text ports (h .outputs) }) (a .store))
 
-  in-added : (n : List ℕ) (after : List ℕ) → Adds (Input n) nodes (h .count) after → refusal judge (prefixOf text nodes ports h) (some (NodeLine (Input n))) ≡ 0
+  in-added : (n : Given) (after : List ℕ) → Adds (Input n) nodes (h .count) after → refusal judge (prefixOf text nodes ports h) (some (NodeLine (Input n))) ≡ 0
       → Added text nodes ports h (NodeLine (Input n)) (withInput h) after ports
   unfolding isInput Sound netOf allInputs prefixOf withInput
   in-added n after a e =
@@ -168,7 +168,7 @@ module _ (judge : Bool) {text nodes ports : List ℕ} {h : Header} (k : Holds te
   line-added at end o (NetRead p q n) v m s nodes₁ ports₁ i b z e f =
       let d = Option·some-injective _ _ e in
       rw (← d, f .0, f .1, f .2) (net-added p q n (rw (← d) at z))
-  line-added at end o (In a t) v m s nodes₁ ports₁ i b z e f =
+  line-added at end o (In a t y) v m s nodes₁ ports₁ i b z e f =
       let d = Option·some-injective _ _ e in
       rw (← d, f .0, f .2) (in-added _ nodes₁ (f .1) (rw (← d) at z))
   line-added at end o Sum v m s nodes₁ ports₁ i b z e f =

@@ -6,14 +6,12 @@ use mathlib.Core.Logic.{⊎-elim}
 use Prim.Native.Nat.{ℕ, _+_, _<_, _≤_}
 use native.Mathlib.Omega.{arith}
 use borrow.Author.Tests.{lt-ltb, le-ltb}
-use lib.ListN.{List·getD-append}
-use lib.Seq.{getD-at}
 use Rattle.laws.specs.Tabulate.{tabulate-same}
 use Rattle.laws.specs.Test.{if_then_else_, lt-or-le}
 use Rattle.rules.specs.Network as W
-use Rattle.rules.specs.Network.{LutNode, Input, isInput}
-use Rattle.rules.specs.NetworkText.{nodeAt}
+use Rattle.rules.specs.Network.{LutNode, isInput, nodeAt}
 use Rattle.theorems.specs.Counts.{count-snoc, count-most}
+use Rattle.theorems.specs.NodesAt.{node-before, node-next}
 use Rattle.nodes.specs.View.{nodeOf, storeOf, at-store, store-length}
 use Rattle.network.specs.Put.{Adds, withNode, withInput}
 use Rattle.network.specs.View.{Sound, IsSignal, Holds}
@@ -21,19 +19,17 @@ use Rattle.network_judge.specs.declared.Header.{Header}
 
 module _ (nodes after : List ℕ) (count : ℕ) (n : LutNode) (k : Adds n nodes count after) where
   old-node : (i : ℕ) → i < count → nodeOf after i ≡ nodeOf nodes i
-  unfolding nodeAt
   old-node i h =
       sym (at-store after i (count + 1) (omega arith))
       ∙ ap (λ (ns : List LutNode). nodeAt ns i) (k .store)
-      ∙ List·getD-append (storeOf nodes count) (n ∷ []) (Input []) i (rw (store-length nodes count) h)
+      ∙ node-before (storeOf nodes count) (n ∷ []) i (rw (store-length nodes count) h)
       ∙ at-store nodes i count h
 
   new-node : nodeOf after count ≡ n
-  unfolding nodeAt
   new-node =
       sym (at-store after count (count + 1) (omega arith))
       ∙ ap (λ (ns : List LutNode). nodeAt ns count) (k .store)
-      ∙ getD-at (storeOf nodes count) n [] (Input []) count (store-length nodes count)
+      ∙ node-next (storeOf nodes count) n [] count (store-length nodes count)
 
   old-store : (i : ℕ) → i ≤ count → storeOf after i ≡ storeOf nodes i
   unfolding storeOf

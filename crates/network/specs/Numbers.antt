@@ -17,18 +17,18 @@ use Rattle.rules.specs.declared.Wire.{Wire}
 use Rattle.rules.specs.Circuit as C
 use Rattle.rules.specs.Form.{Condition, _when_, bitsFrom}
 use Rattle.rules.specs.Network as W
-use Rattle.rules.specs.Network.{Term, LutNode, Input, Linear, Bootstrap, leastOf, greatestOf, isInput, isLinear, nodeNorm}
+use Rattle.rules.specs.Network.{Term, LutNode, Input, Linear, Bootstrap, leastOf, greatestOf, isInput, isLinear, nodeNorm, nodeAt}
 use Rattle.rules.specs.NetworkText as N
-use Rattle.rules.specs.NetworkText.{Net, NetLine, NodeLine, OutLine, NetPrefix, networkLine, allInputs, unknown, nodeAt, sources, anyBadSource, ending, settingsOf, fitsTable, safetyConditions}
+use Rattle.rules.specs.NetworkText.{Net, NetLine, NodeLine, OutLine, NetPrefix, networkLine, allInputs, unknown, sources, anyBadSource, ending, settingsOf, fitsTable, safetyConditions}
 use Rattle.text.specs.Judged.{lowest, unmet}
 use Rattle.nodes.specs.View.{FineTerms}
-use Rattle.network_text.specs.Lines.{lineIn, lineOf, TablePlace, Within, LineRead}
+use Rattle.network_text.specs.Lines.{givenAt, lineIn, lineOf, TablePlace, Within, LineRead}
 use Rattle.network_text.specs.Terms.{termsFrom, termsAt, termsOf, Small}
 use Rattle.network_text.specs.declared.line.Line.{Line}
 use Rattle.network_text.specs.declared.line.Line.the-variants.{Bad, Net as NetRead, In, Lin as Sum, Boot, Out}
 use Rattle.network_text.specs.declared.line.Read.{Read}
 use Rattle.network_text.specs.declared.sum.Lin.{Lin}
-use Rattle.network_bounds.specs.Bounds.{fitOf, nodeFit, coefNorm}
+use Rattle.network_bounds.specs.Bounds.{fitOf, nodeFit}
 use Rattle.network_judge.specs.Conditions.{inConditions, nodeConditions, linConditions, bootConditions, wireConditions, outConditions, lineConditions}
 use Rattle.network.specs.Put.{RoomFor}
 use Rattle.network_bounds.specs.Table.{table-length}
@@ -81,7 +81,7 @@ module _ (judge : Bool) {h : Header} {w : NetPrefix} (s : Says h w) where
       rw (s .unstarted, not-not (N.started w))
       (if-both (λ (ks : List Condition). lowest ((21 when N.started w) ∷ []) ≡ lowest ((21 when N.started w) ∷ ks)) judge refl refl)
 
-  in-number : (n : C.Name) → lowest (inConditions h (w .nodes) n) ≡ goodRefusal judge w (some (NodeLine (Input n)))
+  in-number : (n : C.Given) → lowest (inConditions h (w .nodes) (n .name)) ≡ goodRefusal judge w (some (NodeLine (Input n)))
   unfolding goodRefusal laterConditions safety safetyConditions inConditions ending allInputs
   in-number n =
       rw (s .unstarted, s .outputs, s .inputs, s .count)
@@ -91,7 +91,7 @@ module _ (judge : Bool) {h : Header} {w : NetPrefix} (s : Says h w) where
       judge refl refl)
 
   lin-number : (c : ℤ) (ts : List Term) → lowest (linConditions judge h (w .nodes) ts) ≡ goodRefusal judge w (some (NodeLine (Linear c ts)))
-  unfolding goodRefusal laterConditions safety safetyConditions linConditions nodeConditions ending nodeNorm coefNorm lowest
+  unfolding goodRefusal laterConditions safety safetyConditions linConditions nodeConditions ending nodeNorm lowest
   lin-number c ts =
       ⊎-elim (λ (e : h .p ≡ 0). rw (eq-eqb (h .p) 0 e, early e)) (λ (e : h .p ≡ 0 → ⊥). rw (s .unstarted, s .outputs, s .count, s .settings e)) (eq-or-ne (h .p) 0)
 
@@ -112,7 +112,7 @@ module _ (judge : Bool) {h : Header} {w : NetPrefix} (s : Says h w) where
   unfolding lineConditions lineIn goodRefusal lowest
   line-number l Bad v p = refl
   line-number l (NetRead p m n) v q = net-number (record { p = p; m = m; norm = n })
-  line-number l (In a e) v q = in-number (take (e - a) (drop a l))
+  line-number l (In a e u) v q = in-number (givenAt l a e u)
   line-number l Sum v q = lin-number (v .constant) (termsOf v)
   line-number l (Boot i a e) v q = boot-number l i a e q
   line-number l (Out a e u) v q = out-number (take (e - a) (drop a l)) u
@@ -143,7 +143,7 @@ module _ (judge : Bool) {h : Header} {w : NetPrefix} (s : Says h w) where
   unfolding lineConditions RoomFor inConditions linConditions bootConditions nodeConditions outConditions
   line-room l Bad v q e = tt
   line-room l (NetRead p m n) v q e = tt
-  line-room l (In a t) v q e =
+  line-room l (In a t u) v q e =
       let order = unmet _ _ (omega arith) (unmet _ _ (omega arith) e .1) in
       let few = leb-false 32 (h .count) (unmet _ _ (omega arith) (order .1) .0) in
       (omega arith, s .few-inputs)

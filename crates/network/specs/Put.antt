@@ -17,8 +17,9 @@ use Rattle.text.specs.Name.{Named}
 use Rattle.theorems.specs.Bits.{bit-at}
 use Rattle.lut.specs.Store.{put-new}
 use Rattle.nodes.specs.Sums.{in-length, fine-more}
-use Rattle.nodes.specs.View.{recordOf, storeOf, putAt, term, termsOver, termsIn, FineTerms, Fine, GoodTerms, IsStore}
-use Rattle.network_text.specs.Lines.{TablePlace, Within}
+use Rattle.nodes.specs.View.{given, recordOf, storeOf, putAt, term, termsOver, termsIn, FineTerms, Fine, GoodTerms, IsStore}
+use Rattle.theorems.specs.Weights.{GoodWeight}
+use Rattle.network_text.specs.Lines.{TablePlace, Within, givenAt}
 use Rattle.network_text.specs.Terms.{termsFrom, termsAt, termsOf, Small}
 use Rattle.network_text.specs.declared.line.Line.{Line}
 use Rattle.network_text.specs.declared.line.Line.the-variants.{Bad, Net as NetRead, In, Lin as Sum, Boot, Out}
@@ -58,7 +59,7 @@ withOutput h = record { p = h .p; m = h .m; norm = h .norm; count = h .count; in
 unfoldable pub RoomFor : Header → Line → Lin → Type 0
 RoomFor h Bad v = Unit {0}
 RoomFor h (NetRead p m n) v = Unit {0}
-RoomFor h (In a e) v = (h .count < 672) × (h .inputs ≤ 32)
+RoomFor h (In a e w) v = (h .count < 672) × (h .inputs ≤ 32)
 RoomFor h Sum v = (h .count < 672) × FineTerms (h .count) (termsOf v)
 RoomFor h (Boot i a e) v = (h .count < 672) × (i < h .count)
 RoomFor h (Out a e w) v = h .outputs < 32
@@ -74,7 +75,7 @@ pub record Ready (h : Header) (at : ℕ) (l : List ℕ) (line : Line) (v : Lin) 
 unfoldable pub Follows : Header → ℕ → List ℕ → Line → Lin → List ℕ → List ℕ → Header → List ℕ → List ℕ → Type 0
 Follows h at l Bad v nodes ports s nodes₁ ports₁ = (s ≡ h) × (nodes₁ ≡ nodes) × (ports₁ ≡ ports)
 Follows h at l (NetRead p m n) v nodes ports s nodes₁ ports₁ = (s ≡ withNet h p m n) × (nodes₁ ≡ nodes) × (ports₁ ≡ ports)
-Follows h at l (In a e) v nodes ports s nodes₁ ports₁ = (s ≡ withInput h) × Adds (Input (take (e - a) (drop a l))) nodes (h .count) nodes₁ × (ports₁ ≡ ports)
+Follows h at l (In a e w) v nodes ports s nodes₁ ports₁ = (s ≡ withInput h) × Adds (Input (givenAt l a e w)) nodes (h .count) nodes₁ × (ports₁ ≡ ports)
 Follows h at l Sum v nodes ports s nodes₁ ports₁ = (s ≡ withNode h) × Adds (Linear (v .constant) (termsOf v)) nodes (h .count) nodes₁ × (ports₁ ≡ ports)
 Follows h at l (Boot i a e) v nodes ports s nodes₁ ports₁ = (s ≡ withNode h) × Adds (Bootstrap i (bitsFrom (take (e - a) (drop a l)))) nodes (h .count) nodes₁ × (ports₁ ≡ ports)
 Follows h at l (Out a e w) v nodes ports s nodes₁ ports₁ = (s ≡ withOutput h) × (nodes₁ ≡ nodes) × (ports₁ ≡ withPort ports (h .outputs) (at + a) (at + e) (signalOf w))
@@ -128,6 +129,12 @@ module _ (nodes : List ℕ) (count i : ℕ) (l : List ℕ) (a e : ℕ) (p : Tabl
       (f ∙ ap (λ b. recordOf (Bootstrap i b)) (lent q)) g in
       record { store = n .0; still = n .1 }
 
+-- ---- An input's weight.
+
+pub input-added : {nodes after name : List ℕ} {count v w : ℕ} → v ≡ w → storeOf after (count + 1) ≡ storeOf nodes count ++ (Input (given name v) ∷ []) → IsStore after (count + 1)
+    → Adds (Input (given name w)) nodes count after
+input-added e f s = record { store = rw (← e) f; still = s }
+
 -- ---- A wire's signal.
 
 pub signal-constant : {w : Wire} {b n : ℕ} → w ≡ Const b → n ≡ b → 1000 + n ≡ signalOf w
@@ -136,15 +143,12 @@ signal-constant e f = rw (e, f)
 -- ---- A line told apart.
 
 module _ {h : Header} {at : ℕ} {l : List ℕ} {line : Line} {v : Lin} {nodes ports : List ℕ} (r : Ready h at l line v nodes ports) where
-  named : {a e : ℕ} → line ≡ In a e → Named (length l) a e
-  named q = subst (Within l) q (r .within)
-
-  pub in-room : {a e : ℕ} → line ≡ In a e → (h .count < 672) × (h .inputs ≤ 32)
+  pub in-room : {a e w : ℕ} → line ≡ In a e w → (h .count < 672) × (h .inputs ≤ 32)
   unfolding RoomFor
   in-room q = subst (λ x. RoomFor h x v) q (r .room)
 
-  pub in-ready : {a e : ℕ} → line ≡ In a e → IsStore nodes (h .count) × (h .count < 672) × Named (length l) a e
-  in-ready q = (r .store, in-room q .0, named q)
+  pub in-ready : {a e w : ℕ} → line ≡ In a e w → IsStore nodes (h .count) × (h .count < 672) × Named (length l) a e × GoodWeight w
+  in-ready q = let k = subst (Within l) q (r .within) in (r .store, in-room q .0, k .0, k .1)
 
   pub sum-ready : line ≡ Sum → IsStore nodes (h .count) × (h .count < 672) × Small v × FineTerms (h .count) (termsOf v)
   unfolding RoomFor
@@ -173,7 +177,7 @@ module _ (h : Header) (at : ℕ) (l : List ℕ) (line : Line) (v : Lin) (nodes p
   follows-net q = rw q (refl, refl, refl)
 
   module _ {s : Header} {nodes₁ : List ℕ} where
-    pub follows-in : {a e : ℕ} → line ≡ In a e → s ≡ withInput h → Adds (Input (take (e - a) (drop a l))) nodes (h .count) nodes₁ → Follows h at l line v nodes ports s nodes₁ ports
+    pub follows-in : {a e w : ℕ} → line ≡ In a e w → s ≡ withInput h → Adds (Input (givenAt l a e w)) nodes (h .count) nodes₁ → Follows h at l line v nodes ports s nodes₁ ports
     unfolding Follows
     follows-in q f k = rw q (f, k, refl)
 

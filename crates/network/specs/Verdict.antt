@@ -4,29 +4,28 @@ use mathlib.Core.Bool.{Bool, true, false, _||_, not}
 use mathlib.Core.List.{List, [], _∷_, _++_, append-nil}
 use mathlib.Core.Logic.{⊎-elim}
 use mathlib.Core.Option.{Option, none, some}
-use Prim.Native.Nat.{ℕ, _+_, _-_, _<_, _≤_, min}
+use Prim.Native.Nat.{ℕ, _+_, _*_, _-_, _<_, _≤_, min}
 use native.Mathlib.Omega.{arith}
-use borrow.Author.Tests.{le-leb, lt-leb, lt-ltb, le-ltb, leb-false, not-false}
+use borrow.Author.Tests.{le-leb, lt-leb, lt-ltb, le-ltb, leb-true, leb-false, not-false}
 use lib.Dec.{leb, ltb}
-use lib.IntN.{ℤ}
+use lib.IntN.{ℤ, natAbs}
 use lib.ListN.{length, take, drop}
 use Rattle.laws.specs.Test.{if_then_else_, lt-or-le, neither-left, neither-right}
 use Rattle.rules.specs.declared.Wire.{Wire}
 use Rattle.rules.specs.declared.Wire.the-variants.{Const, Node}
 use Rattle.rules.specs.Builder.{tableLimits}
-use Rattle.rules.specs.Circuit.{Name, Output}
+use Rattle.rules.specs.Circuit.{Name, Given, Output}
 use Rattle.rules.specs.CircuitText.{listed, noNode}
 use Rattle.rules.specs.Form.{Condition, _when_, Reading, Refused}
-use Rattle.rules.specs.Network.{Term, LutNode, Input, Linear, Bootstrap, Network, isLinear, nodeNorm}
-use Rattle.rules.specs.NetworkText.{Net, NetworkLine, NetLine, NodeLine, OutLine, NetPrefix, networkLine, goodSum, names, allInputs, unknown, nodeAt, sources, anyBadSource, started, ending, textConditions, safetyConditions, admissionConditions, settingsOf, over, withNetworkLine, networkEnded, noNetwork, readNetwork, readAdmitted}
-use Rattle.rules.specs.Scale.{norm}
+use Rattle.rules.specs.Network.{Term, LutNode, Input, Linear, Bootstrap, Network, isLinear, weightOf, norm, nodeNorm, nodeAt}
+use Rattle.rules.specs.NetworkText.{Net, NetworkLine, NetLine, NodeLine, OutLine, NetPrefix, networkLine, goodSum, names, allInputs, unknown, sources, anyBadSource, started, ending, textConditions, safetyConditions, admissionConditions, settingsOf, over, withNetworkLine, networkEnded, noNetwork, readNetwork, readAdmitted}
+use Rattle.theorems.specs.NodesAt.{node-none}
 use Rattle.text.specs.Cap.{cap-small}
 use Rattle.forms.specs.Forms.{capOutput}
 use Rattle.text.specs.Judged.{lowest, Numbered, unmet, readFrom, read-end, read-no-form, read-refused, read-next}
 use Rattle.text.specs.Line.{LineEnd}
 use Rattle.forms.specs.Wire.{capWire}
 use Rattle.network_text.specs.Lines.{capTerm, capTerms, goodForm, goodLine}
-use Rattle.network_bounds.specs.Bounds.{coefNorm}
 
 -- Admission judges 21 to 26, a run 21 and 22.
 unfoldable pub conditionsOf : Bool → NetPrefix → NetworkLine → List Condition
@@ -92,7 +91,7 @@ laterConditions w (NodeLine (Input n)) =
     (21 when not (started w))
     ∷ (21 when (ending w || not (allInputs (w .nodes))))
     ∷ (21 when leb 32 (length (w .nodes)))
-    ∷ (21 when listed n (names (w .nodes)))
+    ∷ (21 when listed (n .name) (names (w .nodes)))
     ∷ []
 laterConditions w (NodeLine (Linear c ts)) =
     (21 when not (started w)) ∷ (21 when ending w) ∷ (21 when leb 672 (length (w .nodes))) ∷ (22 when anyBadSource (w .nodes) (sources ts)) ∷ []
@@ -139,6 +138,19 @@ module _ (ns : List LutNode) (h : length ns ≤ 65536) where
       let k : t .node < length ns = leb-false (length ns) (t .node) (neither-left _ (isLinear (nodeAt ns (t .node))) a) in
       rw (cap-small (t .node) (omega arith), same-sources ts b)
 
+  -- what is no node weighs 1, whatever its number
+  weightless : (i : ℕ) → unknown ns i ≡ true → weightOf (nodeAt ns i) ≡ 1
+  unfolding unknown weightOf
+  weightless i e = ap weightOf (node-none ns i (leb-true (length ns) i e))
+
+  cap-norm : (ts : List Term) → norm ns (capTerms ts) ≡ norm ns ts
+  unfolding norm capTerms capTerm
+  cap-norm [] = refl
+  cap-norm (t ∷ ts) =
+      let square = natAbs (t .coef) * natAbs (t .coef) in
+      exact-or-unknown (λ x y. square * weightOf (nodeAt ns x) + norm ns (capTerms ts) ≡ square * weightOf (nodeAt ns y) + norm ns ts)
+      (t .node) (λ e. rw (cap-norm ts)) (λ e f. rw (weightless (t .node) e, weightless (min 65536 (t .node)) f, cap-norm ts))
+
   same-node : (i : ℕ) → unknown ns i ≡ false → min 65536 i ≡ i
   unfolding unknown
   same-node i e = cap-small i (omega (arith, leb-false (length ns) i e))
@@ -147,11 +159,6 @@ module _ (ns : List LutNode) (h : length ns ≤ 65536) where
   unfolding noNode capWire
   same-wire (Const b) e = refl
   same-wire (Node i) e = ap Node (cap-small i (omega (arith, leb-false (length ns) i e)))
-
-cap-norm : (ts : List Term) → coefNorm (capTerms ts) ≡ coefNorm ts
-unfolding coefNorm norm capTerms capTerm
-cap-norm [] = refl
-cap-norm (t ∷ ts) = rw (cap-norm ts)
 
 long-table : (n : ℕ) → ltb 32 n ≡ not (leb n 32)
 long-table n = ⊎-elim (λ (l : 32 < n). rw (lt-ltb 32 n l, lt-leb n 32 l)) (λ (l : n ≤ 32). rw (le-ltb 32 n l, le-leb n 32 l)) (lt-or-le 32 n)
@@ -171,10 +178,10 @@ module _ (judge : Bool) (w : NetPrefix) (h : length (w .nodes) ≤ 65536) where
   good-net n false = refl
 
   safe-lin : (c : ℤ) (ts : List Term) → safety judge w (NodeLine (Linear c (capTerms ts))) ≡ safety judge w (NodeLine (Linear c ts))
-  unfolding safety safetyConditions nodeNorm coefNorm
-  safe-lin c ts = ap (λ k. if judge then (25 when over (settingsOf (w .net) .norm) k) ∷ [] else []) (cap-norm ts)
+  unfolding safety safetyConditions nodeNorm
+  safe-lin c ts = ap (λ k. if judge then (25 when over (settingsOf (w .net) .norm) k) ∷ [] else []) (cap-norm (w .nodes) h ts)
 
-  good-in : (n : Name) → goodRefusal judge w (some (NodeLine (Input n))) ≡ lowest (textConditions w (NodeLine (Input n)) ++ safety judge w (NodeLine (Input n)))
+  good-in : (n : Given) → goodRefusal judge w (some (NodeLine (Input n))) ≡ lowest (textConditions w (NodeLine (Input n)) ++ safety judge w (NodeLine (Input n)))
   unfolding goodRefusal laterConditions textConditions
   good-in n = refl
 
@@ -276,7 +283,7 @@ module _ (judge : Bool) (w : NetPrefix) where
   unfolding textConditions
   net-limits n e = not-false (tableLimits (n .p) (n .m)) (unmet _ _ (omega arith) (free (NetLine n) e) .0)
 
-  pub inputs-only : (n : Name) → refusal judge w (some (NodeLine (Input n))) ≡ 0 → (allInputs (w .nodes) ≡ true) × (length (w .nodes) < 32)
+  pub inputs-only : (n : Given) → refusal judge w (some (NodeLine (Input n))) ≡ 0 → (allInputs (w .nodes) ≡ true) × (length (w .nodes) < 32)
   unfolding textConditions
   inputs-only n e =
       let order = unmet _ _ (omega arith) (unmet _ _ (omega arith) (free (NodeLine (Input n)) e) .1) in

@@ -43,7 +43,7 @@ prefixOf text nodes ports h = record { net = netOf h; nodes = storeOf nodes (h .
 
 -- Of a node with these before it: a sum is a good one and takes no sums, a table has a bit.
 unfoldable pub Sound : List LutNode → LutNode → Type 0
-Sound ns (Input name) = Unit {0}
+Sound ns (Input g) = Unit {0}
 Sound ns (Linear c ts) = (goodSum c ts ≡ true) × (anyBadSource ns (sources ts) ≡ false)
 Sound ns (Bootstrap i table) = 1 ≤ length table
 

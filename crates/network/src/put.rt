@@ -7,7 +7,8 @@ ghost use Rattle.rules.specs.Network.{Input, Linear, Bootstrap};
 ghost use Rattle.text.specs.Name.{Named};
 ghost use Rattle.text.specs.Line.{LineEnd};
 ghost use Rattle.nodes.specs.View.{FineTerms, IsStore};
-ghost use Rattle.network_text.specs.Lines.{TablePlace};
+ghost use Rattle.theorems.specs.Weights.{GoodWeight};
+ghost use Rattle.network_text.specs.Lines.{TablePlace, givenAt};
 ghost use Rattle.network_text.specs.Terms.{Small, termsOf};
 ghost use Rattle.network.specs.View.{Holds};
 ghost use Rattle.network.specs.Put.{Adds, sumTerms, signalOf, withPort, withNode, withInput, withOutput, Ready, Follows};
@@ -81,17 +82,17 @@ fn put_boot(nodes: &mut [u8; 25536], count: usize, source: usize, l: &[u8], a: u
     lut::store::put_record(nodes, count, &bytes);
 }
 
-fn put_in(nodes: &mut [u8; 25536], count: usize, l: &[u8], a: usize, e: usize)
-    requires { ⌜ IsStore (now nodes) count × (count < 672) × Named (length (now l)) a e ⌝ }
-    ensures { λ _. ⌜ Adds (Input (take (e - a) (drop a (now (l .entry))))) (now (nodes .entry)) count (now (nodes .exit)) ⌝ }
-{
-    lut::store::put_input(nodes, count, &l[a..e]);
-}
-
 fn wide(b: u8) -> usize
     ensures { λ r. ⌜ (r ≡ b) × (r < 256) ⌝ }
 {
     b as usize
+}
+
+fn put_in(nodes: &mut [u8; 25536], count: usize, l: &[u8], a: usize, e: usize, weight: u8)
+    requires { ⌜ IsStore (now nodes) count × (count < 672) × Named (length (now l)) a e × GoodWeight weight ⌝ }
+    ensures { λ _. ⌜ Adds (Input (givenAt (now (l .entry)) a e weight)) (now (nodes .entry)) count (now (nodes .exit)) ⌝ }
+{
+    lut::store::put_input(nodes, count, &l[a..e], wide(weight));
 }
 
 // A node's number, or 1000 and 1001 for the constants.
@@ -138,8 +139,8 @@ fn put_line(
             inputs: h.inputs,
             outputs: h.outputs,
         },
-        Line::In(a, e) => {
-            put_in(nodes, h.count, l, a, e);
+        Line::In(a, e, weight) => {
+            put_in(nodes, h.count, l, a, e, weight);
             with_input(h)
         }
         Line::Lin => {

@@ -1,10 +1,11 @@
 -- Bounds and norm of a sum, as the code reckons them.
-use mathlib.Core.Path.{_≡_, refl, sym, _∙_}
-use mathlib.Core.Bool.{Bool, true, false, true≢false}
-use mathlib.Core.List.{List, [], _∷_, map}
+use mathlib.Core.Path.{_≡_, refl, sym, ap, ap₂, _∙_}
+use mathlib.Core.Bool.{Bool, true, false, _||_, true≢false}
+use mathlib.Core.List.{List, [], _∷_}
 use Prim.Native.Nat.{ℕ, zero, suc, _+_, _*_, _<_, _≤_}
 use native.Mathlib.Numerals.{add-one}
 use native.Mathlib.Omega.{arith}
+use borrow.Author.Tests.{leb-false}
 use lib.Dec.{T, eqb}
 use lib.IntN.{ℤ, pos, negsuc, natAbs, _+ℤ_}
 use lib.ListN.{length, getD, drop, drop-of-length-le}
@@ -13,12 +14,12 @@ use lib.Signed.{leZ, ltZ, nonNeg}
 use mir.Syntax.{w64}
 use mir.Val.{SFits, ofZ}
 use Rattle.laws.specs.Integer.{plus, minus, ltZ-true, ltZ-false, true-leZ, false-leZ, abs-bits, abs-add}
-use Rattle.rules.specs.Network.{Term, LutNode, Input, Linear, Bootstrap, below0, above0, leastSum, greatestSum, leastOf, greatestOf, isLinear}
-use Rattle.rules.specs.NetworkText.{isBit}
-use Rattle.rules.specs.Scale.{norm}
+use Rattle.laws.specs.Test.{neither-left, neither-right}
+use Rattle.rules.specs.Network.{Term, LutNode, Input, Linear, Bootstrap, below0, above0, leastSum, greatestSum, leastOf, greatestOf, isLinear, weightOf, nodeAt, norm}
+use Rattle.rules.specs.NetworkText.{isBit, sources, unknown, anyBadSource}
 use Rattle.rules.specs.Store.{needs, termsOf}
 use Rattle.nodes.specs.Nodes.{kindOf, constantOf, few-terms, as-many, constant-small, coefficient-small}
-use Rattle.nodes.specs.View.{term, Fine}
+use Rattle.nodes.specs.View.{term, nodeOf, storeOf, at-store, store-length, Fine, IsNode, IsStore, is-node}
 use Rattle.network_text.specs.declared.sum.Lin.{Lin}
 use Rattle.network_text.specs.Terms.{termsAt, terms-next, terms-end}
 
@@ -31,8 +32,15 @@ unfoldable pub extremeSum : Bool → ℤ → List Term → ℤ
 extremeSum true c ts = leastSum c ts
 extremeSum false c ts = greatestSum c ts
 
-unfoldable pub coefNorm : List Term → ℕ
-coefNorm ts = norm (map (λ (t : Term). t .coef) ts)
+-- Each source stands in the store.
+unfoldable pub Stored : List ℕ → List Term → Type 0
+Stored bytes [] = Unit {0}
+Stored bytes (t ∷ ts) = IsNode bytes (t .node) × Stored bytes ts
+
+-- The norm of such terms.
+unfoldable pub storedNorm : List ℕ → List Term → ℕ
+storedNorm bytes [] = 0
+storedNorm bytes (t ∷ ts) = (natAbs (t .coef) * natAbs (t .coef)) * weightOf (nodeOf bytes (t .node)) + storedNorm bytes ts
 
 -- One more than the greatest bound where the least is 0: the length of the tables that fit; else 0, which is no table's.
 unfoldable pub fitOf : ℤ → ℤ → ℕ
@@ -108,7 +116,7 @@ module _ (low : Bool) (n : LutNode) where
   sum-start = by low n
     where
       by : (b : Bool) (x : LutNode) → isLinear x ≡ true → extremeOf b x ≡ extremeSum b (constantOf x) (termsLeft x 0)
-      by b (Input name) e = absurd (true≢false (sym e))
+      by b (Input g) e = absurd (true≢false (sym e))
       by true (Linear c ts) e = refl
       by false (Linear c ts) e = refl
       by b (Bootstrap i table) e = absurd (true≢false (sym e))
@@ -143,14 +151,44 @@ module _ (low : Bool) (n : LutNode) where
 
 -- ---- The norm's loop.
 
-module _ (v : Lin) (i : ℕ) where
-  pub norm-next : i < v .n → coefNorm (termsAt v i) ≡ natAbs (getD (v .coefs) i (pos 0)) * natAbs (getD (v .coefs) i (pos 0)) + coefNorm (termsAt v (i + 1))
-  unfolding coefNorm norm
+module _ (bytes : List ℕ) (v : Lin) (i : ℕ) where
+  pub stored-next : i < v .n → Stored bytes (termsAt v i) → IsNode bytes (getD (v .sources) i 0) × Stored bytes (termsAt v (i + 1))
+  unfolding Stored
+  stored-next h s = rw (terms-next v i h) at s
+
+  pub norm-next : i < v .n
+      → storedNorm bytes (termsAt v i)
+      ≡ (natAbs (getD (v .coefs) i (pos 0)) * natAbs (getD (v .coefs) i (pos 0))) * weightOf (nodeOf bytes (getD (v .sources) i 0)) + storedNorm bytes (termsAt v (i + 1))
+  unfolding storedNorm
   norm-next h = rw (terms-next v i h)
 
-  pub norm-end : v .n ≤ i → coefNorm (termsAt v i) ≡ 0
-  unfolding coefNorm norm
+  pub norm-end : v .n ≤ i → storedNorm bytes (termsAt v i) ≡ 0
+  unfolding storedNorm
   norm-end h = rw (terms-end v i h)
+
+-- ---- Sources that are nodes of the store.
+
+source-known : (ns : List LutNode) (t : Term) (ts : List Term) → anyBadSource ns (sources (t ∷ ts)) ≡ false → (t .node < length ns) × (anyBadSource ns (sources ts) ≡ false)
+unfolding anyBadSource sources unknown
+source-known ns t ts e =
+    let bad = unknown ns (t .node) || isLinear (nodeAt ns (t .node)) in
+    (leb-false (length ns) (t .node) (neither-left (unknown ns (t .node)) _ (neither-left bad _ e)), neither-right bad _ e)
+
+module _ (bytes : List ℕ) (count : ℕ) where
+  pub sources-stored : IsStore bytes count → (ts : List Term) → anyBadSource (storeOf bytes count) (sources ts) ≡ false → Stored bytes ts
+  unfolding Stored
+  sources-stored s [] e = tt
+  sources-stored s (t ∷ ts) e =
+      let k = source-known (storeOf bytes count) t ts e in
+      (is-node bytes count (t .node) s (rw (store-length bytes count) at (k .0)), sources-stored s ts (k .1))
+
+  pub stored-norm : (ts : List Term) → anyBadSource (storeOf bytes count) (sources ts) ≡ false → storedNorm bytes ts ≡ norm (storeOf bytes count) ts
+  unfolding storedNorm norm
+  stored-norm [] e = refl
+  stored-norm (t ∷ ts) e =
+      let k = source-known (storeOf bytes count) t ts e in
+      let n = at-store bytes (t .node) count (rw (store-length bytes count) at (k .0)) in
+      ap₂ (λ w r. (natAbs (t .coef) * natAbs (t .coef)) * w + r) (ap weightOf (sym n)) (stored-norm ts (k .1))
 
 -- ---- The tables that fit, by the code's tests.
 
@@ -183,7 +221,7 @@ next-nonNeg (negsuc a) h = absurd (omega (arith, ltZ-false (negsuc a) (pos 0) h)
 
 pub kind-sum : (n : LutNode) → eqb (kindOf n) 1 ≡ isLinear n
 unfolding kindOf isLinear
-kind-sum (Input name) = refl
+kind-sum (Input g) = refl
 kind-sum (Linear c ts) = refl
 kind-sum (Bootstrap i table) = refl
 
@@ -193,7 +231,7 @@ module _ (n : LutNode) where
   other-fit = by n
     where
       by : (x : LutNode) → isLinear x ≡ false → 2 ≡ nodeFit x
-      by (Input name) e = refl
+      by (Input g) e = refl
       by (Linear c ts) e = absurd (true≢false e)
       by (Bootstrap i table) e = refl
 
@@ -202,7 +240,7 @@ module _ (n : LutNode) where
   other-bit = by n
     where
       by : (x : LutNode) → isLinear x ≡ false → true ≡ isBit x
-      by (Input name) e = refl
+      by (Input g) e = refl
       by (Linear c ts) e = absurd (true≢false e)
       by (Bootstrap i table) e = refl
 

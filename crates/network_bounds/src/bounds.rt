@@ -1,19 +1,20 @@
 // Bounds and norm of a sum.
 ghost use mathlib.Core.Path.{_≡_};
 ghost use mathlib.Core.Bool.{true};
-ghost use Prim.Native.Nat.{_*_, _≤_};
+ghost use Prim.Native.Nat.{_≤_};
 ghost use lib.IntN.{natAbs};
 ghost use Rattle.rules.specs.Network.{isLinear};
 ghost use Rattle.rules.specs.NetworkText.{isBit};
 ghost use Rattle.nodes.specs.View.{nodeOf, IsNode};
 ghost use Rattle.network_text.specs.Terms.{Small, termsOf};
-ghost use Rattle.network_bounds.specs.Bounds.{extremePart, extremeOf, fitOf, coefNorm, nodeFit};
+ghost use Rattle.network_bounds.specs.Bounds.{extremePart, extremeOf, fitOf, Stored, storedNorm, nodeFit};
 use network_text::Lin;
 use nodes::node::LINEAR;
 use nodes::node::coef_of;
 use nodes::node::constant_of;
 use nodes::node::kind_of;
 use nodes::node::size_of;
+use nodes::norm::source_norm;
 
 // What a term adds to the least sum, or to the greatest.
 fn extreme_part(low: bool, coef: i64) -> i64
@@ -48,22 +49,15 @@ fn extreme_sum(low: bool, nodes: &[u8; 25536], i: usize) -> i64
     sum
 }
 
-fn square(x: i64) -> usize
-    requires { ⌜ natAbs x ≤ 31 ⌝ }
-    ensures { λ r. ⌜ (r ≡ natAbs x * natAbs x) × (r ≤ 961) ⌝ }
-{
-    (x * x) as usize
-}
-
-// The squared coefficients added.
-pub fn norm_of(lin: Lin) -> usize
-    requires { ⌜ Small lin ⌝ }
-    ensures { λ r. ⌜ r ≡ coefNorm (termsOf lin) ⌝ }
+// Each squared coefficient times its source's weight, added.
+pub fn norm_of(nodes: &[u8; 25536], lin: Lin) -> usize
+    requires { ⌜ Small lin × Stored (now nodes) (termsOf lin) ⌝ }
+    ensures { λ r. ⌜ r ≡ storedNorm (now (nodes .entry)) (termsOf lin) ⌝ }
 {
     let mut sum = 0;
     let mut i = 0;
     while i < lin.n {
-        sum = sum + square(lin.coefs[i]);
+        sum = sum + source_norm(nodes, lin.sources[i], lin.coefs[i]);
         i += 1;
     }
     sum

@@ -15,8 +15,8 @@ use Rattle.rules.specs.declared.Wire.the-variants.{Const, Node}
 use Rattle.rules.specs.Circuit as C
 use Rattle.rules.specs.CircuitText.{listed, noNode}
 use Rattle.rules.specs.Form.{Condition, _when_, bitsFrom}
-use Rattle.rules.specs.Network.{Term, LutNode, isInput}
-use Rattle.rules.specs.NetworkText.{over, names, sources, nodeAt, anyBadSource, isBit, noBit}
+use Rattle.rules.specs.Network.{Term, LutNode, isInput, nodeAt, norm}
+use Rattle.rules.specs.NetworkText.{over, names, sources, anyBadSource, isBit, noBit}
 use Rattle.rules.specs.Rotation.{rotatable}
 use Rattle.text.specs.Name.{Named}
 use Rattle.text.specs.Judged.{lowest, Numbered}
@@ -26,7 +26,7 @@ use Rattle.network_text.specs.Terms.{termsOf}
 use Rattle.network_text.specs.declared.line.Line.{Line}
 use Rattle.network_text.specs.declared.line.Line.the-variants.{Bad, Net as NetRead, In, Lin as Sum, Boot, Out}
 use Rattle.network_text.specs.declared.sum.Lin.{Lin}
-use Rattle.network_bounds.specs.Bounds.{coefNorm, nodeFit}
+use Rattle.network_bounds.specs.Bounds.{nodeFit}
 use Rattle.network_judge.specs.declared.Header.{Header}
 
 abbrev pub InputsFirst : List ℕ → Header → Type 0
@@ -53,7 +53,7 @@ nodeConditions h = (21 when eqb (h .p) 0) ∷ (21 when leb 1 (h .outputs)) ∷ (
 
 unfoldable pub linConditions : Bool → Header → List LutNode → List Term → List Condition
 linConditions judge h ns ts =
-    nodeConditions h ++ (22 when anyBadSource ns (sources ts)) ∷ (if judge then (25 when over (h .norm) (coefNorm ts)) ∷ [] else [])
+    nodeConditions h ++ (22 when anyBadSource ns (sources ts)) ∷ (if judge then (25 when over (h .norm) (norm ns ts)) ∷ [] else [])
 
 unfoldable pub bootConditions : Bool → Header → List LutNode → List ℕ → ℕ → ℕ → ℕ → List Condition
 bootConditions judge h ns l i a e =
@@ -71,7 +71,7 @@ outConditions judge h ns w = (21 when eqb (h .p) 0) ∷ (21 when leb 32 (h .outp
 unfoldable pub lineConditions : Bool → Header → List LutNode → List ℕ → Line → Lin → List Condition
 lineConditions judge h ns l Bad v = (21 when true) ∷ []
 lineConditions judge h ns l (NetRead p m n) v = (21 when not (eqb (h .p) 0)) ∷ []
-lineConditions judge h ns l (In a e) v = inConditions h ns (take (e - a) (drop a l))
+lineConditions judge h ns l (In a e w) v = inConditions h ns (take (e - a) (drop a l))
 lineConditions judge h ns l Sum v = linConditions judge h ns (termsOf v)
 lineConditions judge h ns l (Boot i a e) v = bootConditions judge h ns l i a e
 lineConditions judge h ns l (Out a e w) v = outConditions judge h ns w
@@ -138,7 +138,7 @@ module _ (judge : Bool) (h : Header) (ns : List LutNode) {n : ℕ} (e : n ≡ lo
       unfolding linConditions lowest
       lin-read k j = sym (free z _ ∙ rw (sym f ∙ k, not-true judge j))
 
-      module _ (k : b ≡ false) (j : not judge ≡ false) {m : ℕ} {o : Bool} (g : m ≡ coefNorm ts) (q : o ≡ over (h .norm) m) where
+      module _ (k : b ≡ false) (j : not judge ≡ false) {m : ℕ} {o : Bool} (g : m ≡ norm ns ts) (q : o ≡ over (h .norm) m) where
         pub lin-over : o ≡ true → 25 ≡ lowest (linConditions judge h ns ts)
         unfolding linConditions lowest
         lin-over d = sym (free z _ ∙ rw (sym f ∙ k, not-false judge j, ← g, sym q ∙ d))
@@ -244,7 +244,7 @@ module _ (judge : Bool) (h : Header) (ns : List LutNode) (l : List ℕ) (v : Lin
   line-first e k = rw (e, eq-eqb (h .p) 0 k)
 
   module _ {n : ℕ} where
-    pub line-in : {a t : ℕ} → line ≡ In a t → n ≡ lowest (inConditions h ns (take (t - a) (drop a l))) → n ≡ lowest (lineConditions judge h ns l line v)
+    pub line-in : {a t w : ℕ} → line ≡ In a t w → n ≡ lowest (inConditions h ns (take (t - a) (drop a l))) → n ≡ lowest (lineConditions judge h ns l line v)
     unfolding lineConditions
     line-in e k = rw e k
 
@@ -260,8 +260,8 @@ module _ (judge : Bool) (h : Header) (ns : List LutNode) (l : List ℕ) (v : Lin
     unfolding lineConditions
     line-out e k = rw e k
 
-pub named-within : (l : List ℕ) {line : Line} {a e : ℕ} → Within l line → line ≡ In a e → Named (length l) a e
-named-within l h k = subst (Within l) k h
+pub named-within : (l : List ℕ) {line : Line} {a e w : ℕ} → Within l line → line ≡ In a e w → Named (length l) a e
+named-within l h k = subst (Within l) k h .0
 
 pub table-within : (l : List ℕ) {line : Line} {i a e : ℕ} → Within l line → line ≡ Boot i a e → TablePlace l a e
 table-within l h k = subst (Within l) k h

@@ -1,19 +1,18 @@
 -- The loops over a sum's sources and over the inputs' names.
-use mathlib.Core.Path.{_≡_, refl, sym, ap, ap₂, _∙_}
+use mathlib.Core.Path.{_≡_, refl, sym, ap, _∙_}
 use mathlib.Core.Bool.{Bool, true, false, true≢false}
-use mathlib.Core.List.{List, [], _∷_}
+use mathlib.Core.List.{List, _∷_}
 use Prim.Native.Nat.{ℕ, _+_, _-_, _<_, _≤_}
-use native.Mathlib.Numerals.{add-one}
 use native.Mathlib.Omega.{arith}
 use borrow.Author.Tests.{le-leb, lt-leb}
 use lib.ListN.{length, getD, take, drop, drop-of-length-le}
-use lib.Seq.{drop-cons, take-length}
+use lib.Seq.{take-length}
 use Rattle.rules.specs.Circuit as C
 use Rattle.rules.specs.CircuitText.{sameName, listed}
 use Rattle.rules.specs.Network.{LutNode, Input, Linear, Bootstrap, isInput, isLinear}
-use Rattle.rules.specs.NetworkText.{names, sources, unknown, nodeAt, anyBadSource}
+use Rattle.rules.specs.NetworkText.{names, sources, unknown, anyBadSource}
 use Rattle.nodes.specs.Nodes.{bytesIn}
-use Rattle.nodes.specs.View.{nodeOf, storeOf, at-store, store-length}
+use Rattle.nodes.specs.View.{nodeOf, storeOf, at-store, store-length, store-from}
 use Rattle.network_text.specs.Terms.{termsOf, termsAt, terms-start, terms-next, terms-end}
 use Rattle.network_text.specs.declared.sum.Lin.{Lin}
 
@@ -53,7 +52,7 @@ listedLeft name nodes count i = listed name (names (drop i (storeOf nodes count)
 
 pub input-plain : (n : LutNode) → isInput n ≡ true → isLinear n ≡ false
 unfolding isInput isLinear
-input-plain (Input name) e = refl
+input-plain (Input g) e = refl
 input-plain (Linear c ts) e = absurd (true≢false (sym e))
 input-plain (Bootstrap i table) e = absurd (true≢false (sym e))
 
@@ -63,7 +62,7 @@ whole-name name {s} e f = e ∙ ap (sameName name) (let z : length s - 0 ≡ len
 
 names-cons : (n : LutNode) (ns : List LutNode) → isInput n ≡ true → names (n ∷ ns) ≡ bytesIn n ∷ names ns
 unfolding isInput names bytesIn
-names-cons (Input name) ns e = refl
+names-cons (Input g) ns e = refl
 names-cons (Linear c ts) ns e = absurd (true≢false (sym e))
 names-cons (Bootstrap i table) ns e = absurd (true≢false (sym e))
 
@@ -78,15 +77,10 @@ module _ (name : C.Name) (nodes : List ℕ) (count : ℕ) where
     name-end h = rw (drop-of-length-le (storeOf nodes count) {i = i} (rw (store-length nodes count) h))
 
     module _ (h : i < count) (n : isInput (nodeOf nodes i) ≡ true) {b : Bool} (e : b ≡ sameName name (bytesIn (nodeOf nodes i))) where
-      left-cons : drop i (storeOf nodes count) ≡ nodeOf nodes i ∷ drop (i + 1) (storeOf nodes count)
-      unfolding nodeAt
-      left-cons = drop-cons (storeOf nodes count) i (Input []) (rw (store-length nodes count) h)
-          ∙ ap₂ {C = List LutNode} (λ x k. x ∷ drop k (storeOf nodes count)) (at-store nodes i count h) (sym (add-one i))
-
       pub name-here : b ≡ true → listedLeft name nodes count i ≡ true
       unfolding listedLeft listed
-      name-here f = rw (left-cons, names-cons (nodeOf nodes i) (drop (i + 1) (storeOf nodes count)) n, sym e ∙ f)
+      name-here f = rw (store-from nodes count i h, names-cons (nodeOf nodes i) (drop (i + 1) (storeOf nodes count)) n, sym e ∙ f)
 
       pub name-next : b ≡ false → listedLeft name nodes count i ≡ listedLeft name nodes count (i + 1)
       unfolding listedLeft listed
-      name-next f = rw (left-cons, names-cons (nodeOf nodes i) (drop (i + 1) (storeOf nodes count)) n, sym e ∙ f)
+      name-next f = rw (store-from nodes count i h, names-cons (nodeOf nodes i) (drop (i + 1) (storeOf nodes count)) n, sym e ∙ f)

@@ -133,7 +133,7 @@ fn lin_number(judge: bool, h: Header, nodes: &[u8; 25536], lin: Lin) -> usize
         return 0;
     }
     let limit = h.norm;
-    if is_over(limit, network_bounds::bounds::norm_of(lin)) {
+    if is_over(limit, network_bounds::bounds::norm_of(nodes, lin)) {
         25
     } else {
         0
@@ -219,7 +219,7 @@ pub fn line_number(judge: bool, h: Header, nodes: &[u8; 25536], l: &[u8], r: Rea
     match line {
         Line::Bad => 21,
         Line::Net(_, _, _) => if h.p == 0 { 0 } else { 21 },
-        Line::In(a, e) => in_number(h, nodes, l, a, e),
+        Line::In(a, e, _) => in_number(h, nodes, l, a, e),
         Line::Lin => lin_number(judge, h, nodes, lin),
         Line::Boot(source, a, e) => boot_number(judge, h, nodes, l, source, a, e),
         Line::Out(_, _, w) => out_number(judge, h, nodes, w),

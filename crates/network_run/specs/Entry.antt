@@ -14,8 +14,8 @@ use Rattle.laws.specs.Over.{over}
 use Rattle.laws.specs.Tabulate.{tabulate-length}
 use Rattle.laws.specs.Test.{neither-left, neither-right}
 use Rattle.rules.specs.Form as F
-use Rattle.rules.specs.Network.{Term, LutNode, Input, Linear, Bootstrap, isInput, isLinear, count, nodeValues, outputValues, networkRun}
-use Rattle.rules.specs.NetworkText.{nodeAt, sources, unknown, anyBadSource, readNetwork}
+use Rattle.rules.specs.Network.{Term, LutNode, Input, Linear, Bootstrap, isInput, isLinear, count, nodeValues, outputValues, networkRun, nodeAt}
+use Rattle.rules.specs.NetworkText.{sources, unknown, anyBadSource, readNetwork}
 use Rattle.rules.specs.Outcome.{written, refused}
 use Rattle.rules.specs.Runs.{RunOutcome, Numbered, NotBits, NoRoom, BreakOff, ran, bitsFor, withValues, runOn, runNetworkOn, runNetwork}
 use Rattle.rules.specs.Store.{termsOf}
@@ -52,7 +52,7 @@ source-plain ns (t ∷ ts) e (suc k) h =
 sound-plain : (ns : List LutNode) (n : LutNode) → Sound ns n → (k : ℕ) → k < length (termsOf n)
     → (getD (termsOf n) k (term (pos 0) 0) .node < length ns) × (isLinear (nodeAt ns (getD (termsOf n) k (term (pos 0) 0) .node)) ≡ false)
 unfolding Sound termsOf
-sound-plain ns (Input name) s k h = absurd (not-suc-le-zero h)
+sound-plain ns (Input g) s k h = absurd (not-suc-le-zero h)
 sound-plain ns (Linear c ts) s k h = source-plain ns ts (s .1) k h
 sound-plain ns (Bootstrap i table) s k h = absurd (not-suc-le-zero h)
 

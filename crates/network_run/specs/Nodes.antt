@@ -12,11 +12,10 @@ use lib.ListN.{length, getD, set, take, drop, length-set, drop-of-length-le}
 use lib.Seq.{take-suc-set, getD-set-same, getD-set-other}
 use Rattle.laws.specs.Select.{all, all-at}
 use Rattle.laws.specs.Test.{eq-or-ne}
-use Rattle.rules.specs.Network.{LutNode, Input, isLinear, nodeValue, nodeValues, withValue}
-use Rattle.rules.specs.NetworkText.{nodeAt}
+use Rattle.rules.specs.Network.{LutNode, isLinear, nodeValue, nodeValues, withValue, nodeAt}
 use Rattle.rules.specs.Store.{termsOf}
-use Rattle.lut.specs.Forms.{terms-need}
-use Rattle.nodes.specs.Nodes.{source-before}
+use Rattle.theorems.specs.NodesAt.{noInput}
+use Rattle.nodes.specs.Nodes.{source-before, terms-need}
 use Rattle.nodes.specs.View.{nodeOf, storeOf, term, IsStore, is-node, at-store, store-length, store-from}
 use Rattle.network_run.specs.Value.{turns, valueAt, value-is, value-none, Before}
 
@@ -108,7 +107,7 @@ module _ {bits bytes : List ℕ} {count : ℕ} {values : List ℤ} {i : ℕ} (s 
     next P t =
         let l = s .most in
         let m = r .long in
-        let q : turns P (nodeOf bytes i) ≡ true = ap (turns P) (sym (at-store bytes i count h)) ∙ all-at (turns P) (storeOf bytes count) (Input []) t i (omega (arith, store-length bytes count)) in
+        let q : turns P (nodeOf bytes i) ≡ true = ap (turns P) (sym (at-store bytes i count h)) ∙ all-at (turns P) (storeOf bytes count) noInput t i (omega (arith, store-length bytes count)) in
         r .same P t ∙ ap (nodeValues P bits (take i values)) (store-from bytes count i h)
         ∙ ap (λ x. withValue x (λ v. nodeValues P bits (take i values ++ (v ∷ [])) (drop (i + 1) (storeOf bytes count)))) (value-is P bits values i (nodeOf bytes i) q (s .fine i h) (omega arith) ∙ sym e)
 

@@ -38,7 +38,7 @@ SmallValue Broken = Unit {0}
 
 -- A rotation of period P gives the node's table, if it has one.
 unfoldable pub turns : ℕ → LutNode → Bool
-turns P (Input n) = true
+turns P (Input g) = true
 turns P (Linear c ts) = true
 turns P (Bootstrap i table) = rotatable P table
 
@@ -49,7 +49,7 @@ looked table (negsuc v) = none
 
 -- The value of node i.
 unfoldable pub valueAt : List ℕ → List ℤ → ℕ → LutNode → Option ℤ
-valueAt bits values i (Input n) = some (pos (getD bits i 0))
+valueAt bits values i (Input g) = some (pos (getD bits i 0))
 valueAt bits values i (Linear c ts) = some (sumFrom values c ts)
 valueAt bits values i (Bootstrap j table) = looked table (getD values j (pos 0))
 
@@ -86,7 +86,7 @@ sum-front values i c (t ∷ ts) f = rw (getD-take i values (t .node) (pos 0) (f 
 
 pub value-is : (P : ℕ) (bits : List ℕ) (values : List ℤ) (i : ℕ) (n : LutNode) → turns P n ≡ true → Fine i n → i ≤ length values → nodeValue P bits (take i values) n ≡ valueAt bits values i n
 unfolding valueAt nodeValue turns Fine
-value-is P bits values i (Input n) t f h = rw (length-take-le i values h)
+value-is P bits values i (Input g) t f h = rw (length-take-le i values h)
 value-is P bits values i (Linear c ts) t f h = ap {B = Option ℤ} some (sym (sum-front values i c ts (f .2)))
 value-is P bits values i (Bootstrap j table) t f h =
     ap (rotated P table) (getD-take i values j (pos 0) (f .0)) ∙ sym (looked-is P table (getD values j (pos 0)) t)
@@ -107,7 +107,7 @@ rotated-none P table (negsuc a) h = refl
 
 pub value-none : (P : ℕ) (bits : List ℕ) (values : List ℤ) (n : LutNode) → turns P n ≡ false → nodeValue P bits values n ≡ none
 unfolding turns nodeValue
-value-none P bits values (Input n) t = absurd (true≢false t)
+value-none P bits values (Input g) t = absurd (true≢false t)
 value-none P bits values (Linear c ts) t = absurd (true≢false t)
 value-none P bits values (Bootstrap j table) t = rotated-none P table (getD values j (pos 0)) t
 
@@ -173,31 +173,31 @@ sum-size c x k h l = omega (arith, abs-add c x)
 module _ (bits : List ℕ) (values : List ℤ) (i : ℕ) where
   pub input-value : (n : LutNode) (x : ℤ) → kindOf n ≡ 0 → x ≡ pos (getD bits i 0) → some x ≡ valueAt bits values i n
   unfolding kindOf valueAt
-  input-value (Input name) x h e = ap {B = Option ℤ} some e
+  input-value (Input g) x h e = ap {B = Option ℤ} some e
   input-value (Linear c ts) x h e = absurd (omega arith)
   input-value (Bootstrap j table) x h e = absurd (omega arith)
 
   pub sum-value : (n : LutNode) (x : ℤ) → kindOf n ≡ 1 → x ≡ sumFrom values (constantOf n) (termsOf n) → some x ≡ valueAt bits values i n
   unfolding kindOf valueAt constantOf termsOf
-  sum-value (Input name) x h e = absurd (omega arith)
+  sum-value (Input g) x h e = absurd (omega arith)
   sum-value (Linear c ts) x h e = ap {B = Option ℤ} some e
   sum-value (Bootstrap j table) x h e = absurd (omega arith)
 
   pub table-value : (n : LutNode) (o : Option ℤ) → kindOf n ≡ 2 → o ≡ looked (bytesIn n) (getD values (getD (needs n) 0 0) (pos 0)) → o ≡ valueAt bits values i n
   unfolding kindOf valueAt bytesIn needs
-  table-value (Input name) o h e = absurd (omega arith)
+  table-value (Input g) o h e = absurd (omega arith)
   table-value (Linear c ts) o h e = absurd (omega arith)
   table-value (Bootstrap j table) o h e = e
 
 pub other-turns : (P : ℕ) (n : LutNode) → (kindOf n ≡ 2 → ⊥) → true ≡ turns P n
 unfolding kindOf turns
-other-turns P (Input name) h = refl
+other-turns P (Input g) h = refl
 other-turns P (Linear c ts) h = refl
 other-turns P (Bootstrap j table) h = absurd (h refl)
 
 pub table-turns : (P : ℕ) (n : LutNode) → kindOf n ≡ 2 → rotatable P (bytesIn n) ≡ turns P n
 unfolding kindOf turns bytesIn
-table-turns P (Input name) h = absurd (omega arith)
+table-turns P (Input g) h = absurd (omega arith)
 table-turns P (Linear c ts) h = absurd (omega arith)
 table-turns P (Bootstrap j table) h = refl
 

@@ -20,10 +20,11 @@ use Rattle.rules.specs.NetworkText.{Net, NetworkLine, NetLine, NodeLine, OutLin
 use Rattle.text.specs.Cap.{cap-table}
 use Rattle.text.specs.Capped.{capped, exact-some}
 use Rattle.text.specs.Name.{Named}
+use Rattle.theorems.specs.Weights.{GoodWeight}
 use Rattle.forms.specs.Forms.{capOutput}
 use Rattle.text.specs.Name.{bits-length}
 use Rattle.network_text.specs.LineRead.{capNet, capBoot, BitsAt, plainRead, ended, line-net, line-in, line-lin, line-boot, line-out, line-none}
-use Rattle.network_text.specs.Lines.{goodForm, goodLine, lineIn, lineOf, LineRead}
+use Rattle.network_text.specs.Lines.{goodForm, goodLine, givenAt, lineIn, lineOf, LineRead}
 use Rattle.network_text.specs.Sum.{SumRead, sumOf}
 use Rattle.network_text.specs.Terms.{termsOf, small-none}
 use Rattle.network_text.specs.declared.line.Line.the-variants.{Bad, Net as NetRead, In, Lin as Sum, Boot, Out}
@@ -36,10 +37,11 @@ pub record NetIs (l : List ℕ) (p m : ℕ) (n : Limit) (end : ℕ) : Type 0 whe
   pub piece : capped capNet (netLine l) ≡ some (record { value = record { p = p; m = m; norm = n }; rest = drop end l })
   pub inside : end ≤ length l
 
-pub record InIs (l : List ℕ) (a e end : ℕ) : Type 0 where
+pub record InIs (l : List ℕ) (a e w end : ℕ) : Type 0 where
   pub no-net : netLine l ≡ none
-  pub piece : inLine l ≡ some (record { value = take (e - a) (drop a l); rest = drop end l })
+  pub piece : inLine l ≡ some (record { value = givenAt l a e w; rest = drop end l })
   pub named : Named (length l) a e
+  pub weighed : GoodWeight w
   pub inside : end ≤ length l
 
 pub record SumIs (l : List ℕ) (at : ℕ) : Type 0 where
@@ -138,18 +140,18 @@ module _ {l : List ℕ} {p m : ℕ} {n : Limit} {end : ℕ} (h : NetIs l p m n e
 
 -- ---- `in`
 
-module _ {l : List ℕ} {a e end : ℕ} (h : InIs l a e end) where
-  pub in-line : networkLine l ≡ ended (NodeLine (Input (take (e - a) (drop a l)))) (drop end l)
+module _ {l : List ℕ} {a e w end : ℕ} (h : InIs l a e w end) where
+  pub in-line : networkLine l ≡ ended (NodeLine (Input (givenAt l a e w))) (drop end l)
   in-line = line-in l (h .no-net) (h .piece)
 
-  pub in-is : {r : Read} → end ≡ length l → r ≡ plainRead (In a e) → LineRead l r
+  pub in-is : {r : Read} → end ≡ length l → r ≡ plainRead (In a e w) → LineRead l r
   unfolding goodLine goodForm plainRead lineOf lineIn
   in-is k q =
       rw q
       (record {
-        same = sym (ap goodLine (in-line ∙ whole-line l (NodeLine (Input (take (e - a) (drop a l)))) end (h .inside) k));
+        same = sym (ap goodLine (in-line ∙ whole-line l (NodeLine (Input (givenAt l a e w))) end (h .inside) k));
         small = small-none (pos 0) (omega arith);
-        within = h .named;
+        within = (h .named, h .weighed);
       })
 
 -- ---- `lin`

@@ -12,7 +12,7 @@ use lib.IntN.{pos}
 use lib.ListN.{length, take, drop, length-take}
 use Rattle.laws.specs.Test.{if_then_else_, eq-or-ne}
 use Rattle.rules.specs.declared.Limit.{Limit}
-use Rattle.rules.specs.Circuit.{Name, Output}
+use Rattle.rules.specs.Circuit.{Given, Output}
 use Rattle.rules.specs.Form.{Piece, give, onward, either, only, exactly, bytes, run, runOf, bits, isBits, isBitByte, bitsFrom, inLine, outLine}
 use Rattle.rules.specs.Network.{LutNode, Input, Linear, Bootstrap}
 use Rattle.rules.specs.NetworkText.{Net, NetworkLine, NetLine, NodeLine, OutLine, netLine, linLine, bootLine, networkLine}
@@ -154,7 +154,7 @@ module _ (l : List ℕ) where
   line-net e = ap only (first _ (step _ e refl))
 
   module _ (no-net : netLine l ≡ none) where
-    pub line-in : {n : Name} {x : List ℕ} → inLine l ≡ some (record { value = n; rest = x }) → networkLine l ≡ ended (NodeLine (Input n)) x
+    pub line-in : {n : Given} {x : List ℕ} → inLine l ≡ some (record { value = n; rest = x }) → networkLine l ≡ ended (NodeLine (Input n)) x
     unfolding networkLine ended only
     line-in e = ap only (second _ (stop _ no-net) (first _ (step _ e refl)))
 

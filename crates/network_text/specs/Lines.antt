@@ -7,23 +7,29 @@ use lib.Dec.{T, leb}
 use lib.ListN.{length, take, drop}
 use Rattle.laws.specs.Test.{if_then_else_}
 use Rattle.rules.specs.Builder.{tableLimits}
+use Rattle.rules.specs.Circuit.{Given}
 use Rattle.rules.specs.Form.{bitsFrom}
 use Rattle.rules.specs.Network.{Term, Input, Linear, Bootstrap}
 use Rattle.rules.specs.NetworkText.{NetworkLine, NetLine, NodeLine, OutLine, networkLine, goodSum}
 use Rattle.rules.specs.Runs.{allBits}
 use Rattle.forms.specs.Forms.{capOutput}
 use Rattle.text.specs.Name.{Named}
+use Rattle.theorems.specs.Weights.{GoodWeight}
 use Rattle.network_text.specs.Terms.{termsOf, Small}
 use Rattle.network_text.specs.declared.line.Line.{Line}
 use Rattle.network_text.specs.declared.line.Line.the-variants.{Bad, Net as NetRead, In, Lin as Sum, Boot, Out}
 use Rattle.network_text.specs.declared.line.Read.{Read}
 use Rattle.network_text.specs.declared.sum.Lin.{Lin}
 
+-- The input with the name from a to e.
+abbrev pub givenAt : List ℕ → ℕ → ℕ → ℕ → Given
+givenAt l a e w = record { name = take (e - a) (drop a l); weight = w }
+
 -- The line that the code's answer stands for, of the bytes l.
 unfoldable pub lineIn : List ℕ → Line → Lin → Option NetworkLine
 lineIn l Bad v = none
 lineIn l (NetRead p m n) v = some (NetLine (record { p = p; m = m; norm = n }))
-lineIn l (In a e) v = some (NodeLine (Input (take (e - a) (drop a l))))
+lineIn l (In a e w) v = some (NodeLine (Input (givenAt l a e w)))
 lineIn l Sum v = some (NodeLine (Linear (v .constant) (termsOf v)))
 lineIn l (Boot i a e) v = some (NodeLine (Bootstrap i (bitsFrom (take (e - a) (drop a l)))))
 lineIn l (Out a e w) v = some (OutLine (record { name = take (e - a) (drop a l); wire = w }))
@@ -64,7 +70,7 @@ pub record TablePlace (l : List ℕ) (a e : ℕ) : Type 0 where
 abbrev pub Within : List ℕ → Line → Type 0
 Within l Bad = Unit {0}
 Within l (NetRead p m n) = Unit {0}
-Within l (In a e) = Named (length l) a e
+Within l (In a e w) = Named (length l) a e × GoodWeight w
 Within l Sum = Unit {0}
 Within l (Boot i a e) = TablePlace l a e
 Within l (Out a e w) = Named (length l) a e

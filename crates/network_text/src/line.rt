@@ -5,19 +5,19 @@ ghost use Rattle.network_text.specs.Lines.{LineRead};
 ghost use Rattle.network_text.specs.LineRead.{ReadsNet, ReadsBoot, plainRead};
 ghost use Rattle.network_text.specs.LineIs.{NetIs, InIs, SumIs, BootIs, OutIs};
 use crate::sum::Lin;
+use forms::InRead;
 use forms::LimitRead;
-use forms::NameRead;
 use forms::OutRead;
 use rules::Limit;
 use rules::Wire;
 use text::Found;
 use text::Number;
 
-// What a line says: P, M and NORM; where the name stands; a sum; the node and where the bits stand; where the name stands, and the wire.
+// What a line says: P, M and NORM; where the name stands, and the weight; a sum; the node and where the bits stand; where the name stands, and the wire.
 pub enum Line {
     Bad,
     Net(usize, usize, Limit),
-    In(usize, usize),
+    In(usize, usize, u8),
     Lin,
     Boot(usize, usize, usize),
     Out(usize, usize, Wire),
@@ -111,14 +111,14 @@ fn net_line(l: &[u8], p: usize, m: usize, norm: Limit, end: usize) -> Read
     plain(Line::Net(p, m, norm))
 }
 
-fn in_line(l: &[u8], a: usize, e: usize, end: usize) -> Read
-    requires { ⌜ InIs (now l) a e end ⌝ }
+fn in_line(l: &[u8], a: usize, e: usize, weight: u8, end: usize) -> Read
+    requires { ⌜ InIs (now l) a e weight end ⌝ }
     ensures { λ r. ⌜ LineRead (now (l .entry)) r ⌝ }
 {
     if end != l.len() {
         return plain(Line::Bad);
     }
-    plain(Line::In(a, e))
+    plain(Line::In(a, e, weight))
 }
 
 fn lin_line(l: &[u8], at: usize) -> Read
@@ -166,8 +166,8 @@ pub fn read_line(l: &[u8]) -> Read
     if let NetRead::At(p, m, norm, end) = read_net(l) {
         return net_line(l, p, m, norm, end);
     }
-    if let NameRead::At(a, e, end) = forms::read_in(l, 0) {
-        return in_line(l, a, e, end);
+    if let InRead::At(a, e, weight, end) = forms::read_in(l, 0) {
+        return in_line(l, a, e, weight, end);
     }
     if let Found::At(a) = text::read_word(l, 0, b"(lin ") {
         return lin_line(l, a);

@@ -11,7 +11,7 @@ use Rattle.laws.specs.Over.{over}
 use Rattle.rules.specs.Network.{Term, Input, Linear, Bootstrap}
 use Rattle.nodes.specs.declared.record.Terms.{Terms}
 use Rattle.nodes.specs.Sums.{in-length, in-take}
-use Rattle.nodes.specs.View.{GoodTerms, termsIn, biased, packed, padded, bytesOf, recordOf, term, packed-length, padded-length}
+use Rattle.nodes.specs.View.{given, GoodTerms, termsIn, biased, packed, padded, bytesOf, recordOf, term, packed-length, padded-length}
 
 -- a turn of a loop that copies: s stands from `at` on, as far as k
 pub paste-turn : (d s r : List ℕ) (at k : ℕ) → at + k < length d → k < length s → r ≡ paste d at s k → set r (at + k) (getD s k 0) ≡ paste d at s (k + 1)
@@ -89,13 +89,9 @@ module _ (j : ℕ) (table r r₁ r₂ : List ℕ) where
   unfolding recordOf bytesOf
   boot-done h e f g = g ∙ rw (source-long e f) (padded-paste (2 ∷ 1 ∷ length table ∷ 33 ∷ j / 256 ∷ j % 256 ∷ []) table 6 refl (omega arith))
 
-zeros-three : (n : ℕ) → padded (0 ∷ 0 ∷ n ∷ []) ≡ padded (0 ∷ 0 ∷ n ∷ 0 ∷ 0 ∷ 0 ∷ [])
-unfolding padded over
-zeros-three n = refl
-
--- an input's three bytes for a source are 0
-pub input-done : (name r r₁ : List ℕ) → length name ≤ 16 → r ≡ padded (0 ∷ 0 ∷ length name ∷ []) → r₁ ≡ paste r 6 name (length name) → r₁ ≡ recordOf (Input name)
-unfolding recordOf bytesOf
-input-done name r r₁ h e f =
-    let z : padded (0 ∷ 0 ∷ length name ∷ []) ≡ padded (0 ∷ 0 ∷ length name ∷ 0 ∷ 0 ∷ 0 ∷ []) = zeros-three (length name) in
-    f ∙ rw (e, z) (padded-paste (0 ∷ 0 ∷ length name ∷ 0 ∷ 0 ∷ 0 ∷ []) name 6 refl (omega arith))
+-- an input's weight stands where a source's three bytes begin
+pub input-done : (name r r₁ : List ℕ) (w : ℕ) → length name ≤ 16 → r ≡ padded (0 ∷ 0 ∷ length name ∷ []) → r₁ ≡ paste (set r 3 w) 6 name (length name) → r₁ ≡ recordOf (Input (given name w))
+unfolding recordOf bytesOf padded over
+input-done name r r₁ w h e f =
+    let z : set r 3 w ≡ padded (0 ∷ 0 ∷ length name ∷ w ∷ 0 ∷ 0 ∷ []) = ap (λ l. set l 3 w) e in
+    f ∙ rw z (padded-paste (0 ∷ 0 ∷ length name ∷ w ∷ 0 ∷ 0 ∷ []) name 6 refl (omega arith))

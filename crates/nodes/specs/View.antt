@@ -10,17 +10,19 @@ use native.Mathlib.Omega.{arith}
 use lib.Dec.{eqb}
 use lib.IntN.{ℤ, pos, natAbs, _+ℤ_, _-ℤ_}
 use lib.ListN.{length, getD, take, drop, replicate}
-use lib.Seq.{paste, take-at, length-paste, take-all, take-nil, take-take, take-append-le, drop-cons, length-take-le, drop-at, getD-take, getD-drop}
+use lib.Seq.{paste, take-at, length-paste, take-all, take-nil, take-take, take-append-le, length-take-le, drop-at, getD-take, getD-drop}
 use Rattle.laws.specs.Integer.{ints, plus, minus, abs-parts, one-part-zero, add-parts, sub-parts}
 use Rattle.laws.specs.Over.{over, over-length}
 use Rattle.laws.specs.Tabulate.{tabulate, tabulate-length, tabulate-at, tabulate-same, tabulate-snoc}
 use Rattle.laws.specs.Test.{if_then_else_, lt-or-le, decide, zero≢one}
+use Rattle.rules.specs.Circuit.{Given}
 use Rattle.rules.specs.CircuitText.{sameName}
-use Rattle.rules.specs.Network.{Term, LutNode, Input, Linear, Bootstrap}
-use Rattle.rules.specs.NetworkText.{nodeAt}
+use Rattle.rules.specs.Network.{Term, LutNode, Input, Linear, Bootstrap, nodeAt}
 use Rattle.rules.specs.Store.{sameNode}
 use Rattle.theorems.specs.Interned.{node-self, node-is}
 use Rattle.theorems.specs.Names.{name-self, name-is}
+use Rattle.theorems.specs.NodesAt.{noInput, drop-node}
+use Rattle.theorems.specs.Weights.{GoodWeight}
 use Rattle.nodes.specs.declared.record.Terms.{Terms}
 
 -- ---- A record of 38 bytes.
@@ -42,12 +44,16 @@ padded l = over l (replicate 38 0)
 
 -- what the record has before the bytes that are not used
 unfoldable pub bytesOf : LutNode → List ℕ
-bytesOf (Input name) = 0 ∷ 0 ∷ length name ∷ 0 ∷ 0 ∷ 0 ∷ name
+bytesOf (Input g) = 0 ∷ 0 ∷ length (g .name) ∷ g .weight ∷ 0 ∷ 0 ∷ g .name
 bytesOf (Linear c ts) = 1 ∷ length ts ∷ biased c ∷ packed ts
 bytesOf (Bootstrap i table) = 2 ∷ 1 ∷ length table ∷ 33 ∷ i / 256 ∷ i % 256 ∷ table
 
 unfoldable pub recordOf : LutNode → List ℕ
 recordOf n = padded (bytesOf n)
+
+-- An input's name with its weight.
+abbrev pub given : List ℕ → ℕ → Given
+given n w = record { name = n; weight = w }
 
 -- a term read from the bytes
 unfoldable pub termIn : List ℕ → Term
@@ -59,7 +65,7 @@ termsFrom (suc n) l = termIn l ∷ termsFrom n (drop 3 l)
 
 unfoldable pub nodeIn : List ℕ → LutNode
 nodeIn r =
-    if eqb (getD r 0 0) 0 then Input (take (getD r 2 0) (drop 6 r))
+    if eqb (getD r 0 0) 0 then Input (given (take (getD r 2 0) (drop 6 r)) (getD r 3 0))
     else if eqb (getD r 0 0) 1 then Linear (unbiased (getD r 2 0)) (termsFrom (getD r 1 0) (drop 3 r))
     else Bootstrap (256 * getD r 4 0 + getD r 5 0) (take (getD r 2 0) (drop 6 r))
 
@@ -81,7 +87,7 @@ FineTerms i [] = Unit
 FineTerms i (t ∷ ts) = (natAbs (t .coef) ≤ 31) × (t .node < i) × FineTerms i ts
 
 unfoldable pub Fine : ℕ → LutNode → Type 0
-Fine i (Input name) = (length name ≤ 16) × ((k : ℕ) → getD name k 0 < 256)
+Fine i (Input g) = (length (g .name) ≤ 16) × ((k : ℕ) → getD (g .name) k 0 < 256) × GoodWeight (g .weight)
 Fine i (Linear c ts) = (length ts ≤ 11) × (natAbs c ≤ 31) × FineTerms i ts
 Fine i (Bootstrap j table) = (j < i) × (length table ≤ 32) × ((k : ℕ) → getD table k 0 ≤ 1)
 
@@ -142,7 +148,7 @@ padded-length l h = over-length l (replicate 38 0) h
 
 pub bytes-few : (i : ℕ) (n : LutNode) → Fine i n → length (bytesOf n) ≤ 38
 unfolding bytesOf Fine
-bytes-few i (Input name) f = omega arith
+bytes-few i (Input g) f = omega arith
 bytes-few i (Linear c ts) f = omega (arith, packed-length ts)
 bytes-few i (Bootstrap j table) f = omega arith
 
@@ -162,7 +168,7 @@ terms-back i (t ∷ ts) rest f =
 
 pub node-back : (i : ℕ) (n : LutNode) → Fine i n → nodeIn (recordOf n) ≡ n
 unfolding nodeIn recordOf padded over bytesOf Fine
-node-back i (Input name) f = ap Input (take-at name _ (length name) refl)
+node-back i (Input g) f = ap (λ n. Input (given n (g .weight))) (take-at (g .name) _ (length (g .name)) refl)
 node-back i (Linear c ts) f = ap₂ Linear (biased-back c (f .1)) (terms-back i ts _ (f .2))
 node-back i (Bootstrap j table) f = ap₂ Bootstrap (omega arith) (take-at table _ (length table) refl)
 
@@ -193,22 +199,30 @@ module _ (bytes : List ℕ) (i : ℕ) where
 
   pub at-store : (count : ℕ) → i < count → nodeAt (storeOf bytes count) i ≡ nodeOf bytes i
   unfolding nodeAt storeOf
-  at-store count h = tabulate-at count (nodeOf bytes) i (Input []) h
+  at-store count h = tabulate-at count (nodeOf bytes) i noInput h
 
 pub store-length : (bytes : List ℕ) (count : ℕ) → length (storeOf bytes count) ≡ count
 unfolding storeOf
 store-length bytes count = tabulate-length count (nodeOf bytes)
 
 pub store-from : (bytes : List ℕ) (count i : ℕ) → i < count → drop i (storeOf bytes count) ≡ nodeOf bytes i ∷ drop (i + 1) (storeOf bytes count)
-unfolding nodeAt
 store-from bytes count i h =
     let l = store-length bytes count in
-    drop-cons (storeOf bytes count) i (Input []) (omega arith)
+    drop-node (storeOf bytes count) i (omega arith)
     ∙ ap (λ n. n ∷ drop (suc i) (storeOf bytes count)) (at-store bytes i count h)
     ∙ ap (λ k. nodeOf bytes i ∷ drop k (storeOf bytes count)) (sym (add-one i))
 
 pub is-node : (bytes : List ℕ) (count i : ℕ) → IsStore bytes count → i < count → IsNode bytes i
 is-node bytes count i s h = record { long = s .long; inside = omega (arith, s .most); fine = s .fine i h; kept = s .kept i h }
+
+pub store-below : (bytes : List ℕ) (count k : ℕ) → IsStore bytes count → k ≤ count → IsStore bytes k
+store-below bytes count k s h =
+    record {
+      long = s .long;
+      most = omega (arith, s .most);
+      fine = λ i l. s .fine i (omega arith);
+      kept = λ i l. s .kept i (omega arith);
+    }
 
 -- ---- laws: a record put at a place
 

@@ -2,9 +2,9 @@
 //   0   kind
 //   1   how many sources (an input: 0, a bootstrap: 1)
 //   2   an input: the length of its name; a sum: its constant + 32; a bootstrap: the length of its table
-//   3   three bytes for each source: its coefficient + 32, its node's number / 256 and % 256 (a bootstrap: coefficient 1)
+//   3   an input: its weight; else three bytes for each source: its coefficient + 32, its node's number / 256 and % 256 (a bootstrap: coefficient 1)
 //   6   an input's name, a bootstrap's table
-// Bytes that are not used are 0, so equal nodes have equal records. It leans on `scale`.
+// Bytes that are not used are 0, so equal nodes have equal records.
 pub mod node;
 pub mod norm;
 pub mod record;

@@ -4,7 +4,7 @@ ghost use mathlib.Core.Bool.{true, false};
 ghost use Prim.Native.Nat.{_<_};
 ghost use lib.IntN.{pos};
 ghost use lib.ListN.{length, getD};
-ghost use Rattle.rules.specs.Network.{isLinear};
+ghost use Rattle.rules.specs.Network.{isLinear, weightOf};
 ghost use Rattle.rules.specs.Store.{needs, termsOf};
 ghost use Rattle.nodes.specs.Nodes.{kindOf, constantOf, bytesIn};
 ghost use Rattle.nodes.specs.View.{unbiased, term, nodeOf, IsNode};
@@ -33,6 +33,18 @@ pub fn kind_of(nodes: &[u8; 25536], i: usize) -> u8
     ensures { λ r. ⌜ r ≡ kindOf (nodeOf (now (nodes .entry)) i) ⌝ }
 {
     nodes[38 * i]
+}
+
+// An input's weight; of any other node 1.
+pub fn weight_of(nodes: &[u8; 25536], i: usize) -> usize
+    requires { ⌜ IsNode (now nodes) i ⌝ }
+    ensures { λ r. ⌜ r ≡ weightOf (nodeOf (now (nodes .entry)) i) ⌝ }
+{
+    let own = wide(nodes[38 * i + 3]);
+    if kind_of(nodes, i) != INPUT {
+        return 1;
+    }
+    own
 }
 
 // How many sources a node has.

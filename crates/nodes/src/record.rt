@@ -6,7 +6,7 @@ ghost use lib.IntN.{natAbs};
 ghost use lib.ListN.{length, set};
 ghost use lib.Seq.{paste};
 ghost use Rattle.rules.specs.Network.{Input, Linear, Bootstrap};
-ghost use Rattle.nodes.specs.View.{biased, padded, recordOf, termsIn, GoodTerms};
+ghost use Rattle.nodes.specs.View.{given, biased, padded, recordOf, termsIn, GoodTerms};
 
 // The terms of a sum: the first n.
 pub struct Terms {
@@ -80,11 +80,12 @@ pub fn boot(source: usize, table: &[u8]) -> [u8; 38]
     r
 }
 
-pub fn input(name: &[u8]) -> [u8; 38]
+pub fn input(name: &[u8], weight: u8) -> [u8; 38]
     requires { ⌜ length (now name) ≤ 16 ⌝ }
-    ensures { λ r. ⌜ r ≡ recordOf (Input (now (name .entry))) ⌝ }
+    ensures { λ r. ⌜ r ≡ recordOf (Input (given (now (name .entry)) weight)) ⌝ }
 {
     let mut r = head(0, 0, name.len() as u8);
+    r[3] = weight;
     put_bytes(&mut r, name);
     r
 }

@@ -31,7 +31,8 @@ use Rattle.nodes.specs.View.{term, termsIn, FineTerms, GoodTerms, storeOf, IsSt
 use Rattle.bootstrap.specs.declared.boot.Booted.{Booted}
 use Rattle.gates.specs.declared.Work.{Work}
 use Rattle.outputs.specs.declared.Finished.{Finished}
-use Rattle.bootstrap.specs.View.{Grown, Stands, Boots, bootedOf}
+use Rattle.cone.specs.Sources.{Stands}
+use Rattle.bootstrap.specs.View.{Grown, Boots, bootedOf}
 use Rattle.gates.specs.View.{conesIn}
 use Rattle.bootstrap.specs.Boot.{grown-by-one, number-told, told-inside}
 use Rattle.gates.specs.Wired.{Wired, SlotIn, slot-cone}
@@ -55,7 +56,7 @@ pub record Finishes (before more : ℕ) (bytes : List ℕ) (f : Finished) : Type
   pub inside : f .number ≡ 0 → PortIn (f .count) (f .wire)
 
 pub record GoodPorts (ps : List ℕ) (n outs : ℕ) : Type 0 where
-  pub long : length ps ≡ 160
+  pub long : length ps ≡ 192
   pub few : outs ≤ 32
   pub wires : (i : ℕ) → i < outs → PortIn n (getD ps (64 + 3 * i + 2) 0)
 

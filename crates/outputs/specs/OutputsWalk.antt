@@ -27,13 +27,13 @@ outputsAt nodes k text ports i = record { nodes = storeOf nodes k; outputs = out
 
 -- The first i outputs have their wires, nodes below k or constants; nothing else has changed.
 pub record Written (before : List ℕ) (k i : ℕ) (ports : List ℕ) : Type 0 where
-  pub long : length ports ≡ 160
+  pub long : length ports ≡ 192
   pub done : (j : ℕ) → j < i → PortIn k (getD ports (64 + 3 * j + 2) 0)
   pub others : (j : ℕ) → ((m : ℕ) → m < i → j ≢ 64 + 3 * m + 2) → getD ports j 0 ≡ getD before j 0
 
 -- ---- laws: the ports
 
-pub written-none : (ports : List ℕ) (k : ℕ) → length ports ≡ 160 → Written ports k 0 ports
+pub written-none : (ports : List ℕ) (k : ℕ) → length ports ≡ 192 → Written ports k 0 ports
 written-none ports k long = record { long = long; done = λ j l. absurd (omega arith); others = λ j never. refl }
 
 pub port-more : (k more wire : ℕ) → k ≤ more → PortIn k wire → PortIn more wire

@@ -18,7 +18,7 @@ ghost use Rattle.rules.specs.Network.{Linear};
 ghost use Rattle.rules.specs.Cone as rules;
 ghost use Rattle.cone.specs.View.{coneOf};
 ghost use Rattle.nodes.specs.View.{term, storeOf, IsStore};
-ghost use Rattle.bootstrap.specs.View.{Stands};
+ghost use Rattle.cone.specs.Sources.{Stands};
 ghost use Rattle.gates.specs.View.{conesIn};
 ghost use Rattle.gates.specs.Wired.{Wired};
 ghost use Rattle.circuit.specs.View.{portWire, outputsIn};
@@ -146,7 +146,7 @@ pub fn map_outputs(
     s: Settings,
     nodes: &mut [u8; 25536],
     count: usize,
-    ports: &mut [usize; 160],
+    ports: &mut [usize; 192],
     wires: &[u8; 8580],
     n: usize,
     outs: usize,

@@ -12,8 +12,7 @@ use lib.Dec.{eqb}
 use lib.ListN.{length, getD, set, drop, length-set, drop-of-length-le}
 use lib.Seq.{drop-cons, getD-set-same, getD-set-other}
 use Rattle.laws.specs.Test.{if_then_else_, eq-or-ne}
-use Rattle.rules.specs.Network.{member, LutNode}
-use Rattle.rules.specs.NetworkText.{nodeAt}
+use Rattle.rules.specs.Network.{member, LutNode, nodeAt}
 use Rattle.rules.specs.Store.{needs, wantedBelow, renumbered}
 
 -- an entry that is not 0 is wanted, and no other is

@@ -10,6 +10,14 @@ use Rattle.rules.specs.declared.Settings.{Settings}
 abbrev pub Name : Type 0
 Name = List ℕ
 
+-- What an `in` line gives: a name, and the weight by which the input counts in a norm (document 02, S-6).
+pub record Given : Type 0 where
+  pub name : Name
+  pub weight : ℕ
+
+unfoldable pub givenNames : List Given → List Name
+givenNames gs = map (λ (g : Given). g .name) gs
+
 -- A gate: its answers at 0, 1 or at 2 × left + right; its one or two wires; the line it stands on.
 pub record Gate : Type 0 where
   pub bits : List ℕ
@@ -23,7 +31,7 @@ pub record Output : Type 0 where
 -- Nodes count from 0 over the inputs and then the gates.
 pub record Circuit : Type 0 where
   pub settings : Settings
-  pub inputs : List Name
+  pub inputs : List Given
   pub gates : List Gate
   pub outputs : List Output
 

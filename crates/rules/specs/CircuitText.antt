@@ -12,7 +12,7 @@ use Rattle.rules.specs.declared.Settings.{Settings}
 use Rattle.rules.specs.declared.Wire.{Wire}
 use Rattle.rules.specs.declared.Wire.the-variants.{Const, Node}
 use Rattle.rules.specs.Builder.{tableLimits}
-use Rattle.rules.specs.Circuit.{Name, Gate, Output, Circuit}
+use Rattle.rules.specs.Circuit.{Name, Given, givenNames, Gate, Output, Circuit}
 use Rattle.rules.specs.Form.{Reader, give, _>>=_, _>>_, _or_, whole, many, word, number, name, bits, wire, norm, inLine, outLine, lines, Condition, _when_, Reading, Good, Refused, readLines}
 
 -- ---- The forms.
@@ -20,7 +20,7 @@ use Rattle.rules.specs.Form.{Reader, give, _>>=_, _>>_, _or_, whole, man
 -- A gate's name doesn't matter.
 pub data CircuitLine : Type 0 where
   FbsLine : Settings → CircuitLine
-  InLine : Name → CircuitLine
+  InLine : Given → CircuitLine
   GateLine : List ℕ → List Wire → CircuitLine
   OutLine : Output → CircuitLine
 
@@ -69,7 +69,7 @@ circuitLine =
 -- What the lines so far say.
 pub record Prefix : Type 0 where
   pub settings : Option Settings
-  pub inputs : List Name
+  pub inputs : List Given
   pub gates : List Gate
   pub outputs : List Output
 
@@ -113,7 +113,7 @@ conditions c (FbsLine s) = (2 when not (inLimits s)) ∷ (4 when isSome (c .sett
 conditions c (InLine n) =
     (3 when leb 32 (length (c .inputs)))
     ∷ (4 when (not (isSome (c .settings)) || (some? (c .gates) || some? (c .outputs))))
-    ∷ (5 when listed n (c .inputs))
+    ∷ (5 when listed (n .name) (givenNames (c .inputs)))
     ∷ []
 conditions c (GateLine b ws) =
     (3 when leb 96 (length (c .gates)))

@@ -12,11 +12,11 @@ use Rattle.laws.specs.Test.{if_then_else_}
 use Rattle.rules.specs.declared.Policy.{Policy}
 use Rattle.rules.specs.declared.Policy.the-variants.{Basic, Naive, Span}
 use Rattle.rules.specs.declared.Settings.{Settings}
-use Rattle.rules.specs.Cone.{Cone, constant, coneBit, values, coneSpan, norm2, energy, fits, Result, ok, validateCone, Candidate, best}
+use Rattle.rules.specs.Cone.{Cone, constant, coneBit, values, coneSpan, terms, norm2, energy, fits, Result, ok, validateCone, Candidate, best}
 use Rattle.rules.specs.Network.{Term, LutNode, member}
 use Rattle.rules.specs.NetworkText.{sources}
 use Rattle.rules.specs.Scale.{normalised, isScalePair}
-use Rattle.rules.specs.Store.{terms, isUsed, coefficientOf, linearOf, hasBootstrap}
+use Rattle.rules.specs.Store.{isUsed, coefficientOf, linearOf, hasBootstrap}
 
 -- ---- The sources and the truth of a gate on two cones.
 
@@ -82,13 +82,13 @@ reuseCost s nodes c = let r = hasBootstrap nodes (linearOf s c) in if s .many &&
 
 -- Score::ordering with document 02's exchange (S-3): reuse, span, norm, energy, a, b.
 unfoldable pub score : Settings → List LutNode → Scales → Cone → List ℤ
-score s nodes p c = pos (reuseCost s nodes c) ∷ pos (coneSpan c) ∷ pos (norm2 c) ∷ pos (energy (values c)) ∷ p .a ∷ p .b ∷ []
+score s nodes p c = pos (reuseCost s nodes c) ∷ pos (coneSpan c) ∷ pos (norm2 nodes c) ∷ pos (energy (values c)) ∷ p .a ∷ p .b ∷ []
 
 -- evaluate: the candidate of a pair, if it fits.
 unfoldable pub evaluate : Settings → List LutNode → Scales → Cone → List Candidate
 evaluate s nodes p c =
     let r : List Candidate = record { score = score s nodes p c; cone = c } ∷ [] in
-    if fits s c then r else []
+    if fits s nodes c then r else []
 
 -- find_candidate: the merged cone of the least score.
 unfoldable pub findCandidate : Settings → List LutNode → List ℕ → Cone → Cone → List ℕ → Option Candidate
@@ -108,15 +108,15 @@ simplifyCone c =
     }
 
 -- merge_cones
-unfoldable pub mergeCones : Settings → Candidate → Result Cone
-mergeCones s d = validateCone s (simplifyCone (d .cone))
+unfoldable pub mergeCones : Settings → List LutNode → Candidate → Result Cone
+mergeCones s nodes d = validateCone s nodes (simplifyCone (d .cone))
 
 -- What a gate on two cones is, if they can be composed: none for more than T + 1 sources, or where no candidate fits.
 unfoldable pub compose : Settings → List LutNode → Cone → Cone → List ℕ → Option (Result Cone)
 compose s nodes left right gate =
     let support = unionSupport (left .support) (right .support) in
     let truth = gateTruth support left right gate in
-    let merged = Option·map (mergeCones s) (findCandidate s nodes support left right truth) in
+    let merged = Option·map (mergeCones s nodes) (findCandidate s nodes support left right truth) in
     if ltb (s .t + 1) (length support) then none
     else if allEqual truth then some (ok (constant (getD truth 0 0)))
     else merged

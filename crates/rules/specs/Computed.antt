@@ -8,6 +8,7 @@ pub mod Fillings
 pub mod Bootstraps
 pub mod Sharing
 pub mod Refusals
+pub mod Weights
 pub mod Buffers
 pub mod Sessions
 pub mod NineCases

@@ -1,6 +1,6 @@
 -- Cones (document 01, "A cone", "Norm of a sum"; `Cone` and its tests in mapper.rs).
 use mathlib.Core.Bool.{Bool, true, false, _&&_, not}
-use mathlib.Core.List.{List, [], _∷_, _++_, map}
+use mathlib.Core.List.{List, [], _∷_, _++_, map, zipWith}
 use mathlib.Core.Option.{Option, none, some}
 use Prim.Native.Nat.{ℕ, _+_, _*_}
 use lib.Dec.{leb}
@@ -10,8 +10,8 @@ use lib.Signed.{ltZ}
 use Rattle.laws.specs.Test.{if_then_else_, isSome}
 use Rattle.rules.specs.declared.Settings.{Settings}
 use Rattle.rules.specs.Builder.{knownEntries, completion}
+use Rattle.rules.specs.Network.{Term, LutNode, norm}
 use Rattle.rules.specs.NetworkText.{over}
-use Rattle.rules.specs.Scale.{norm}
 use Rattle.rules.specs.Span.{span}
 
 pub record Cone : Type 0 where
@@ -53,9 +53,13 @@ values c = linearTable (c .coefficients)
 unfoldable pub coneSpan : Cone → ℕ
 coneSpan c = span (values c)
 
--- Cone::norm2: each source counts 1.
-unfoldable pub norm2 : Cone → ℕ
-norm2 c = norm (c .coefficients)
+-- Each coefficient with its source.
+unfoldable pub terms : Cone → List Term
+terms c = zipWith (λ (k : ℤ) (n : ℕ). record { coef = k; node = n }) (c .coefficients) (c .support)
+
+-- Cone::norm2, each source with its weight.
+unfoldable pub norm2 : List LutNode → Cone → ℕ
+norm2 nodes c = norm nodes (terms c)
 
 -- EnergyMoments::energy over the divisor's square: squared values summed over all rows.
 unfoldable pub energy : List ℤ → ℕ
@@ -81,8 +85,8 @@ unfoldable pub withinNorm : Settings → ℕ → Bool
 withinNorm s n = not (over (s .norm) n)
 
 -- A cone that may stand: evaluate_prepared of a candidate, reusable_cone_coefficients of a form.
-unfoldable pub fits : Settings → Cone → Bool
-fits s c = let r = isLutValid s c in withinNorm s (norm2 c) && r
+unfoldable pub fits : Settings → List LutNode → Cone → Bool
+fits s nodes c = let r = isLutValid s c in withinNorm s (norm2 nodes c) && r
 
 -- Result<A, String>, with the number of the refusal for its text; `>>=` is `?`.
 pub data Result (A : Type 0) : Type 0 where
@@ -95,8 +99,8 @@ ok a >>= f = f a
 err k >>= f = err k
 
 -- validate_cone
-unfoldable pub validateCone : Settings → Cone → Result Cone
-validateCone s c = if not (isLutValid s c) then err 10 else if not (withinNorm s (norm2 c)) then err 8 else ok c
+unfoldable pub validateCone : Settings → List LutNode → Cone → Result Cone
+validateCone s nodes c = if not (isLutValid s c) then err 10 else if not (withinNorm s (norm2 nodes c)) then err 8 else ok c
 
 -- ---- The best of some cones.
 
@@ -125,5 +129,5 @@ unfoldable pub best : List Candidate → Option Candidate
 best cs = bestFrom none cs
 
 -- cone_order_key: span, norm.
-unfoldable pub coneOrderKey : Cone → List ℤ
-coneOrderKey c = pos (coneSpan c) ∷ pos (norm2 c) ∷ []
+unfoldable pub coneOrderKey : List LutNode → Cone → List ℤ
+coneOrderKey nodes c = pos (coneSpan c) ∷ pos (norm2 nodes c) ∷ []

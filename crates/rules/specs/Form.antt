@@ -13,7 +13,7 @@ use Rattle.rules.specs.declared.Limit.{Limit}
 use Rattle.rules.specs.declared.Limit.the-variants.{Unlimited, AtMost}
 use Rattle.rules.specs.declared.Wire.{Wire}
 use Rattle.rules.specs.declared.Wire.the-variants.{Const, Node}
-use Rattle.rules.specs.Circuit.{Name, Output}
+use Rattle.rules.specs.Circuit.{Name, Given, Output}
 
 -- The bytes of a quoted text.
 abbrev pub bytes : S.String → List ℕ
@@ -204,13 +204,21 @@ norm = (word "none" >> give Unlimited) or (number >>= upTo4096)
 
 -- ---- The lines that both texts have.
 
--- `(in NAME)`
-unfoldable pub inLine : Reader Name
+-- W is 2 to 64; where none is written the weight is 1 (document 02, S-6).
+unfoldable pub from2To64 : ℕ → Reader ℕ
+from2To64 n = if leb 2 n && leb n 64 then give n else (λ s. none)
+
+unfoldable pub weight : Reader ℕ
+weight = (word " " >> (number >>= from2To64)) or give 1
+
+-- `(in NAME)` or `(in NAME W)`
+unfoldable pub inLine : Reader Given
 inLine = do
   word "(in "
   n ← name
+  w ← weight
   word ")\n"
-  give n
+  give (record { name = n; weight = w })
 
 -- `(out NAME WIRE)`
 unfoldable pub outLine : Reader Output

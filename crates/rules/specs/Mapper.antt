@@ -43,7 +43,7 @@ unchanged nodes c = ok (record { nodes = nodes; cone = c; first = none; second =
 unfoldable pub mapUnaryGate : Settings → List LutNode → Cone → List ℕ → Result Mapped
 mapUnaryGate s nodes c gate =
     let truth = map (λ b. getD gate b 0) (c .truth) in
-    let r = validateCone s (record { support = c .support; coefficients = c .coefficients; truth = truth }) >>= unchanged nodes in
+    let r = validateCone s nodes (record { support = c .support; coefficients = c .coefficients; truth = truth }) >>= unchanged nodes in
     if allEqual truth then unchanged nodes (constant (getD truth 0 0)) else r
 
 -- One side of a binary gate: its cone, and whether it was bootstrapped here.
@@ -92,7 +92,7 @@ bootstrapRight s w = do
 
 -- The larger side (span, then norm) comes first.
 unfoldable pub largerFirst : Sides → Sides
-largerFirst w = if less (coneOrderKey (w .left .cone)) (coneOrderKey (w .right .cone)) then switchInputs w else w
+largerFirst w = if less (coneOrderKey (w .nodes) (w .left .cone)) (coneOrderKey (w .nodes) (w .right .cone)) then switchInputs w else w
 
 -- The two sides have more sources together than T.
 unfoldable pub overLimit : Settings → Sides → Bool
@@ -261,7 +261,7 @@ pruned s done =
 -- map: Basic's last check is on the largest norm.
 unfoldable pub checked : Settings → Network → Reading Network
 checked s w =
-    if isBasic (s .policy) && not (withinNorm s (largest nodeNorm (w .nodes))) then Refused 8 0
+    if isBasic (s .policy) && not (withinNorm s (largest (nodeNorm (w .nodes)) (w .nodes))) then Refused 8 0
     else Good w
 
 -- map_once: the inputs are the first nodes, and each is its own cone.

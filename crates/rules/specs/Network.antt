@@ -2,27 +2,26 @@
 use mathlib.Core.Bool.{Bool, true, false, _||_}
 use mathlib.Core.List.{List, [], _∷_, _++_, map}
 use mathlib.Core.Option.{Option, none, some, Option·map}
-use Prim.Native.Nat.{ℕ, _+_, max}
+use Prim.Native.Nat.{ℕ, _+_, _*_, max}
 use lib.Dec.{eqb}
-use lib.IntN.{ℤ, pos, negsuc, _+ℤ_, _*ℤ_}
+use lib.IntN.{ℤ, pos, negsuc, natAbs, _+ℤ_, _*ℤ_}
 use lib.ListN.{length, getD}
 use Rattle.laws.specs.Test.{if_then_else_}
 use Rattle.rules.specs.declared.Limit.{Limit}
 use Rattle.rules.specs.declared.Stats.{Stats}
 use Rattle.rules.specs.declared.Wire.{Wire}
 use Rattle.rules.specs.declared.Wire.the-variants.{Const, Node}
-use Rattle.rules.specs.Circuit.{Name, Output}
+use Rattle.rules.specs.Circuit.{Given, Output}
 use Rattle.rules.specs.Rotation.{rotated}
-use Rattle.rules.specs.Scale.{norm}
 
 -- One summand: a coefficient times a node.
 pub record Term : Type 0 where
   pub coef : ℤ
   pub node : ℕ
 
--- `(in NAME)`, `(lin CONST (COEF ID) ..)`, `(boot ID BITS)`.
+-- `(in NAME)` or `(in NAME W)`, `(lin CONST (COEF ID) ..)`, `(boot ID BITS)`.
 pub data LutNode : Type 0 where
-  Input : Name → LutNode
+  Input : Given → LutNode
   Linear : ℤ → List Term → LutNode
   Bootstrap : ℕ → List ℕ → LutNode
 
@@ -33,6 +32,10 @@ pub record Network : Type 0 where
   pub norm : Limit
   pub nodes : List LutNode
   pub outputs : List Output
+
+-- The node with number i, where there is one.
+unfoldable pub nodeAt : List LutNode → ℕ → LutNode
+nodeAt ns i = getD ns i (Input (record { name = []; weight = 1 }))
 
 -- ---- Bounds: the least and the greatest value that a node can have.
 
@@ -66,11 +69,22 @@ greatestOf (Bootstrap i table) = pos 1
 
 -- ---- Norms and statistics.
 
--- Norm of a sum: squared coefficients added; an `in` or `boot` node counts 1.
-unfoldable pub nodeNorm : LutNode → ℕ
-nodeNorm (Input n) = 1
-nodeNorm (Linear c ts) = norm (map (λ (t : Term). t .coef) ts)
-nodeNorm (Bootstrap i table) = 1
+-- The weight of a source (document 02, S-6): an `in` its own, a `boot` 1.
+unfoldable pub weightOf : LutNode → ℕ
+weightOf (Input n) = n .weight
+weightOf (Linear c ts) = 1
+weightOf (Bootstrap i table) = 1
+
+-- Norm of a sum over the nodes: each squared coefficient times its source's weight, added.
+unfoldable pub norm : List LutNode → List Term → ℕ
+norm nodes [] = 0
+norm nodes (t ∷ ts) = (natAbs (t .coef) * natAbs (t .coef)) * weightOf (nodeAt nodes (t .node)) + norm nodes ts
+
+-- An `in` or `boot` node counts its weight.
+unfoldable pub nodeNorm : List LutNode → LutNode → ℕ
+nodeNorm nodes (Input n) = weightOf (Input n)
+nodeNorm nodes (Linear c ts) = norm nodes ts
+nodeNorm nodes (Bootstrap i table) = weightOf (Bootstrap i table)
 
 unfoldable pub isInput : LutNode → Bool
 isInput (Input n) = true
@@ -126,7 +140,7 @@ stats w =
       boots = count isBootstrap (w .nodes);
       sources = different (bootSources (w .nodes));
       longest = largest tableLength (w .nodes);
-      norm = largest nodeNorm (w .nodes);
+      norm = largest (nodeNorm (w .nodes)) (w .nodes);
       outputs = length (w .outputs);
     }
 

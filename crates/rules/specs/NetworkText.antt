@@ -5,7 +5,7 @@ use mathlib.Core.Option.{Option, none, some}
 use Prim.Native.Nat.{ℕ}
 use lib.Dec.{leb, ltb, eqb}
 use lib.IntN.{ℤ, pos, natAbs, _+ℤ_}
-use lib.ListN.{length, getD}
+use lib.ListN.{length}
 use lib.Signed.{leZ}
 use Rattle.laws.specs.Integer.{eqZ}
 use Rattle.laws.specs.Test.{isSome}
@@ -20,7 +20,7 @@ use Rattle.rules.specs.Builder.{tableLimits}
 use Rattle.rules.specs.Circuit.{Name, Output}
 use Rattle.rules.specs.CircuitText.{listed, noNode}
 use Rattle.rules.specs.Form.{Reader, give, _>>=_, _>>_, _or_, whole, many, word, number, signed, bits, norm, inLine, outLine, lines, Condition, _when_, Reading, Good, Refused, readLines}
-use Rattle.rules.specs.Network.{Term, LutNode, Input, Linear, Bootstrap, Network, leastOf, greatestOf, nodeNorm, isInput, isLinear, count, member, stats}
+use Rattle.rules.specs.Network.{Term, LutNode, Input, Linear, Bootstrap, Network, nodeAt, leastOf, greatestOf, nodeNorm, isInput, isLinear, count, member, stats}
 use Rattle.rules.specs.Rotation.{rotatable}
 
 -- ---- The forms.
@@ -115,7 +115,7 @@ goodSum c ts = (small c && goodTerms ts) && ((leb 1 (length ts) && leb (length t
 
 unfoldable pub names : List LutNode → List Name
 names [] = []
-names (Input n ∷ ns) = n ∷ names ns
+names (Input n ∷ ns) = n .name ∷ names ns
 names (Linear c ts ∷ ns) = names ns
 names (Bootstrap i table ∷ ns) = names ns
 
@@ -125,10 +125,6 @@ allInputs ns = eqb (count isInput ns) (length ns)
 -- Not an earlier node.
 unfoldable pub unknown : List LutNode → ℕ → Bool
 unknown ns i = leb (length ns) i
-
--- The node with number i, where there is one.
-unfoldable pub nodeAt : List LutNode → ℕ → LutNode
-nodeAt ns i = getD ns i (Input [])
 
 -- Not an earlier node, or a `lin` on a `lin`.
 unfoldable pub anyBadSource : List LutNode → List ℕ → Bool
@@ -148,7 +144,7 @@ textConditions w (NodeLine (Input n)) =
     (21 when not (started w))
     ∷ (21 when (ending w || not (allInputs (w .nodes))))
     ∷ (21 when leb 32 (length (w .nodes)))
-    ∷ (21 when listed n (names (w .nodes)))
+    ∷ (21 when listed (n .name) (names (w .nodes)))
     ∷ []
 textConditions w (NodeLine (Linear c ts)) =
     (21 when not (started w))
@@ -192,7 +188,7 @@ noBit ns (Node i) = not (isBit (nodeAt ns i))
 unfoldable pub safetyConditions : NetPrefix → NetworkLine → List Condition
 safetyConditions w (NetLine n) = []
 safetyConditions w (NodeLine (Input n)) = []
-safetyConditions w (NodeLine (Linear c ts)) = (25 when over (settingsOf (w .net) .norm) (nodeNorm (Linear c ts))) ∷ []
+safetyConditions w (NodeLine (Linear c ts)) = (25 when over (settingsOf (w .net) .norm) (nodeNorm (w .nodes) (Linear c ts))) ∷ []
 safetyConditions w (NodeLine (Bootstrap i table)) =
     (23 when not (fitsTable (settingsOf (w .net) .m) (nodeAt (w .nodes) i) table))
     ∷ (24 when not (rotatable (settingsOf (w .net) .p) table))

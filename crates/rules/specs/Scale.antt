@@ -1,8 +1,8 @@
--- Scale arithmetic (document 01, "Scale pairs" and "Norm of a sum"): the signed divisor of a row of coefficients, the pairs that
--- are tried, and the norm.
+-- Scale arithmetic (document 01, "Scale pairs"): the signed divisor of a row of coefficients, and the pairs that
+-- are tried.
 use mathlib.Core.Bool.{Bool, true, false, _&&_, _||_}
 use mathlib.Core.List.{List, [], _∷_, map}
-use Prim.Native.Nat.{ℕ, zero, suc, _+_, _*_, max}
+use Prim.Native.Nat.{ℕ, zero, suc, max}
 use lib.Dec.{eqb}
 use lib.IntN.{ℤ, pos, negsuc, negℤ, natAbs}
 use lib.Signed.{ltZ, quotZ}
@@ -36,8 +36,3 @@ normalised cs = quotients (divisor cs) cs
 -- is_candidate_scale_pair: gcd 1, and a > 0 or a = 0 with b > 0.
 unfoldable pub isScalePair : ℤ → ℤ → Bool
 isScalePair a b = (ltZ (pos 0) a || (eqb (natAbs a) 0 && ltZ (pos 0) b)) && eqb (gcd (natAbs a) (natAbs b)) 1
-
--- coefficients_norm2: the squared coefficients added.
-unfoldable pub norm : List ℤ → ℕ
-norm [] = 0
-norm (c ∷ cs) = natAbs c * natAbs c + norm cs

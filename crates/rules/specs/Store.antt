@@ -1,6 +1,6 @@
 -- The node store (document 01, "src/lut.rs"; `LutCircuit` and `bootstrap_cone` in the Rust): a list of nodes, equal nodes shared.
 use mathlib.Core.Bool.{Bool, true, false, _&&_, not}
-use mathlib.Core.List.{List, [], _∷_, _++_, map, zipWith}
+use mathlib.Core.List.{List, [], _∷_, _++_, map}
 use mathlib.Core.Option.{Option, none, some}
 use Prim.Native.Nat.{ℕ, zero, suc, _+_}
 use lib.Dec.{leb, ltb, eqb}
@@ -14,9 +14,9 @@ use Rattle.rules.specs.declared.Wire.{Wire}
 use Rattle.rules.specs.declared.Wire.the-variants.{Const, Node}
 use Rattle.rules.specs.Circuit.{Output}
 use Rattle.rules.specs.CircuitText.{sameName}
-use Rattle.rules.specs.Cone.{Cone, identity, values, bootstrapTable, fits, Result, ok, err, Candidate, best, coneOrderKey}
-use Rattle.rules.specs.Network.{Term, LutNode, Input, Linear, Bootstrap, member, bootSources}
-use Rattle.rules.specs.NetworkText.{sources, nodeAt}
+use Rattle.rules.specs.Cone.{Cone, identity, values, terms, bootstrapTable, fits, Result, ok, err, Candidate, best, coneOrderKey}
+use Rattle.rules.specs.Network.{Term, LutNode, Input, Linear, Bootstrap, nodeAt, member, bootSources}
+use Rattle.rules.specs.NetworkText.{sources}
 use Rattle.rules.specs.Span.{least}
 
 -- ---- Sharing.
@@ -29,7 +29,7 @@ sameTerms (t ∷ ts) (u ∷ us) = let r = sameTerms ts us in (eqZ (t .coef) (u .
 
 -- Nodes are equal in the order of their terms too.
 unfoldable pub sameNode : LutNode → LutNode → Bool
-sameNode (Input n) (Input m) = sameName n m
+sameNode (Input n) (Input m) = sameName (n .name) (m .name) && eqb (n .weight) (m .weight)
 sameNode (Input n) (Linear d us) = false
 sameNode (Input n) (Bootstrap j u) = false
 sameNode (Linear c ts) (Input m) = false
@@ -49,10 +49,6 @@ unfoldable pub intern : LutNode → List LutNode → List LutNode
 intern n nodes = if ltb (numberOf n nodes) (length nodes) then nodes else nodes ++ (n ∷ [])
 
 -- ---- Sums.
-
--- Each coefficient with its source.
-unfoldable pub terms : Cone → List Term
-terms c = zipWith (λ (k : ℤ) (n : ℕ). record { coef = k; node = n }) (c .coefficients) (c .support)
 
 unfoldable pub isUsed : Term → Bool
 isUsed t = not (eqb (natAbs (t .coef)) 0)
@@ -106,8 +102,8 @@ bootstrapForms nodes support = select (sameSources support) (map termsOf (bootst
 unfoldable pub withForm : Cone → List Term → Cone
 withForm c ts = record { support = c .support; coefficients = map (coefficientOf ts) (c .support); truth = c .truth }
 
-unfoldable pub ranked : Cone → Candidate
-ranked c = record { score = coneOrderKey c; cone = c }
+unfoldable pub ranked : List LutNode → Cone → Candidate
+ranked nodes c = record { score = coneOrderKey nodes c; cone = c }
 
 unfoldable pub coneOr : Cone → Option Candidate → Cone
 coneOr c none = c
@@ -116,8 +112,8 @@ coneOr c (some d) = d .cone
 -- reusable_cone_coefficients: with many tables a sum, the cone by the first form of the least span and norm that fits, if there is one.
 unfoldable pub realigned : Settings → List LutNode → Cone → Cone
 realigned s nodes c =
-    let forms = select (fits s) (map (withForm c) (bootstrapForms nodes (c .support))) in
-    let r = coneOr c (best (map ranked forms)) in
+    let forms = select (fits s nodes) (map (withForm c) (bootstrapForms nodes (c .support))) in
+    let r = coneOr c (best (map (ranked nodes) forms)) in
     if s .many then r else c
 
 -- ---- Bootstrapping.

@@ -12,8 +12,8 @@ use Rattle.rules.specs.declared.SumReply.the-variants as Reply
 use Rattle.rules.specs.Composition.{assignments}
 use Rattle.rules.specs.Form as Form
 use Rattle.rules.specs.Form.{Reading, Good}
-use Rattle.rules.specs.Network.{Term, LutNode, Input, Linear, Bootstrap, Network}
-use Rattle.rules.specs.NetworkText.{nodeAt, readAdmitted}
+use Rattle.rules.specs.Network.{Term, LutNode, Input, Linear, Bootstrap, Network, nodeAt}
+use Rattle.rules.specs.NetworkText.{readAdmitted}
 
 -- CONST plus each COEF times its bit, a bit for each term in turn.
 unfoldable pub sumOfBits : ℤ → List Term → List ℕ → ℤ

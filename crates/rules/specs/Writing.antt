@@ -1,7 +1,7 @@
 -- How a network is written (document 01, "The text forms").
 use mathlib.Core.List.{List, [], _∷_, _++_}
 use Prim.Native.Nat.{ℕ, zero, suc, _+_, _/_, _%_}
-use lib.Dec.{ltb}
+use lib.Dec.{ltb, eqb}
 use lib.IntN.{ℤ, pos, negsuc}
 use Rattle.laws.specs.Test.{if_then_else_}
 use Rattle.rules.specs.declared.Limit.{Limit}
@@ -43,8 +43,12 @@ unfoldable pub termsText : List Term → List ℕ
 termsText [] = []
 termsText (t ∷ ts) = bytes " (" ++ signedText (t .coef) ++ bytes " " ++ digits (t .node) ++ bytes ")" ++ termsText ts
 
+-- A weight of 1 is not written.
+unfoldable pub weightText : ℕ → List ℕ
+weightText w = let r = bytes " " ++ digits w in if eqb w 1 then [] else r
+
 unfoldable pub nodeText : LutNode → List ℕ
-nodeText (Input n) = bytes "(in " ++ n ++ bytes ")\n"
+nodeText (Input n) = bytes "(in " ++ n .name ++ weightText (n .weight) ++ bytes ")\n"
 nodeText (Linear c ts) = bytes "(lin " ++ signedText c ++ termsText ts ++ bytes ")\n"
 nodeText (Bootstrap i table) = bytes "(boot " ++ digits i ++ bytes " " ++ bitsText table ++ bytes ")\n"
 

@@ -15,12 +15,14 @@ use Rattle.laws.specs.Front.{taken-step, taken-all}
 use Rattle.laws.specs.Test.{if_then_else_, lt-or-le}
 use Rattle.rules.specs.declared.Settings.{Settings}
 use Rattle.rules.specs.Cone.{linearTable, withinNorm}
-use Rattle.rules.specs.Scale.{divisor, quotients, normalised, isScalePair, norm}
+use Rattle.rules.specs.Scale.{divisor, quotients, normalised, isScalePair}
 use Rattle.rules.specs.Span.{least, span}
 use Rattle.scale.specs.Limits.{Within, Machine}
 use Rattle.scale.specs.Divisor.{divisor-not-zero}
+use Rattle.scale.specs.Norm.{norm-first}
 use Rattle.linear.specs.Span.{within-total}
 use Rattle.theorems.specs.LinearTables.{total}
+use Rattle.theorems.specs.Weights.{weightedNorm}
 use Rattle.scale_pair.specs.declared.pair.Pair.{Pair}
 use Rattle.merged_rows.specs.MergedIntegers.{zipWith-length, zipWith-at}
 use Rattle.merged_rows.specs.MergedValues.{combined, mergedValue}
@@ -45,27 +47,27 @@ mergedRow a b left right = zipWith (combined a b) left right
 unfoldable pub merged : ℤ → ℤ → List ℤ → List ℤ → List ℤ
 merged a b left right = normalised (mergedRow a b left right)
 
--- The least value, the span and the norm of normalised coefficients, within the limits or not.
-unfoldable pub weighed : Settings → ℤ → ℤ → ℤ → List ℤ → Pair
-weighed s a b d cs =
+-- The least value, the span and the norm by weights of normalised coefficients, within the limits or not.
+unfoldable pub weighed : Settings → List ℕ → ℤ → ℤ → ℤ → List ℤ → Pair
+weighed s ws a b d cs =
     record {
-      ok = leb (span (linearTable cs)) (s .m) && withinNorm s (norm cs);
+      ok = leb (span (linearTable cs)) (s .m) && withinNorm s (weightedNorm ws cs);
       a = a;
       b = b;
       divisor = d;
       low = least (linearTable cs);
       span = span (linearTable cs);
-      norm = norm cs;
+      norm = weightedNorm ws cs;
     }
 
-unfoldable pub measured : Settings → ℤ → ℤ → List ℤ → Pair
-measured s a b cs = weighed s a b (divisor cs) (normalised cs)
+unfoldable pub measured : Settings → List ℕ → ℤ → ℤ → List ℤ → Pair
+measured s ws a b cs = weighed s ws a b (divisor cs) (normalised cs)
 
 unfoldable pub noPair : Pair
 noPair = record { ok = false; a = pos 0; b = pos 0; divisor = pos 1; low = pos 0; span = 0; norm = 0 }
 
-unfoldable pub pairOf : Settings → List ℤ → List ℤ → ℤ → ℤ → Pair
-pairOf s left right a b = if isScalePair a b then measured s a b (mergedRow a b left right) else noPair
+unfoldable pub pairOf : Settings → List ℕ → List ℤ → List ℤ → ℤ → ℤ → Pair
+pairOf s ws left right a b = if isScalePair a b then measured s ws a b (mergedRow a b left right) else noPair
 
 -- Where a row's value stands in the table.
 unfoldable pub levelOf : Pair → ℤ → ℤ → ℕ
@@ -162,16 +164,16 @@ unfolding normalised
 normalised-small cs w = quotients-small (divisor cs) cs w
 
 -- ---- what the code puts together: each number is the one that is meant
-pub weighed-is : (s : Settings) (a b d : ℤ) (cs : List ℤ) (ok : Bool) (a′ b′ d′ low : ℤ) (sp n : ℕ)
-    → sp ≡ span (linearTable cs) → n ≡ norm cs → ok ≡ (leb sp (s .m) && withinNorm s n) → a′ ≡ a → b′ ≡ b → d′ ≡ d → low ≡ least (linearTable cs)
-    → _≡_ {A = Pair} (record { ok = ok; a = a′; b = b′; divisor = d′; low = low; span = sp; norm = n }) (weighed s a b d cs)
+pub weighed-is : (s : Settings) (ws : List ℕ) (a b d : ℤ) (cs : List ℤ) (ok : Bool) (a′ b′ d′ low : ℤ) (sp n : ℕ)
+    → sp ≡ span (linearTable cs) → n ≡ weightedNorm ws cs → ok ≡ (leb sp (s .m) && withinNorm s n) → a′ ≡ a → b′ ≡ b → d′ ≡ d → low ≡ least (linearTable cs)
+    → _≡_ {A = Pair} (record { ok = ok; a = a′; b = b′; divisor = d′; low = low; span = sp; norm = n }) (weighed s ws a b d cs)
 unfolding weighed
-weighed-is s a b d cs ok a′ b′ d′ low sp n e f g i j k l = rw (g, e, f, i, j, k, l)
+weighed-is s ws a b d cs ok a′ b′ d′ low sp n e f g i j k l = rw (g, e, f, i, j, k, l)
 
-pub measured-is : (s : Settings) (a b a′ b′ d : ℤ) (cs out : List ℤ) (r : Pair) → r ≡ weighed s a′ b′ d out → a′ ≡ a → b′ ≡ b → d ≡ divisor cs → out ≡ normalised cs
-    → r ≡ measured s a b cs
+pub measured-is : (s : Settings) (ws : List ℕ) (a b a′ b′ d : ℤ) (cs out : List ℤ) (r : Pair) → r ≡ weighed s ws a′ b′ d out → a′ ≡ a → b′ ≡ b → d ≡ divisor cs → out ≡ normalised cs
+    → r ≡ measured s ws a b cs
 unfolding measured
-measured-is s a b a′ b′ d cs out r e f g h k = e ∙ rw (f, g, h, k)
+measured-is s ws a b a′ b′ d cs out r e f g h k = e ∙ rw (f, g, h, k)
 
 pub normalised-fit : (cs out : List ℤ) → out ≡ normalised cs → length cs ≤ 11 → Within 1984 cs → (length out ≤ 11) × Within 1984 out
 normalised-fit cs out e h w = (rw (e, normalised-length cs) h, λ i. rw e (normalised-small cs w i))
@@ -183,12 +185,12 @@ module _ (left right : List ℤ) (r : Rows left right) (a b : ℤ) (s : Scaling 
   pub row-long : length left ≡ length out
   row-long = sym (ap length e ∙ row-length left right r a b)
 
-module _ (s : Settings) (left right : List ℤ) (a b a′ b′ : ℤ) (t : Bool) (e : a′ ≡ a) (f : b′ ≡ b) (g : t ≡ isScalePair a′ b′) where
-  pub pair-no : t ≡ false → noPair ≡ pairOf s left right a b
+module _ (s : Settings) (ws : List ℕ) (left right : List ℤ) (a b a′ b′ : ℤ) (t : Bool) (e : a′ ≡ a) (f : b′ ≡ b) (g : t ≡ isScalePair a′ b′) where
+  pub pair-no : t ≡ false → noPair ≡ pairOf s ws left right a b
   unfolding pairOf
   pair-no h = let q : isScalePair a b ≡ false = rw (g, e, f) at h in rw q
 
-  pub pair-yes : t ≡ true → (r : Pair) → r ≡ measured s a′ b′ (mergedRow a′ b′ left right) → r ≡ pairOf s left right a b
+  pub pair-yes : t ≡ true → (r : Pair) → r ≡ measured s ws a′ b′ (mergedRow a′ b′ left right) → r ≡ pairOf s ws left right a b
   unfolding pairOf
   pair-yes h r k = let q : isScalePair a b ≡ true = rw (g, e, f) at h in k ∙ rw (q, e, f)
 
@@ -209,9 +211,9 @@ value-small a b d x y s h k =
     rw (abs-quot (combined a b x y) d)
     (omega (arith, div-le-self (natAbs (combined a b x y)) (natAbs d), combined-small a b x y (s .first) (s .second) h k))
 
-pub measured-row : (s : Settings) (left right : List ℤ) (a b a′ b′ : ℤ) (r : Pair) (out : List ℤ) → a′ ≡ a → b′ ≡ b
-    → r ≡ measured s a′ b′ out → out ≡ mergedRow a b left right → r ≡ measured s a b (mergedRow a b left right)
-measured-row s left right a b a′ b′ r out e f g h = g ∙ rw (e, f, h)
+pub measured-row : (s : Settings) (ws : List ℕ) (left right : List ℤ) (a b a′ b′ : ℤ) (r : Pair) (out : List ℤ) → a′ ≡ a → b′ ≡ b
+    → r ≡ measured s ws a′ b′ out → out ≡ mergedRow a b left right → r ≡ measured s ws a b (mergedRow a b left right)
+measured-row s ws left right a b a′ b′ r out e f g h = g ∙ rw (e, f, h)
 
 pub merged-row : (left right : List ℤ) (a b : ℤ) (t out : List ℤ) → t ≡ mergedRow a b left right → out ≡ normalised t → out ≡ merged a b left right
 unfolding merged
@@ -220,6 +222,15 @@ merged-row left right a b t out e f = f ∙ ap normalised e
 pub merged-length : (left right : List ℤ) → Rows left right → (a b : ℤ) → length (merged a b left right) ≡ length left
 unfolding merged
 merged-length left right r a b = normalised-length (mergedRow a b left right) ∙ row-length left right r a b
+
+-- weights behind those of the sources do not matter
+pub pair-weights : (s : Settings) (ws : List ℕ) (left right : List ℤ) → Rows left right → (a b : ℤ)
+    → pairOf s ws left right a b ≡ pairOf s (take (length left) ws) left right a b
+unfolding pairOf measured weighed merged
+pair-weights s ws left right r a b =
+    let first : weightedNorm (take (length left) ws) (merged a b left right) ≡ weightedNorm ws (merged a b left right) =
+    ap (λ n. weightedNorm (take n ws) (merged a b left right)) (sym (merged-length left right r a b)) ∙ norm-first ws (merged a b left right) in
+    rw first
 
 pub row-same : (left right : List ℤ) (a b a′ b′ : ℤ) → a′ ≡ a → b′ ≡ b → mergedRow a′ b′ left right ≡ mergedRow a b left right
 row-same left right a b a′ b′ e f = rw (e, f)

@@ -12,7 +12,7 @@ ghost use Rattle.rules.specs.Scale.{divisor as divisorOf, normalised};
 ghost use Rattle.scale.specs.Limits.{Within};
 ghost use Rattle.scale_pair.specs.Pair.{Rows, Scaling, mergedRow, merged, weighed, measured, noPair, pairOf, Level, levelOf};
 
-// Whether the pair is a candidate, the pair, the divisor of its coefficients, and of the normalised ones the least value, the span and the norm.
+// Whether the pair is a candidate, the pair, the divisor of its coefficients, and of the normalised ones the least value, the span and the norm by weights.
 pub struct Pair {
     pub ok: bool,
     pub a: i64,
@@ -71,12 +71,12 @@ fn is_within(s: Settings, span: usize, norm: u64) -> bool
 }
 
 // The measures of normalised coefficients.
-fn weigh(coefs: &[i64], s: Settings, a: i64, b: i64, divisor: i64) -> Pair
-    requires { ⌜ (length (now coefs) ≤ 11) × Within 1984 (now coefs) ⌝ }
-    ensures { λ r. ⌜ r ≡ weighed s a b divisor (now (coefs .entry)) ⌝ }
+fn weigh(coefs: &[i64], weights: &[u8; 11], s: Settings, a: i64, b: i64, divisor: i64) -> Pair
+    requires { ⌜ (length (now coefs) ≤ 11) × ((length (now weights) ≡ 11) × Within 1984 (now coefs)) ⌝ }
+    ensures { λ r. ⌜ r ≡ weighed s (now (weights .entry)) a b divisor (now (coefs .entry)) ⌝ }
 {
     let span = linear::linear_span(coefs);
-    let norm = scale::coefficients_norm2(coefs);
+    let norm = scale::coefficients_norm2(coefs, weights);
     Pair {
         ok: is_within(s, span, norm),
         a,
@@ -88,21 +88,21 @@ fn weigh(coefs: &[i64], s: Settings, a: i64, b: i64, divisor: i64) -> Pair
     }
 }
 
-fn measure(coefs: &mut [i64], s: Settings, a: i64, b: i64) -> Pair
-    requires { ⌜ (length (now coefs) ≤ 11) × Within 1984 (now coefs) ⌝ }
-    ensures { λ r. ⌜ r ≡ measured s a b (now (coefs .entry)) ⌝ }
+fn measure(coefs: &mut [i64], weights: &[u8; 11], s: Settings, a: i64, b: i64) -> Pair
+    requires { ⌜ (length (now coefs) ≤ 11) × ((length (now weights) ≡ 11) × Within 1984 (now coefs)) ⌝ }
+    ensures { λ r. ⌜ r ≡ measured s (now (weights .entry)) a b (now (coefs .entry)) ⌝ }
 {
     let divisor = normalise(coefs);
-    weigh(coefs, s, a, b, divisor)
+    weigh(coefs, weights, s, a, b, divisor)
 }
 
-fn merge(left: &[i64], right: &[i64], s: Settings, a: i64, b: i64) -> Pair
-    requires { ⌜ Rows (now left) (now right) × Scaling a b ⌝ }
-    ensures { λ r. ⌜ r ≡ measured s a b (mergedRow a b (now (left .entry)) (now (right .entry))) ⌝ }
+fn merge(left: &[i64], right: &[i64], weights: &[u8; 11], s: Settings, a: i64, b: i64) -> Pair
+    requires { ⌜ Rows (now left) (now right) × ((length (now weights) ≡ 11) × Scaling a b) ⌝ }
+    ensures { λ r. ⌜ r ≡ measured s (now (weights .entry)) a b (mergedRow a b (now (left .entry)) (now (right .entry))) ⌝ }
 {
     let mut coefs = merge_rows(left, right, a, b);
     let n = left.len();
-    measure(&mut coefs[..n], s, a, b)
+    measure(&mut coefs[..n], weights, s, a, b)
 }
 
 fn no_pair() -> Pair
@@ -120,14 +120,14 @@ fn no_pair() -> Pair
 }
 
 // The pair (a, b), where it is a scale pair within the limits.
-fn candidate(left: &[i64], right: &[i64], s: Settings, a: i64, b: i64) -> Pair
-    requires { ⌜ Rows (now left) (now right) × Scaling a b ⌝ }
-    ensures { λ r. ⌜ r ≡ pairOf s (now (left .entry)) (now (right .entry)) a b ⌝ }
+fn candidate(left: &[i64], right: &[i64], weights: &[u8; 11], s: Settings, a: i64, b: i64) -> Pair
+    requires { ⌜ Rows (now left) (now right) × ((length (now weights) ≡ 11) × Scaling a b) ⌝ }
+    ensures { λ r. ⌜ r ≡ pairOf s (now (weights .entry)) (now (left .entry)) (now (right .entry)) a b ⌝ }
 {
     if !scale::is_candidate_scale_pair(a, b) {
         return no_pair();
     }
-    merge(left, right, s, a, b)
+    merge(left, right, weights, s, a, b)
 }
 
 fn signed(u: usize) -> i64
@@ -137,19 +137,27 @@ fn signed(u: usize) -> i64
     u as i64
 }
 
-// The pair (u, v - origin).
+// The pair (u, v - origin) of two rows over sources of these weights.
 pub fn candidate_at(
     left: &[i64],
     right: &[i64],
+    weights: &[u8; 11],
     s: Settings,
     u: usize,
     v: usize,
     origin: usize,
 ) -> Pair
-    requires { ⌜ Rows (now left) (now right) × ((u ≤ 32) × ((origin ≤ 32) × (v ≤ origin + 32))) ⌝ }
-    ensures { λ r. ⌜ r ≡ pairOf s (now (left .entry)) (now (right .entry)) (pos u) (pos v -ℤ pos origin) ⌝ }
+    requires { ⌜ Rows (now left) (now right) × ((length (now weights) ≡ 11) × ((u ≤ 32) × ((origin ≤ 32) × (v ≤ origin + 32)))) ⌝ }
+    ensures { λ r. ⌜ r ≡ pairOf s (now (weights .entry)) (now (left .entry)) (now (right .entry)) (pos u) (pos v -ℤ pos origin) ⌝ }
 {
-    candidate(left, right, s, signed(u), signed(v) - signed(origin))
+    candidate(
+        left,
+        right,
+        weights,
+        s,
+        signed(u),
+        signed(v) - signed(origin),
+    )
 }
 
 fn wide(x: i32) -> i64

@@ -17,10 +17,10 @@ use Rattle.laws.specs.Gcd.{gcd, gcdWithin}
 use Rattle.laws.specs.Integer.{ints, plus, minus, sub-parts, abs-parts, one-part-zero, false-ltZ}
 use Rattle.laws.specs.Test.{if_then_else_, eq-or-ne, decide, both-left, both-right}
 use Rattle.rules.specs.declared.Settings.{Settings}
-use Rattle.rules.specs.Cone.{Cone, Candidate, linearTable, values, fits, less, better, bestFrom, best}
+use Rattle.rules.specs.Cone.{Cone, Candidate, linearTable, values, fits, less, better, bestFrom, best, terms}
 use Rattle.rules.specs.Composition.{Scales, scales, allEqual, scalePairs, mergedCoefficients, score, evaluate}
 use Rattle.rules.specs.Network.{LutNode}
-use Rattle.rules.specs.Store.{terms, coefficientOf}
+use Rattle.rules.specs.Store.{coefficientOf}
 use Rattle.rules.specs.Scale.{divisor, quotients, normalised, isScalePair}
 use Rattle.theorems.specs.ConeValues.{linearTable-length}
 use Rattle.theorems.specs.Normalised.{normalised-length}
@@ -60,14 +60,14 @@ zero-value cs i =
     ap (λ l. getD l i (pos 0)) (table-divided (times (pos 0) cs) ∙ ap (quotients (divisor (times (pos 0) cs))) (table-times (pos 0) cs))
     ∙ zero-entry (divisor (times (pos 0) cs)) (divisor-not-zero (times (pos 0) cs)) (linearTable cs) i
 
-no-table : (s : Settings) (U : List ℕ) (cs : List ℤ) (truth : List ℕ) → length cs ≡ length U → length truth ≡ 2 ^ length U → allEqual truth ≡ false
-    → fits s (coneBy U (normalised (times (pos 0) cs)) truth) ≡ false
+no-table : (s : Settings) (nodes : List LutNode) (U : List ℕ) (cs : List ℤ) (truth : List ℕ) → length cs ≡ length U → length truth ≡ 2 ^ length U → allEqual truth ≡ false
+    → fits s nodes (coneBy U (normalised (times (pos 0) cs)) truth) ≡ false
 unfolding coneBy values times
-no-table s U cs truth e long mixed =
+no-table s nodes U cs truth e long mixed =
     ⊎-elim
-    (λ (f : fits s (coneBy U (normalised (times (pos 0) cs)) truth) ≡ true). absurd (true≢false (sym (allEqual-true truth (λ i h. agree f i 0 h (omega arith))) ∙ mixed)))
-    (λ (f : fits s (coneBy U (normalised (times (pos 0) cs)) truth) ≡ false). f)
-    (decide (fits s (coneBy U (normalised (times (pos 0) cs)) truth)))
+    (λ (f : fits s nodes (coneBy U (normalised (times (pos 0) cs)) truth) ≡ true). absurd (true≢false (sym (allEqual-true truth (λ i h. agree f i 0 h (omega arith))) ∙ mixed)))
+    (λ (f : fits s nodes (coneBy U (normalised (times (pos 0) cs)) truth) ≡ false). f)
+    (decide (fits s nodes (coneBy U (normalised (times (pos 0) cs)) truth)))
   where
     wide : length (normalised (times (pos 0) cs)) ≡ length U
     wide = normalised-length (times (pos 0) cs) ∙ length-map cs (λ (x : ℤ). x *ℤ pos 0) ∙ e
@@ -75,9 +75,9 @@ no-table s U cs truth e long mixed =
     many : length (linearTable (normalised (times (pos 0) cs))) ≡ length truth
     many = linearTable-length (normalised (times (pos 0) cs)) ∙ ap (λ n. 2 ^ n) wide ∙ sym long
 
-    agree : fits s (coneBy U (normalised (times (pos 0) cs)) truth) ≡ true → (i j : ℕ) → i < length truth → j < length truth → getD truth i 0 ≡ getD truth j 0
+    agree : fits s nodes (coneBy U (normalised (times (pos 0) cs)) truth) ≡ true → (i j : ℕ) → i < length truth → j < length truth → getD truth i 0 ≡ getD truth j 0
     agree f i j h l =
-        fits-consistent s (coneBy U (normalised (times (pos 0) cs)) truth) wide long f .same i j (subst (λ n. i < n) (sym many) h) (subst (λ n. j < n) (sym many) l)
+        fits-consistent s nodes (coneBy U (normalised (times (pos 0) cs)) truth) wide long f .same i j (subst (λ n. i < n) (sym many) h) (subst (λ n. j < n) (sym many) l)
         (zero-value cs i ∙ sym (zero-value cs j))
 
 -- ---- (0, 1) is not above any scale pair
@@ -144,14 +144,14 @@ module _ (s : Settings) (nodes : List LutNode) (U : List ℕ) (left right : Cone
   unfolding coefficientsOver
   wide = length-map U (coefficientOf (terms left))
 
-  evaluate-no : (p : Scales) (c : Cone) → fits s c ≡ false → evaluate s nodes p c ≡ []
+  evaluate-no : (p : Scales) (c : Cone) → fits s nodes c ≡ false → evaluate s nodes p c ≡ []
   unfolding evaluate
   evaluate-no p c e = ap {B = List Candidate} (λ t. if t then record { score = score s nodes p c; cone = c } ∷ [] else []) e
 
   none-of : (p : Scales) → natAbs (p .a +ℤ p .b) ≡ 0 → E p ≡ []
   none-of p e =
       ap (λ cs. evaluate s nodes p (coneBy U cs truth)) (merged-same p ∙ ap (λ k. normalised (times k l)) (zero-abs (p .a +ℤ p .b) e))
-      ∙ evaluate-no p (coneBy U (normalised (times (pos 0) l)) truth) (no-table s U l truth wide rows mixed)
+      ∙ evaluate-no p (coneBy U (normalised (times (pos 0) l)) truth) (no-table s nodes U l truth wide rows mixed)
 
   common-of : (p : Scales) → 0 < natAbs (p .a +ℤ p .b) → E p ≡ evaluate s nodes p common
   common-of p h = ap (λ cs. evaluate s nodes p (coneBy U cs truth)) (merged-same p ∙ normalised-same (p .a +ℤ p .b) l h)
@@ -174,7 +174,7 @@ module _ (s : Settings) (nodes : List LutNode) (U : List ℕ) (left right : Cone
   unfolding evaluate
   kept-common u b e =
       ap (λ d. bestFrom d (evaluate s nodes (scales (pos u) b) common)) found-is
-      ∙ keeps-first (fits s common) (record { score = score s nodes first common; cone = common }) (record { score = score s nodes (scales (pos u) b) common; cone = common }) (not-less u b e)
+      ∙ keeps-first (fits s nodes common) (record { score = score s nodes first common; cone = common }) (record { score = score s nodes (scales (pos u) b) common; cone = common }) (not-less u b e)
       ∙ sym found-is
 
   tried-keeps : (u : ℕ) (b : ℤ) → tried E found (scales (pos u) b) ≡ found

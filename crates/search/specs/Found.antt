@@ -15,14 +15,15 @@ use lib.Seq.{set-append-left, take-at}
 use Rattle.laws.specs.Test.{if_then_else_, isSome, decide, both-left}
 use Rattle.rules.specs.declared.Settings.{Settings}
 use Rattle.rules.specs.Builder.{agrees, enter, knownEntries, completable}
-use Rattle.rules.specs.Cone.{Cone, Candidate, linearTable, values, coneSpan, norm2, energy, completed, bootstrapTable, isLutValid, withinNorm, fits, better, bestFrom, best}
+use Rattle.rules.specs.Cone.{Cone, Candidate, linearTable, values, coneSpan, norm2, energy, completed, bootstrapTable, isLutValid, withinNorm, fits, better, bestFrom, best, terms}
 use Rattle.rules.specs.Composition.{Scales, scales, mergedCoefficients, reuseCost, score, evaluate}
 use Rattle.rules.specs.Network.{LutNode}
-use Rattle.rules.specs.Scale.{divisor, isScalePair, norm}
+use Rattle.rules.specs.Scale.{divisor, isScalePair}
 use Rattle.rules.specs.Span.{least, span}
-use Rattle.rules.specs.Store.{linearOf, terms}
+use Rattle.rules.specs.Store.{linearOf}
 use Rattle.theorems.specs.Rows.{Within, entered-entries, unknown-entries}
 use Rattle.theorems.specs.Spans.{offset-lt}
+use Rattle.theorems.specs.Weights.{weightsOf, weightedNorm, norm2-weighted}
 use Rattle.compose.specs.Basis.{coefficientsOver}
 use Rattle.theorems.specs.ConeValues.{linearTable-length}
 use Rattle.search.specs.declared.Ranges.{Ranges}
@@ -93,6 +94,9 @@ module _ (s : Settings) (nodes : List LutNode) (support : List ℕ) (left right 
   abbrev R : List ℤ
   R = coefficientsOver support right
 
+  abbrev ws : List ℕ
+  ws = weightsOf nodes support
+
   abbrev known-by : Context
   known-by = context s nodes support L R m
 
@@ -115,7 +119,7 @@ module _ (s : Settings) (nodes : List LutNode) (support : List ℕ) (left right 
     all = linearTable cs
 
     abbrev c : Pair
-    c = measured s a b (mergedRow a b L R)
+    c = measured s ws a b (mergedRow a b L R)
 
     abbrev C : Cone
     C = coneBy support cs truth
@@ -165,12 +169,17 @@ module _ (s : Settings) (nodes : List LutNode) (support : List ℕ) (left right 
     abbrev evaluated-one : Candidate
     evaluated-one = record { score = score s nodes (scales a b) C; cone = C }
 
+    norm-is : norm2 nodes C ≡ weightedNorm ws cs
+    unfolding coneBy
+    norm-is = norm2-weighted nodes C
+
     one-is : (known : List ℕ) → one support left right truth (scoreOf known-by c known) ≡ evaluated-one
-    unfolding score scoreList scoreOf reuseOf reuseCost linearOf values terms coneSpan norm2 coneBy measured weighed merged scales
+    unfolding score scoreList scoreOf reuseOf reuseCost linearOf values terms coneSpan coneBy measured weighed merged scales
     one-is known =
-        ap₂
-        (λ (e : ℤ) (k : Cone). record { score = pos (reuseCost s nodes C) ∷ pos (span all) ∷ pos (norm cs) ∷ e ∷ a ∷ b ∷ []; cone = k })
+        ap₂ {C = Candidate}
+        (λ (e : ℤ) (k : Cone). record { score = pos (reuseCost s nodes C) ∷ pos (span all) ∷ pos (weightedNorm ws cs) ∷ e ∷ a ∷ b ∷ []; cone = k })
         energy-is cone-is
+        ∙ ap {B = Candidate} (λ n. record { score = pos (reuseCost s nodes C) ∷ pos (span all) ∷ pos n ∷ pos (energy all) ∷ a ∷ b ∷ []; cone = C }) (sym norm-is)
 
     found-new : (known : List ℕ) → span all ≤ s .m → knownEntries all truth ≡ some (take (span all) known) → Found s support left right truth (scoreOf known-by c known)
     unfolding scoreOf measured weighed values coneSpan coneBy merged
@@ -183,11 +192,11 @@ module _ (s : Settings) (nodes : List LutNode) (support : List ℕ) (left right 
         }
 
     -- the definition's step
-    evaluated-is : evaluated (scales a b) ≡ (if fits s C then evaluated-one ∷ [] else [])
+    evaluated-is : evaluated (scales a b) ≡ (if fits s nodes C then evaluated-one ∷ [] else [])
     unfolding evaluate
     evaluated-is = ap (λ l. evaluate s nodes (scales a b) (coneBy support l truth)) coefficients
 
-    tried-no : (d : Option Candidate) → fits s C ≡ false → tried evaluated d (scales a b) ≡ d
+    tried-no : (d : Option Candidate) → fits s nodes C ≡ false → tried evaluated d (scales a b) ≡ d
     unfolding tried bestFrom scales
     tried-no d e = by (isScalePair a b) (evaluated-is ∙ ap (λ t. if t then evaluated-one ∷ [] else []) e)
       where
@@ -195,7 +204,7 @@ module _ (s : Settings) (nodes : List LutNode) (support : List ℕ) (left right 
         by true f = ap (bestFrom d) f
         by false f = refl
 
-    tried-yes : (d : Option Candidate) → isScalePair a b ≡ true → fits s C ≡ true → tried evaluated d (scales a b) ≡ some (better d evaluated-one)
+    tried-yes : (d : Option Candidate) → isScalePair a b ≡ true → fits s nodes C ≡ true → tried evaluated d (scales a b) ≡ some (better d evaluated-one)
     unfolding tried bestFrom scales
     tried-yes d t e =
         ap (λ t. if t then bestFrom d (evaluated (scales a b)) else d) t
@@ -205,24 +214,24 @@ module _ (s : Settings) (nodes : List LutNode) (support : List ℕ) (left right 
     unfolding tried scales
     tried-not d t = ap (λ t. if t then bestFrom d (evaluated (scales a b)) else d) t
 
-    fits-is : fits s C ≡ (withinNorm s (norm cs) && (leb (span all) (s .m) && isSome (completed (s .p) (knownEntries all truth))))
-    unfolding fits isLutValid bootstrapTable coneSpan norm2 values coneBy
-    fits-is = refl
+    fits-is : fits s nodes C ≡ (withinNorm s (weightedNorm ws cs) && (leb (span all) (s .m) && isSome (completed (s .p) (knownEntries all truth))))
+    unfolding fits isLutValid bootstrapTable coneSpan values coneBy
+    fits-is = ap (λ n. withinNorm s n && (leb (span all) (s .m) && isSome (completed (s .p) (knownEntries all truth)))) norm-is
 
     -- both steps
     stay : (old new : Score) (d e : Option Candidate) → new ≡ old → e ≡ d → Same old d → Same new e
     stay old new d e f g h = subst (λ r. Same r e) (sym f) (subst (λ o. Same old o) (sym g) h)
 
     module _ (best : Score) (d : Option Candidate) (same : Same best d) (is-pair : isScalePair a b ≡ true)
-        (within : (leb (span all) (s .m) && withinNorm s (norm cs)) ≡ true) where
+        (within : (leb (span all) (s .m) && withinNorm s (weightedNorm ws cs)) ≡ true) where
       short : span all ≤ s .m
-      short = leb-true (span all) (s .m) (both-left (leb (span all) (s .m)) (withinNorm s (norm cs)) within)
+      short = leb-true (span all) (s .m) (both-left (leb (span all) (s .m)) (withinNorm s (weightedNorm ws cs)) within)
 
       few : span all ≤ 32
       few = omega (arith, short)
 
-      fits-by : fits s C ≡ isSome (completed (s .p) (knownEntries all truth))
-      fits-by = fits-is ∙ both-hold (withinNorm s (norm cs)) (leb (span all) (s .m)) (isSome (completed (s .p) (knownEntries all truth))) within
+      fits-by : fits s nodes C ≡ isSome (completed (s .p) (knownEntries all truth))
+      fits-by = fits-is ∙ both-hold (withinNorm s (weightedNorm ws cs)) (leb (span all) (s .m)) (isSome (completed (s .p) (knownEntries all truth))) within
 
       entered-step : (o : Option (List ℕ)) → knownEntries all truth ≡ o
           → Same (considered known-by c best (enteredFrom c xs ys ts 0 (replicate 32 2))) (tried evaluated d (scales a b))
@@ -255,14 +264,14 @@ module _ (s : Settings) (nodes : List LutNode) (support : List ℕ) (left right 
       unfolding stepOf measured weighed merged
       measured-step t =
           ⊎-elim
-          (λ (e : (leb (span all) (s .m) && withinNorm s (norm cs)) ≡ true).
+          (λ (e : (leb (span all) (s .m) && withinNorm s (weightedNorm ws cs)) ≡ true).
           subst (λ r. Same r (tried evaluated d (scales a b))) (sym (ap (λ t. if t then entered else best) e)) (entered-step best d same t e (knownEntries all truth) refl))
-          (λ (e : (leb (span all) (s .m) && withinNorm s (norm cs)) ≡ false).
+          (λ (e : (leb (span all) (s .m) && withinNorm s (weightedNorm ws cs)) ≡ false).
           stay best _ d _ (ap (λ t. if t then entered else best) e)
-          (tried-no d (fits-is ∙ one-fails (withinNorm s (norm cs)) (leb (span all) (s .m)) (isSome (completed (s .p) (knownEntries all truth))) e)) same)
-          (decide (leb (span all) (s .m) && withinNorm s (norm cs)))
+          (tried-no d (fits-is ∙ one-fails (withinNorm s (weightedNorm ws cs)) (leb (span all) (s .m)) (isSome (completed (s .p) (knownEntries all truth))) e)) same)
+          (decide (leb (span all) (s .m) && withinNorm s (weightedNorm ws cs)))
 
-      pub pair-step : Same (stepOf known-by xs ys ts (pairOf s L R a b) best) (tried evaluated d (scales a b))
+      pub pair-step : Same (stepOf known-by xs ys ts (pairOf s ws L R a b) best) (tried evaluated d (scales a b))
       unfolding pairOf stepOf noPair
       pair-step =
           ⊎-elim

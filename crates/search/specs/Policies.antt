@@ -16,11 +16,11 @@ use Rattle.laws.specs.Test.{if_then_else_}
 use Rattle.rules.specs.declared.Policy.{Policy}
 use Rattle.rules.specs.declared.Policy.the-variants.{Basic, Naive, Span}
 use Rattle.rules.specs.declared.Settings.{Settings}
-use Rattle.rules.specs.Cone.{Cone, Candidate, linearTable, values, coneSpan, bestFrom, best}
+use Rattle.rules.specs.Cone.{Cone, Candidate, linearTable, values, coneSpan, bestFrom, best, terms}
 use Rattle.rules.specs.Composition.{Scales, scales, unionSupport, allEqual, scalePairs, triedPairs, mergedCoefficients, evaluate, findCandidate}
 use Rattle.rules.specs.Network.{LutNode}
 use Rattle.rules.specs.Scale.{isScalePair}
-use Rattle.rules.specs.Store.{terms, coefficientOf}
+use Rattle.rules.specs.Store.{coefficientOf}
 use Rattle.theorems.specs.ConeValues.{linearTable-length}
 use Rattle.theorems.specs.Spans.{span-is}
 use Rattle.compose.specs.declared.Basis.{Basis}

@@ -2,21 +2,22 @@
 use mathlib.Core.Path.{_≡_, sym, ap, ap₂, _∙_}
 use mathlib.Core.Bool.{Bool, true, false, _&&_}
 use mathlib.Core.List.{List, [], _∷_, zipWith}
-use Prim.Native.Nat.{ℕ, suc, _<_}
+use Prim.Native.Nat.{ℕ, suc}
 use native.Mathlib.Omega.{arith}
 use lib.IntN.{ℤ, negℤ}
-use lib.ListN.{length, getD, take}
+use lib.ListN.{length, take}
 use Rattle.laws.specs.Integer.{abs-neg}
 use Rattle.laws.specs.Test.{if_then_else_}
-use Rattle.rules.specs.Cone.{values}
+use Rattle.rules.specs.Cone.{values, terms}
 use Rattle.rules.specs.Composition.{reuseCost}
 use Rattle.rules.specs.Network.{Linear}
-use Rattle.rules.specs.Store.{terms, linearTerms, linearOf, hasBootstrap}
+use Rattle.rules.specs.Store.{linearTerms, linearOf, hasBootstrap}
 use Rattle.scale.specs.Limits.{Within}
 use Rattle.linear.specs.Span.{within-total}
 use Rattle.theorems.specs.LinearTables.{span-table}
 use Rattle.nodes.specs.declared.record.Terms.{Terms}
 use Rattle.nodes.specs.View.{IsStore, GoodTerms, FineTerms, term, termsOver, termsIn}
+use Rattle.cone.specs.Sources.{Near}
 use Rattle.scale_pair.specs.declared.pair.Pair.{Pair}
 use Rattle.scale_pair.specs.Pair.{Rows, merged}
 use Rattle.search.specs.Search.{Context, coneBy, reuseOf, Scored, Merges}
@@ -24,7 +25,7 @@ use Rattle.search.specs.Search.{Context, coneBy, reuseOf, Scored, Merges
 -- A node store that has the sources.
 pub record Stored (bytes : List ℕ) (count : ℕ) (sources : List ℕ) : Type 0 where
   pub store : IsStore bytes count
-  pub near : (i : ℕ) → i < length sources → getD sources i 0 < count
+  pub near : Near count sources
 
 -- The terms of the pair's sum.
 pub record SumOf (left right : List ℤ) (sources : List ℕ) (c : Pair) (t : Terms) : Type 0 where
@@ -34,7 +35,7 @@ pub record SumOf (left right : List ℤ) (sources : List ℕ) (c : Pair) (t : Te
   pub sources-are : t .sources ≡ sources
 
 -- ---- laws
-pub fine-zip : (count : ℕ) (cs : List ℤ) (ns : List ℕ) → Within 31 cs → ((i : ℕ) → i < length ns → getD ns i 0 < count) → FineTerms count (zipWith term cs ns)
+pub fine-zip : (count : ℕ) (cs : List ℤ) (ns : List ℕ) → Within 31 cs → Near count ns → FineTerms count (zipWith term cs ns)
 unfolding FineTerms zipWith term
 fine-zip count [] ns w h = tt
 fine-zip count (c ∷ cs) [] w h = tt

@@ -14,6 +14,7 @@ use Rattle.rules.specs.Cone.{Cone, linearTable}
 use Rattle.rules.specs.Composition.{reuseCost}
 use Rattle.rules.specs.Network.{LutNode}
 use Rattle.rules.specs.Span.{least, span}
+use Rattle.theorems.specs.Weights.{weightsOf}
 use Rattle.merged_rows.specs.declared.energy.Moments.{Moments}
 use Rattle.scale_pair.specs.declared.pair.Pair.{Pair}
 use Rattle.scale_pair.specs.declared.score.Score.{Score}
@@ -82,7 +83,7 @@ stepOf k xs ys ts c best =
 
 -- The pair (u, v - origin).
 unfoldable pub stepAt : Context → List ℤ → List ℤ → List ℕ → ℕ → ℕ → ℕ → Score → Score
-stepAt k xs ys ts origin u v best = stepOf k xs ys ts (pairOf (k .settings) (k .left) (k .right) (pos u) (pos v -ℤ pos origin)) best
+stepAt k xs ys ts origin u v best = stepOf k xs ys ts (pairOf (k .settings) (weightsOf (k .nodes) (k .sources)) (k .left) (k .right) (pos u) (pos v -ℤ pos origin)) best
 
 -- ---- what the code asks for
 -- Two values that both tables have at one row.
@@ -101,6 +102,11 @@ pub record Ready (s : Settings) (left right xs ys : List ℤ) (ts : List ℕ) (m
   pub t-long : length ts ≡ length xs
   pub comes : (j : ℕ) → j < length xs → ValuesIn (getD xs j (pos 0)) (getD ys j (pos 0)) left right
   pub moments : Small m
+
+-- The first weights are those of the sources.
+pub record Weighs (nodes : List LutNode) (sources ws : List ℕ) : Type 0 where
+  pub long : length ws ≡ 11
+  pub are : take (length sources) ws ≡ weightsOf nodes sources
 
 -- The pairs lie within the spans.
 pub record InSpans (r : Ranges) : Type 0 where

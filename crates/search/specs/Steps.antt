@@ -19,7 +19,7 @@ use Rattle.laws.specs.Test.{if_then_else_, decide, both-left}
 use Rattle.rules.specs.declared.Settings.{Settings}
 use Rattle.rules.specs.Builder.{Entries, agrees, completable}
 use Rattle.rules.specs.Cone.{linearTable, withinNorm}
-use Rattle.rules.specs.Scale.{gcdFrom, divisor, normalised, isScalePair, norm}
+use Rattle.rules.specs.Scale.{gcdFrom, divisor, normalised, isScalePair}
 use Rattle.rules.specs.Span.{least, span}
 use Rattle.scale.specs.Divisor.{divisor-not-zero}
 use Rattle.theorems.specs.Normalised.{divisor-abs}
@@ -28,21 +28,29 @@ use Rattle.linear.specs.Span.{table-within-total}
 use Rattle.theorems.specs.ConeValues.{linearTable-length}
 use Rattle.theorems.specs.Rows.{enter-turn, enter-stop, enter-end, entered-entries, unknown-entries}
 use Rattle.theorems.specs.Spans.{least-le, offset-lt}
+use Rattle.theorems.specs.Weights.{weightsOf, weightedNorm}
 use Rattle.merged_rows.specs.declared.energy.Moments.{Moments}
 use Rattle.scale_pair.specs.declared.pair.Pair.{Pair}
 use Rattle.scale_pair.specs.declared.score.Score.{Score}
 use Rattle.merged_rows.specs.MergedIntegers.{zipWith-length, zipWith-at}
 use Rattle.merged_rows.specs.MergedValues.{mergedValue, merged-values}
-use Rattle.scale_pair.specs.Pair.{Scaling, mergedRow, merged, weighed, measured, noPair, pairOf, levelOf, Level, row-small}
+use Rattle.scale_pair.specs.Pair.{Rows, Scaling, mergedRow, merged, weighed, measured, noPair, pairOf, levelOf, Level, row-small, pair-weights}
 use Rattle.scale_pair.specs.Score.{betterScore}
-use Rattle.search.specs.Search.{Context, rowValues, enteredFrom, energyBy, reuseOf, scoreOf, considered, stepOf, stepAt, ValuesIn, Ready, Scored, Merges}
+use Rattle.search.specs.Search.{Context, rowValues, enteredFrom, energyBy, reuseOf, scoreOf, considered, stepOf, stepAt, ValuesIn, Ready, Weighs, Scored, Merges}
 use Rattle.linear.specs.Table.{table-first}
 
-module _ (k : Context) (xs ys : List ℤ) (ts : List ℕ) (origin u v : ℕ) (best : Score) (c : Pair)
-    (e : c ≡ pairOf (k .settings) (k .left) (k .right) (pos u) (pos v -ℤ pos origin)) where
+-- the pair, by weights of which the first are those of the sources
+module _ (k : Context) (xs ys : List ℤ) (ts : List ℕ) (origin u v : ℕ) (best : Score) (c : Pair) (ws : List ℕ)
+    (rows : Rows (k .left) (k .right)) (even : length (k .sources) ≡ length (k .left)) (w : Weighs (k .nodes) (k .sources) ws)
+    (e : c ≡ pairOf (k .settings) ws (k .left) (k .right) (pos u) (pos v -ℤ pos origin)) where
   step-is : stepOf k xs ys ts c best ≡ stepAt k xs ys ts origin u v best
   unfolding stepAt
-  step-is = ap (λ p. stepOf k xs ys ts p best) e
+  step-is =
+      let a = pos u in
+      let b = pos v -ℤ pos origin in
+      let first : take (length (k .left)) ws ≡ weightsOf (k .nodes) (k .sources) = ap (λ n. take n ws) (sym even) ∙ w .are in
+      ap (λ p. stepOf k xs ys ts p best)
+      (e ∙ pair-weights (k .settings) ws (k .left) (k .right) rows a b ∙ ap (λ l. pairOf (k .settings) l (k .left) (k .right) a b) first)
 
   pub step-skipped : c .ok ≡ false → best ≡ stepAt k xs ys ts origin u v best
   unfolding stepOf
@@ -128,7 +136,7 @@ low-below l v n e h k =
     omega (arith, abs-parts (pos 0 -ℤ l), sub-parts (pos 0) l, one-part-zero (pos 0 -ℤ l), abs-parts l, one-part-zero l)
 
 -- ---- a pair that is a candidate
-module _ (s : Settings) (left right xs ys : List ℤ) (ts : List ℕ) (m : Moments) (ready : Ready s left right xs ys ts m) (a b : ℤ) (scaling : Scaling a b) where
+module _ (s : Settings) (left right xs ys : List ℤ) (ts : List ℕ) (m : Moments) (ready : Ready s left right xs ys ts m) (ws : List ℕ) (a b : ℤ) (scaling : Scaling a b) where
   abbrev cs : List ℤ
   cs = mergedRow a b left right
 
@@ -150,16 +158,16 @@ module _ (s : Settings) (left right xs ys : List ℤ) (ts : List ℕ) (m : Momen
       ∙ zipWith-at (mergedValue a b (divisor cs)) (linearTable left) (linearTable right) i (pos 0) (pos 0) (pos 0) (rw (linearTable-length right, linearTable-length left, ready .rows .even)) h
       ∙ ap₂ (mergedValue a b (divisor cs)) ex ey
 
-  fits-span : measured s a b cs .ok ≡ true → span all ≤ 32
+  fits-span : measured s ws a b cs .ok ≡ true → span all ≤ 32
   unfolding measured weighed
-  fits-span h = omega (arith, ready .narrow, leb-true (span all) (s .m) (both-left (leb (span all) (s .m)) (withinNorm s (norm (normalised cs))) h))
+  fits-span h = omega (arith, ready .narrow, leb-true (span all) (s .m) (both-left (leb (span all) (s .m)) (withinNorm s (weightedNorm ws (normalised cs))) h))
 
   low-small : span all ≤ 32 → natAbs (least all) ≤ 31
   low-small h =
       low-below (least all) (getD all 0 (pos 0)) (span all) (table-first (normalised cs))
       (offset-lt all 0 (rw (linearTable-length (normalised cs)) (pow-pos (length (normalised cs))))) h
 
-  scored-measured : measured s a b cs .ok ≡ true → Scored (measured s a b cs)
+  scored-measured : measured s ws a b cs .ok ≡ true → Scored (measured s ws a b cs)
   unfolding measured weighed
   scored-measured h =
       record {
@@ -170,7 +178,7 @@ module _ (s : Settings) (left right xs ys : List ℤ) (ts : List ℕ) (m : Momen
         narrow = fits-span h;
       }
 
-  merges-measured : Merges left right (measured s a b cs)
+  merges-measured : Merges left right (measured s ws a b cs)
   unfolding measured weighed merged
   merges-measured = record { low-is = refl; span-is = refl }
 
@@ -181,7 +189,7 @@ module _ (s : Settings) (left right xs ys : List ℤ) (ts : List ℕ) (m : Momen
     y-near : natAbs y ≤ 31
     y-near = subst (λ z. natAbs z ≤ 31) (r .y-is) (omega (arith, table-within-total right (r .at), ready .rows .rights))
 
-    level-measured : measured s a b cs .ok ≡ true → Level (measured s a b cs) x y
+    level-measured : measured s ws a b cs .ok ≡ true → Level (measured s ws a b cs) x y
     unfolding measured weighed
     level-measured h =
         record {
@@ -193,22 +201,22 @@ module _ (s : Settings) (left right xs ys : List ℤ) (ts : List ℕ) (m : Momen
           above = subst (λ z. least all ≤ℤ z) (value-at (r .at) x y (r .inside) (r .x-is) (r .y-is)) (least-le all (r .at) (rw all-long (r .inside)));
         }
 
-    inside-measured : measured s a b cs .ok ≡ true → levelOf (measured s a b cs) x y < 32
+    inside-measured : measured s ws a b cs .ok ≡ true → levelOf (measured s ws a b cs) x y < 32
     unfolding measured weighed levelOf
     inside-measured h =
         let q = subst (λ z. natAbs (z -ℤ least all) < span all) (value-at (r .at) x y (r .inside) (r .x-is) (r .y-is)) (offset-lt all (r .at) (rw all-long (r .inside))) in
         omega (arith, fits-span h)
 
-  module _ (c : Pair) (e : c ≡ pairOf s left right a b) (ok : c .ok ≡ true) where
-    is-measured : c ≡ measured s a b cs
+  module _ (c : Pair) (e : c ≡ pairOf s ws left right a b) (ok : c .ok ≡ true) where
+    is-measured : c ≡ measured s ws a b cs
     unfolding pairOf noPair
     is-measured =
         ⊎-elim
-        (λ (t : isScalePair a b ≡ true). e ∙ ap (λ q. if q then measured s a b cs else noPair) t)
-        (λ (t : isScalePair a b ≡ false). absurd (true≢false (sym ok ∙ ap (λ (p : Pair). p .ok) (e ∙ ap (λ q. if q then measured s a b cs else noPair) t))))
+        (λ (t : isScalePair a b ≡ true). e ∙ ap (λ q. if q then measured s ws a b cs else noPair) t)
+        (λ (t : isScalePair a b ≡ false). absurd (true≢false (sym ok ∙ ap (λ (p : Pair). p .ok) (e ∙ ap (λ q. if q then measured s ws a b cs else noPair) t))))
         (decide (isScalePair a b))
 
-    measured-ok : measured s a b cs .ok ≡ true
+    measured-ok : measured s ws a b cs .ok ≡ true
     measured-ok = sym (ap (λ (p : Pair). p .ok) is-measured) ∙ ok
 
     pub scored : Scored c

@@ -2,6 +2,7 @@
 mod forms;
 
 use compose::Basis;
+use cone::weights::weights_of;
 use forms::is_same_form;
 use merged_rows::energy::Moments;
 use nodes::record::Terms;
@@ -30,7 +31,7 @@ ghost use Rattle.search.specs.Policies.{rangesOf, Attempted, Finds};
 ghost use Rattle.nodes.specs.View.{storeOf};
 ghost use Rattle.search.specs.Reuse.{Stored, SumOf};
 ghost use Rattle.scale_pair.specs.Score.{noScore};
-ghost use Rattle.search.specs.Search.{context, considered as consideredBy, energyBy, reuseOf, stepAt, Ready, InSpans, Scored, Merges};
+ghost use Rattle.search.specs.Search.{context, considered as consideredBy, energyBy, reuseOf, stepAt, Ready, Weighs, InSpans, Scored, Merges};
 ghost use Rattle.search.specs.Walk.{walk};
 
 // The pairs: a from bottom up to and not including top; b from start to end likewise, less the origin.
@@ -149,13 +150,14 @@ fn considered(
     )
 }
 
-// search_candidate: the least score among the scale pairs; found is false where there is none.
+// search_candidate: the least score among the scale pairs, norms by the sources' weights; found is false where there is none.
 pub fn search(
     s: Settings,
     r: Ranges,
     m: Moments,
     left: &[i64],
     right: &[i64],
+    weights: &[u8; 11],
     sources: [usize; 11],
     nodes: &[u8; 25536],
     count: usize,
@@ -163,7 +165,7 @@ pub fn search(
     ys: &[i32],
     truth: &[u8],
 ) -> Score
-    requires { ⌜ Ready s (now left) (now right) (now xs) (now ys) (now truth) m × (InSpans r × Stored (now nodes) count (take (length (now left)) sources)) ⌝ }
+    requires { ⌜ Ready s (now left) (now right) (now xs) (now ys) (now truth) m × (InSpans r × (Stored (now nodes) count (take (length (now left)) sources) × Weighs (storeOf (now nodes) count) (take (length (now left)) sources) (now weights))) ⌝ }
     ensures { λ t. ⌜ t ≡ walk (stepAt (context s (storeOf (now (nodes .entry)) count) (take (length (now (left .entry))) sources) (now (left .entry)) (now (right .entry)) m) (now (xs .entry)) (now (ys .entry)) (now (truth .entry)) (r .origin)) (r .start) (r .end - r .start) (r .bottom) (r .top - r .bottom) noScore ⌝ }
 {
     let top = r.top;
@@ -172,7 +174,7 @@ pub fn search(
     let mut best = no_score();
     for u in r.bottom..top {
         'pair: for v in r.start..end {
-            let c = candidate_at(left, right, s, u, v, origin);
+            let c = candidate_at(left, right, weights, s, u, v, origin);
             if !c.ok {
                 continue 'pair;
             }
@@ -266,12 +268,14 @@ pub fn find_candidate(
     let policy = s.policy;
     let same = is_same_form(basis);
     let r = ranges_of(same, policy, first, second);
+    let weights = weights_of(nodes, &sources[..n]);
     search(
         s,
         r,
         m,
         &left[..n],
         &right[..n],
+        &weights,
         sources,
         nodes,
         count,

@@ -1,7 +1,7 @@
 -- Which reading a node of the store gets.
 use mathlib.Core.Path.{_≡_, refl, sym, ap, ap₂, subst, _∙_}
 use mathlib.Core.Bool.{true, true≢false}
-use mathlib.Core.List.{List, []}
+use mathlib.Core.List.{List}
 use mathlib.Core.Logic.{⊎-elim}
 use Prim.Native.Nat.{ℕ, _<_, _≤_}
 use native.Mathlib.Omega.{arith}
@@ -14,11 +14,12 @@ use Rattle.laws.specs.Integer.{abs-add, abs-neg, fits-abs}
 use Rattle.laws.specs.Lists.{map-at}
 use Rattle.laws.specs.Test.{lt-or-le}
 use Rattle.rules.specs.Cone.{linearTable}
-use Rattle.rules.specs.Network.{Term, LutNode, Input, Linear, Bootstrap, isLinear}
-use Rattle.rules.specs.NetworkText.{nodeAt, readAdmitted}
+use Rattle.rules.specs.Network.{Term, LutNode, Input, Linear, Bootstrap, isLinear, nodeAt}
+use Rattle.rules.specs.NetworkText.{readAdmitted}
 use Rattle.rules.specs.Store.{termsOf}
 use Rattle.rules.specs.SumReading.{Refused, shown, readingAt, sumReadingOn, sumReading, sumAnswer}
 use Rattle.scale.specs.Limits.{Within}
+use Rattle.theorems.specs.NodesAt.{node-none}
 use Rattle.theorems.specs.Terms.{coefs}
 use Rattle.nodes.specs.Nodes.{kindOf, constantOf, coefficient-small}
 use Rattle.nodes.specs.View.{term, Fine, IsStore, storeOf}
@@ -33,7 +34,7 @@ use Rattle.sum_reading.specs.Rows.{firstPlace, rowReading, reading-row}
 sum-row : (x : LutNode) (value : ℤ) → isLinear x ≡ true
     → readingAt x value ≡ shown (rowReading (length (termsOf x)) (firstPlace (value -ℤ constantOf x) (linearTable (coefs (termsOf x)))))
 unfolding isLinear readingAt termsOf constantOf
-sum-row (Input n) value e = absurd (true≢false (sym e))
+sum-row (Input g) value e = absurd (true≢false (sym e))
 sum-row (Linear c ts) value e = ap shown (reading-row c ts value)
 sum-row (Bootstrap i table) value e = absurd (true≢false (sym e))
 
@@ -66,13 +67,13 @@ rest-fits v c f h = fits-abs (v -ℤ c) (omega (arith, abs-add v (negℤ c), abs
 
 pub not-linear : (x : LutNode) (value : ℤ) → (kindOf x ≡ 1 → ⊥) → readingAt x value ≡ Refused 35 0
 unfolding kindOf readingAt
-not-linear (Input n) value h = refl
+not-linear (Input g) value h = refl
 not-linear (Linear c ts) value h = absurd (h refl)
 not-linear (Bootstrap i table) value h = refl
 
 pub no-node : (ns : List LutNode) (node : ℕ) (value : ℤ) → length ns ≤ node → readingAt (nodeAt ns node) value ≡ Refused 35 0
-unfolding nodeAt readingAt
-no-node ns node value h = ap (λ x. readingAt x value) (List·getD-eq-default ns (Input []) h)
+unfolding readingAt
+no-node ns node value h = ap (λ x. readingAt x value) (node-none ns node h)
 
 -- ---- laws: the text that was read
 

@@ -4,8 +4,7 @@ mod search;
 
 ghost use mathlib.Core.Path.{_≡_};
 ghost use mathlib.Core.Bool.{true};
-ghost use Rattle.rules.specs.Network.{isLinear};
-ghost use Rattle.rules.specs.NetworkText.{nodeAt};
+ghost use Rattle.rules.specs.Network.{isLinear, nodeAt};
 ghost use Rattle.rules.specs.SumReading.{Refused, readingAt, sumReading, sumAnswer};
 ghost use Rattle.nodes.specs.View.{nodeOf, storeOf, IsNode, IsStore};
 use network::Reading;

@@ -15,8 +15,8 @@ use lib.Seq.{drop-cons}
 use Rattle.laws.specs.Select.{select}
 use Rattle.laws.specs.Test.{if_then_else_, if-both, eq-or-ne}
 use Rattle.rules.specs.Network.{member}
-use Rattle.rules.specs.Cone.{Cone}
-use Rattle.rules.specs.Store.{terms, coefficientOf}
+use Rattle.rules.specs.Cone.{Cone, terms}
+use Rattle.rules.specs.Store.{coefficientOf}
 use Rattle.rules.specs.Composition.{unionSupport}
 use Rattle.theorems.specs.Terms.{termsOver}
 use Rattle.support.specs.Rows.{position}

@@ -16,8 +16,8 @@ use Rattle.rules.specs.Circuit.{Output}
 use Rattle.rules.specs.CircuitText.{noNode}
 use Rattle.rules.specs.Builder.{tableLimits}
 use Rattle.rules.specs.Form.{Good, lines}
-use Rattle.rules.specs.Network.{Term, LutNode, Input, Linear, Bootstrap, Network, leastOf, greatestOf, nodeNorm}
-use Rattle.rules.specs.NetworkText.{Net, NetworkLine, NetLine, NodeLine, OutLine, NetPrefix, sources, unknown, nodeAt, anyBadSource, started, ending, settingsOf, over, fitsTable, noBit, networkLine, textConditions, safetyConditions, admissionConditions, withNetworkLine, withNet, networkEnded, noNetwork, readAdmitted}
+use Rattle.rules.specs.Network.{Term, LutNode, Input, Linear, Bootstrap, Network, leastOf, greatestOf, nodeNorm, nodeAt}
+use Rattle.rules.specs.NetworkText.{Net, NetworkLine, NetLine, NodeLine, OutLine, NetPrefix, sources, unknown, anyBadSource, started, ending, settingsOf, over, fitsTable, noBit, networkLine, textConditions, safetyConditions, admissionConditions, withNetworkLine, withNet, networkEnded, noNetwork, readAdmitted}
 use Rattle.rules.specs.Rotation.{rotatable}
 use Rattle.rules.specs.Runs.{allBits}
 use Rattle.theorems.specs.Readings.{NoneMet}
@@ -122,7 +122,7 @@ admitted-admissible text w e =
 
 pub record LinPasses (n : Net) (ns : List LutNode) (c : ℤ) (ts : List Term) : Type 0 where
   pub sources-in : anyBadSource ns (sources ts) ≡ false
-  pub norm-in : over (n .norm) (nodeNorm (Linear c ts)) ≡ false
+  pub norm-in : over (n .norm) (nodeNorm ns (Linear c ts)) ≡ false
 
 pub lin-passes : (n : Net) (ns : List LutNode) (c : ℤ) (ts : List Term) → Passes n ns [] (NodeLine (Linear c ts)) → LinPasses n ns c ts
 unfolding Passes NoneMet admissionConditions textConditions safetyConditions settingsOf

@@ -9,7 +9,7 @@ use native.Mathlib.Omega.{arith}
 use borrow.Author.Tests.{le-ltb, leb-false, ltb-false, not-false}
 use lib.Dec.{T, eqb}
 use lib.IntN.{ℤ, pos, negsuc, _+ℤ_}
-use lib.ListN.{length-map, length, getD, length-append, List·getD-append, List·getD-eq-default}
+use lib.ListN.{length-map, length, getD, length-append, List·getD-append}
 use lib.Seq.{getD-at}
 use lib.Signed.{_≤ℤ_, leZ}
 use Rattle.laws.specs.Integer.{plus, minus, add-parts, ints}
@@ -23,8 +23,8 @@ use Rattle.rules.specs.declared.Wire.the-variants.{Const, Node}
 use Rattle.rules.specs.Circuit.{Output}
 use Rattle.rules.specs.CircuitText.{noNode}
 use Rattle.rules.specs.Form.{Good, lines}
-use Rattle.rules.specs.Network.{Term, LutNode, Input, Linear, Bootstrap, Network, isInput, count, stats, leastOf, greatestOf, nodeNorm, nodeValue, withValue, nodeValues, wireValue, outputValues, networkRun, sumFrom}
-use Rattle.rules.specs.NetworkText.{Net, NodeLine, nodeAt, isBit, noBit, over as overLimit, textConditions, networkEnded, noNetwork, readNetwork, readAdmitted, admitted, admission}
+use Rattle.rules.specs.Network.{Term, LutNode, Input, Linear, Bootstrap, Network, isInput, count, stats, leastOf, greatestOf, norm, nodeNorm, nodeValue, withValue, nodeValues, wireValue, outputValues, networkRun, sumFrom, nodeAt}
+use Rattle.rules.specs.NetworkText.{Net, NodeLine, sources, isBit, noBit, over as overLimit, textConditions, networkEnded, noNetwork, readNetwork, readAdmitted, admitted, admission}
 use Rattle.rules.specs.Outcome.{written}
 use Rattle.rules.specs.Rotation.{Rotatable, rotated}
 use Rattle.rules.specs.Runs.{Numbered, ran, allBits, bitsFor, withValues, runOn, runNetworkOn, runNetwork}
@@ -32,6 +32,9 @@ use Rattle.theorems.specs.AdmissionExact.{admissions, admission-text, st
 use Rattle.theorems.specs.Admissible.{Passes, NodesPass, OutputsPass, netOf, Admissible, lin-passes, BootPasses, boot-passes, OutPasses, out-passes, admitted-admissible}
 use Rattle.theorems.specs.Bounds.{ZeroOrOne, Bounded, bit-between, sum-bounded, bounded-snoc}
 use Rattle.theorems.specs.LineBits.{WireBit}
+use Rattle.theorems.specs.NodesAt.{node-next, node-none}
+use Rattle.theorems.specs.SumLine.{line-of}
+use Rattle.theorems.specs.Weights.{same-norm, longer-weights, sources-within}
 use Rattle.theorems.specs.GoodTexts.{fewer}
 use Rattle.theorems.specs.RotationRule.{rotation-rule}
 use Rattle.theorems.specs.Bits.{bit-at}
@@ -57,7 +60,7 @@ pub record Safe (w : Network) (bits : List ℕ) : Type 0 where
   pub outputs : networkRun w bits ≡ some (outputValues (w .outputs) values)
   pub outputBits : (j : ℕ) → j < length (w .outputs) → ZeroOrOne (getD (outputValues (w .outputs) values) j (pos 0))
   pub norms : (k limit : ℕ) (c : ℤ) (ts : List Term) → nodeAt (w .nodes) k ≡ Linear c ts → w .norm ≡ AtMost limit
-      → nodeNorm (Linear c ts) ≤ limit
+      → nodeNorm (w .nodes) (Linear c ts) ≤ limit
 
 -- A text that is admitted, s its statistics: a run reads the network that admission has read, it is s recounted, it is safe on every
 -- assignment of its input bits, and the run's entry answers its outputs.
@@ -151,9 +154,8 @@ pub record Run (P : ℕ) (bits : List ℕ) (all : List LutNode) (values : List �
       → (i < k) × Lookup P table (getD final i (pos 0)) (getD final k (pos 0))
 
 no-node : (ns : List LutNode) (k i : ℕ) (table : List ℕ) → length ns ≤ k → nodeAt ns k ≡ Bootstrap i table → ⊥
-unfolding nodeAt
 no-node ns k i table h e =
-    let d = List·getD-eq-default ns (Input []) {n = k} h in
+    let d = node-none ns k h in
     let q : _≡_ {A = ℕ} 0 1 = cc in
     omega arith
 
@@ -174,7 +176,7 @@ module _ (n : Net) (bits : List ℕ) (good : T (allBits bits)) (all : List LutNo
   -- the first of the nodes, and the run of the others
   ran-one : (ns : List LutNode) (values : List ℤ) (x : LutNode) (xs : List LutNode) → ns ++ (x ∷ xs) ≡ all → Bounded ns values
       → (v : Valued (n .p) bits values x) → Run (n .p) bits all (values ++ (v .value ∷ [])) xs → Run (n .p) bits all values (x ∷ xs)
-  unfolding nodeValues withValue nodeAt
+  unfolding nodeValues withValue
   ran-one ns values x xs e b v r =
       record {
         final = r .final;
@@ -193,8 +195,8 @@ module _ (n : Net) (bits : List ℕ) (good : T (allBits bits)) (all : List LutNo
       new : (k : ℕ) → length values ≡ k → getD (r .final) k (pos 0) ≡ v .value
       new k h = r .kept k (rw length-append (omega arith)) ∙ getD-at values (v .value) [] (pos 0) k h
 
-      node : (k : ℕ) → length values ≡ k → getD all k (Input []) ≡ x
-      node k h = ap (λ ms. getD ms k (Input [])) (sym e) ∙ getD-at ns x xs (Input []) k (sym (b .long) ∙ h)
+      node : (k : ℕ) → length values ≡ k → nodeAt all k ≡ x
+      node k h = ap (λ ms. nodeAt ms k) (sym e) ∙ node-next ns x xs k (sym (b .long) ∙ h)
 
       here : (k i : ℕ) (table : List ℕ) → length values ≡ k → nodeAt all k ≡ Bootstrap i table
           → (i < k) × Lookup (n .p) table (getD (r .final) i (pos 0)) (getD (r .final) k (pos 0))
@@ -248,13 +250,14 @@ unfolding overLimit
 within-norm Unlimited k m e f = absurd (zero≢one (cc))
 within-norm (AtMost j) k m e f = let g : j ≡ k = cc in let h = ltb-false j m e in omega arith
 
-norms-within : (n : Net) (before ns : List LutNode) → NodesPass n before ns
-    → (k limit : ℕ) (c : ℤ) (ts : List Term) → nodeAt ns k ≡ Linear c ts → n .norm ≡ AtMost limit → nodeNorm (Linear c ts) ≤ limit
-unfolding NodesPass nodeAt
-norms-within n before [] p k limit c ts e f = absurd (zero≢one (cc))
-norms-within n before (x ∷ ns) p zero limit c ts e f =
-    within-norm (n .norm) limit _ (lin-passes n before c ts (subst (λ y. Passes n before [] (NodeLine y)) e (p .0)) .norm-in) f
-norms-within n before (x ∷ ns) p (suc k) limit c ts e f = norms-within n (before ++ (x ∷ [])) ns (p .1) k limit c ts e f
+norms-within : (n : Net) (all : List LutNode) → NodesPass n [] all
+    → (k limit : ℕ) (c : ℤ) (ts : List Term) → nodeAt all k ≡ Linear c ts → n .norm ≡ AtMost limit → nodeNorm all (Linear c ts) ≤ limit
+unfolding nodeNorm
+norms-within n all p k limit c ts e f =
+    let l = line-of n [] all k c ts p e in
+    let q = lin-passes n (l .front) c ts (l .passes) in
+    let same = same-norm (l .front ++ l .back) (l .front) ts (longer-weights (l .front) (l .back) (sources ts) (sources-within (l .front) (sources ts) (q .sources-in))) in
+    subst (λ ns. norm ns ts ≤ limit) (l .whole) (subst (λ m. m ≤ limit) (sym same) (within-norm (n .norm) limit _ (q .norm-in) f))
 
 -- ---- A text.
 
@@ -272,7 +275,7 @@ safe-on w bits a good =
       boots = λ k i table e. r .boots k i table (omega arith) e;
       outputs = ap (Option·map (outputValues (w .outputs))) (r .run);
       outputBits = output-bits (w .nodes) (r .final) (r .bounded) (netOf w) [] (w .outputs) (a .outputs);
-      norms = norms-within (netOf w) [] (w .nodes) (a .nodes);
+      norms = norms-within (netOf w) (w .nodes) (a .nodes);
     }
 
 -- an admitted text is read by a run

@@ -12,8 +12,9 @@ use lib.Seq.{getD-at}
 use lib.Signed.{_≤ℤ_, ≤ℤ-refl}
 use Rattle.laws.specs.Integer.{plus, minus, add-parts, plus-mul, minus-mul, ints}
 use Rattle.laws.specs.Test.{lt-or-le, zero≢one, neither-left, neither-right}
-use Rattle.rules.specs.Network.{Term, LutNode, Input, Linear, Bootstrap, isLinear, below0, above0, leastSum, greatestSum, leastOf, greatestOf, sumFrom}
-use Rattle.rules.specs.NetworkText.{sources, unknown, nodeAt, anyBadSource}
+use Rattle.rules.specs.Network.{Term, LutNode, Input, Linear, Bootstrap, isLinear, below0, above0, leastSum, greatestSum, leastOf, greatestOf, sumFrom, nodeAt}
+use Rattle.rules.specs.NetworkText.{sources, unknown, anyBadSource}
+use Rattle.theorems.specs.NodesAt.{node-before, node-next}
 
 abbrev pub ZeroOrOne : ℤ → Type 0
 ZeroOrOne z = (z ≡ pos 0) ⊎ (z ≡ pos 1)
@@ -99,25 +100,18 @@ module _ (ns : List LutNode) (values : List ℤ) (b : Bounded ns values) where
       (sum-least values ts c c (source-bits ts e) (≤ℤ-refl c), sum-greatest values ts c c (source-bits ts e) (≤ℤ-refl c))
 
   pub bounded-snoc : (x : LutNode) (v : ℤ) → leastOf x ≤ℤ v → v ≤ℤ greatestOf x → Bounded (ns ++ (x ∷ [])) (values ++ (v ∷ []))
-  unfolding nodeAt
   bounded-snoc x v h k =
       record {
         long = length-append values (v ∷ []) ∙ ap (λ m. m + 1) (b .long) ∙ sym (length-append ns (x ∷ []));
-        least = λ i l. ⊎-elim (λ e. rw (old-node i e, old-value i e) (b .least i e)) (λ e. rw (new-node i e, new-value i e) h) (old-or-new i l);
-        greatest = λ i l. ⊎-elim (λ e. rw (old-node i e, old-value i e) (b .greatest i e)) (λ e. rw (new-node i e, new-value i e) k) (old-or-new i l);
+        least = λ i l. ⊎-elim (λ e. rw (node-before ns (x ∷ []) i e, old-value i e) (b .least i e)) (λ e. rw (node-next ns x [] i e, new-value i e) h) (old-or-new i l);
+        greatest = λ i l. ⊎-elim (λ e. rw (node-before ns (x ∷ []) i e, old-value i e) (b .greatest i e)) (λ e. rw (node-next ns x [] i e, new-value i e) k) (old-or-new i l);
       }
     where
       old-or-new : (i : ℕ) → i < length (ns ++ (x ∷ [])) → (i < length ns) ⊎ (length ns ≡ i)
       old-or-new i l = ⊎-elim inl (λ g. inr (let j : i < length ns + 1 = rw length-append at l in omega arith)) (lt-or-le i (length ns))
 
-      old-node : (i : ℕ) → i < length ns → getD (ns ++ (x ∷ [])) i (Input []) ≡ getD ns i (Input [])
-      old-node i e = List·getD-append ns (x ∷ []) (Input []) i e
-
       old-value : (i : ℕ) → i < length ns → getD (values ++ (v ∷ [])) i (pos 0) ≡ getD values i (pos 0)
       old-value i e = List·getD-append values (v ∷ []) (pos 0) i (rw (b .long) e)
-
-      new-node : (i : ℕ) → length ns ≡ i → getD (ns ++ (x ∷ [])) i (Input []) ≡ x
-      new-node i e = getD-at ns x [] (Input []) i e
 
       new-value : (i : ℕ) → length ns ≡ i → getD (values ++ (v ∷ [])) i (pos 0) ≡ v
       new-value i e = getD-at values v [] (pos 0) i (b .long ∙ e)

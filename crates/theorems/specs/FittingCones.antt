@@ -10,20 +10,21 @@ use Rattle.laws.specs.Test.{isSome, both-right}
 use Rattle.rules.specs.declared.Settings.{Settings}
 use Rattle.rules.specs.Builder.{knownEntries}
 use Rattle.rules.specs.Cone.{Cone, values, completed, bootstrapTable, isLutValid, withinNorm, norm2, coneSpan, fits}
+use Rattle.rules.specs.Network.{LutNode}
 use Rattle.theorems.specs.Rows.{Consistent, known-exact}
 use Rattle.theorems.specs.ConeValues.{values-long}
 
-pub fits-table : (s : Settings) (c : Cone) → fits s c ≡ true → isSome (bootstrapTable (s .p) c) ≡ true
+pub fits-table : (s : Settings) (nodes : List LutNode) (c : Cone) → fits s nodes c ≡ true → isSome (bootstrapTable (s .p) c) ≡ true
 unfolding fits isLutValid
-fits-table s c e =
-    both-right (leb (coneSpan c) (s .m)) (isSome (bootstrapTable (s .p) c)) (both-right (withinNorm s (norm2 c)) (isLutValid s c) e)
+fits-table s nodes c e =
+    both-right (leb (coneSpan c) (s .m)) (isSome (bootstrapTable (s .p) c)) (both-right (withinNorm s (norm2 nodes c)) (isLutValid s c) e)
 
 known-some : (P : ℕ) (k : Option (List ℕ)) → isSome (completed P k) ≡ true → (l : List ℕ) × (k ≡ some l)
 unfolding completed
 known-some P none e = absurd (false≢true e)
 known-some P (some l) e = (l, refl)
 
-pub fits-consistent : (s : Settings) (c : Cone) → length (c .coefficients) ≡ length (c .support) → length (c .truth) ≡ 2 ^ length (c .support)
-    → fits s c ≡ true → Consistent (values c) (c .truth)
+pub fits-consistent : (s : Settings) (nodes : List LutNode) (c : Cone) → length (c .coefficients) ≡ length (c .support) → length (c .truth) ≡ 2 ^ length (c .support)
+    → fits s nodes c ≡ true → Consistent (values c) (c .truth)
 unfolding bootstrapTable
-fits-consistent s c same rows e = known-exact (values c) (c .truth) (values-long c same rows) .0 (known-some (s .p) (knownEntries (values c) (c .truth)) (fits-table s c e))
+fits-consistent s nodes c same rows e = known-exact (values c) (c .truth) (values-long c same rows) .0 (known-some (s .p) (knownEntries (values c) (c .truth)) (fits-table s nodes c e))

@@ -9,16 +9,15 @@ use native.Mathlib.Omega.{arith}
 use borrow.Author.Tests.{eq-eqb, eqb-true, lt-ltb, le-ltb}
 use lib.Dec.{eqb}
 use native.Mathlib.Numerals.{add-one}
-use lib.ListN.{length, getD, drop, length-append, drop-of-length-le}
-use lib.Seq.{drop-cons}
+use lib.ListN.{length, drop, length-append, drop-of-length-le}
 use Rattle.laws.specs.Integer.{eqZ-of, eqZ, eqZ-true}
 use Rattle.laws.specs.Test.{zero≢one, both-left, both-right, if_then_else_, lt-or-le}
-use Rattle.rules.specs.Network.{Term, LutNode, Input, Linear, Bootstrap, count, isLinear}
+use Rattle.rules.specs.Network.{Term, LutNode, Input, Linear, Bootstrap, count, isLinear, nodeAt}
 use Rattle.rules.specs.Store.{sameTerms, sameNode, numberOf, intern}
 use Rattle.rules.specs.CircuitText.{sameName}
-use Rattle.rules.specs.NetworkText.{nodeAt}
 use Rattle.theorems.specs.Names.{name-self, name-is}
 use Rattle.theorems.specs.Counts.{count-snoc}
+use Rattle.theorems.specs.NodesAt.{drop-node}
 
 terms-self : (ts : List Term) → sameTerms ts ts ≡ true
 unfolding sameTerms
@@ -41,13 +40,16 @@ terms-are (t ∷ ts) (u ∷ us) e =
 
 pub node-self : (n : LutNode) → sameNode n n ≡ true
 unfolding sameNode
-node-self (Input a) = name-self a
+node-self (Input a) = rw (name-self (a .name), eq-eqb (a .weight) (a .weight) refl) refl
 node-self (Linear c ts) = rw (eqZ-of c c refl) (terms-self ts)
 node-self (Bootstrap i t) = rw (eq-eqb i i refl) (name-self t)
 
 pub node-is : (n m : LutNode) → sameNode n m ≡ true → n ≡ m
 unfolding sameNode
-node-is (Input a) (Input b) e = ap Input (name-is a b e)
+node-is (Input a) (Input b) e =
+    ap₂ (λ n w. Input (record { name = n; weight = w }))
+    (name-is (a .name) (b .name) (both-left (sameName (a .name) (b .name)) (eqb (a .weight) (b .weight)) e))
+    (eqb-true (a .weight) (b .weight) (both-right (sameName (a .name) (b .name)) (eqb (a .weight) (b .weight)) e))
 node-is (Input a) (Linear d us) e = absurd (zero≢one (cc))
 node-is (Input a) (Bootstrap j u) e = absurd (zero≢one (cc))
 node-is (Linear c ts) (Input b) e = absurd (zero≢one (cc))
@@ -65,8 +67,8 @@ number-at n [] h = absurd (not-suc-le-zero h)
 number-at n (m ∷ ms) h = by (sameNode n m) refl h (number-at n ms)
   where
     by : (b : Bool) → sameNode n m ≡ b → (if b then 0 else suc (numberOf n ms)) < suc (length ms)
-        → (numberOf n ms < length ms → getD ms (numberOf n ms) (Input []) ≡ n)
-        → getD (m ∷ ms) (if b then 0 else suc (numberOf n ms)) (Input []) ≡ n
+        → (numberOf n ms < length ms → nodeAt ms (numberOf n ms) ≡ n)
+        → nodeAt (m ∷ ms) (if b then 0 else suc (numberOf n ms)) ≡ n
     by true e h ih = sym (node-is n m e)
     by false e h ih = ih (le-of-suc-le-suc h)
 
@@ -115,12 +117,12 @@ interned-sums x nodes =
 
 module _ (n : LutNode) (ms : List LutNode) (i : ℕ) where
   pub number-here : i < length ms → sameNode n (nodeAt ms i) ≡ true → numberOf n (drop i ms) ≡ 0
-  unfolding numberOf nodeAt
-  number-here h e = rw (drop-cons ms i (Input []) h, e)
+  unfolding numberOf
+  number-here h e = rw (drop-node ms i h, e)
 
   pub number-on : i < length ms → sameNode n (nodeAt ms i) ≡ false → numberOf n (drop i ms) ≡ suc (numberOf n (drop (i + 1) ms))
-  unfolding numberOf nodeAt
-  number-on h e = rw (drop-cons ms i (Input []) h, e, add-one)
+  unfolding numberOf
+  number-on h e = rw (drop-node ms i h, e, add-one)
 
   pub number-end : length ms ≤ i → numberOf n (drop i ms) ≡ 0
   unfolding numberOf

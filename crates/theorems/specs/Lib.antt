@@ -19,6 +19,8 @@ pub mod Names
 pub mod Members
 pub mod Wanted
 pub mod Counts
+pub mod NodesAt
+pub mod Weights
 pub mod Terms
 pub mod Bounds
 pub mod Admissible

@@ -1,29 +1,31 @@
--- What the forms of a network text give: BITS are bits, and so is the constant of a WIRE.
+-- What the forms of a network text give: BITS are bits, and so is the constant of a WIRE; a weight is from 1 to 64.
 use mathlib.Core.Path.{_≡_, refl, subst}
-use mathlib.Core.Bool.{Bool, true, false, _||_}
+use mathlib.Core.Bool.{Bool, true, false, _&&_, _||_}
 use mathlib.Core.List.{List, [], _∷_}
 use mathlib.Core.Option.{Option, none, some}
 use Prim.Native.Nat.{ℕ, _-_, _≤_}
 use native.Mathlib.Omega.{arith}
+use borrow.Author.Tests.{leb-true}
 use lib.Dec.{T, leb, eqb, eqb→eq, le→leb}
 use lib.ListN.{length, drop}
-use Rattle.laws.specs.Test.{if_then_else_, and-both, zero≢one}
+use Rattle.laws.specs.Test.{if_then_else_, and-both, both-left, both-right, zero≢one}
 use Rattle.rules.specs.declared.Wire.{Wire}
 use Rattle.rules.specs.declared.Wire.the-variants.{Const, Node}
-use Rattle.rules.specs.Circuit.{Output}
-use Rattle.rules.specs.Form.{Piece, Reader, give, onward, either, only, run, runOf, isBitByte, isBits, bitsFrom, bits, wire, outLine, inLine}
+use Rattle.rules.specs.Circuit.{Given, Output}
+use Rattle.rules.specs.Form.{Piece, Reader, give, onward, either, only, run, runOf, isBitByte, isBits, bitsFrom, bits, wire, word, number, from2To64, weight, outLine, inLine}
 use Rattle.rules.specs.Network.{LutNode, Input, Linear, Bootstrap}
 use Rattle.rules.specs.NetworkText.{NetworkLine, NetLine, NodeLine, OutLine, netLine, linLine, bootLine, networkLine}
 use Rattle.rules.specs.Runs.{allBits}
+use Rattle.theorems.specs.Weights.{GoodWeight}
 
 -- The constant of a WIRE is a bit.
 unfoldable pub WireBit : Wire → Type 0
 WireBit (Const b) = b ≤ 1
 WireBit (Node i) = Unit {0}
 
--- The bits of a table are.
+-- The bits of a table are, and a weight is one that a text can give.
 unfoldable pub NodeBits : LutNode → Type 0
-NodeBits (Input a) = Unit {0}
+NodeBits (Input a) = GoodWeight (a .weight)
 NodeBits (Linear c ts) = Unit {0}
 NodeBits (Bootstrap i table) = T (allBits table)
 
@@ -108,7 +110,29 @@ wire-gives s =
     either-gives WireBit _ _ (then-gives WireBit _ _ (λ _ s. then-gives WireBit _ _ (λ i s. then-gives WireBit _ _ (λ _ s. tt))))
     (either-gives WireBit _ _ (then-gives WireBit _ _ (λ _ s. omega arith)) (then-gives WireBit _ _ (λ _ s. omega arith)))
 
+-- ---- A weight.
+
+pub weight-gives : (s : List ℕ) → Gives GoodWeight (weight s)
+unfolding weight from2To64 Gives GoodWeight
+weight-gives s =
+    either-gives GoodWeight _ _ (then-gives GoodWeight (word " " s) _ (λ _ r. then-gives GoodWeight (number r) _ (λ n q. by n q (leb 2 n && leb n 64) refl)))
+    (omega arith, omega arith)
+  where
+    by : (n : ℕ) (q : List ℕ) (t : Bool) → (leb 2 n && leb n 64) ≡ t → Gives GoodWeight ((if t then give n else (λ s. none)) q)
+    by n q true e = let h = leb-true 2 n (both-left (leb 2 n) (leb n 64) e) in (omega arith, leb-true n 64 (both-right (leb 2 n) (leb n 64) e))
+    by n q false e = tt
+
 -- ---- The lines.
+
+-- `(in NAME)` or `(in NAME W)`
+GivenWeight : Given → Type 0
+GivenWeight g = GoodWeight (g .weight)
+
+in-gives : (s : List ℕ) → Gives GivenWeight (inLine s)
+unfolding inLine GivenWeight Gives
+in-gives s =
+    then-gives GivenWeight _ _ (λ _ s. then-gives GivenWeight _ _
+    (λ n s. onward-gives GoodWeight GivenWeight (weight s) _ (weight-gives s) (λ w s r. then-gives GivenWeight _ _ (λ _ s. r))))
 
 -- `(lin CONST (COEF ID) ..)`
 lin-gives : (s : List ℕ) → Gives NodeBits (linLine s)
@@ -136,11 +160,11 @@ out-gives s =
     (λ _ s. onward-gives WireBit OutputBit (wire s) _ (wire-gives s) (λ w s r. then-gives OutputBit _ _ (λ _ s. r)))))
 
 pub line-bits : (s : List ℕ) (l : NetworkLine) → networkLine s ≡ some l → LineBits l
-unfolding networkLine LineBits NodeBits OutputBit Gives
+unfolding networkLine LineBits NodeBits GivenWeight OutputBit Gives
 line-bits s l e =
     only-gives LineBits _
     (either-gives LineBits _ _ (then-gives LineBits (netLine s) _ (λ n s. tt))
-    (either-gives LineBits _ _ (then-gives LineBits (inLine s) _ (λ n s. tt))
+    (either-gives LineBits _ _ (onward-gives GivenWeight LineBits (inLine s) _ (in-gives s) (λ n s r. r))
     (either-gives LineBits _ _ (onward-gives NodeBits LineBits (linLine s) _ (lin-gives s) (λ n s r. r))
     (either-gives LineBits _ _ (onward-gives NodeBits LineBits (bootLine s) _ (boot-gives s) (λ n s r. r))
     (onward-gives OutputBit LineBits (outLine s) _ (out-gives s) (λ n s r. r)))))) l e

@@ -10,7 +10,7 @@ use lib.Dec.{eqb}
 use lib.ListN.{length}
 use Rattle.laws.specs.Test.{zero≢one, both-left, both-right, decide}
 use Rattle.rules.specs.CircuitText.{sameName}
-use Rattle.rules.specs.Circuit.{Name}
+use Rattle.rules.specs.Circuit.{Name, Given, givenNames}
 use Rattle.rules.specs.Network.{LutNode, Input, Linear, Bootstrap, isInput, count}
 use Rattle.rules.specs.NetworkText.{names, allInputs}
 
@@ -35,7 +35,7 @@ name-other m n e =
 pub names-append : (xs ys : List LutNode) → names (xs ++ ys) ≡ names xs ++ names ys
 unfolding names
 names-append [] ys = refl
-names-append (Input a ∷ xs) ys = ap {B = List Name} (λ l. a ∷ l) (names-append xs ys)
+names-append (Input a ∷ xs) ys = ap {B = List Name} (λ l. a .name ∷ l) (names-append xs ys)
 names-append (Linear c ts ∷ xs) ys = names-append xs ys
 names-append (Bootstrap i table ∷ xs) ys = names-append xs ys
 
@@ -50,7 +50,7 @@ pub all-named : (xs : List LutNode) → allInputs xs ≡ true → length (names 
 unfolding allInputs
 all-named xs e = names-count xs ∙ eqb-true (count isInput xs) (length xs) e
 
-pub names-inputs : (ns : List Name) → names (map Input ns) ≡ ns
-unfolding names
+pub names-inputs : (gs : List Given) → names (map Input gs) ≡ givenNames gs
+unfolding names givenNames
 names-inputs [] = refl
-names-inputs (n ∷ ns) = ap {B = List Name} (λ l. n ∷ l) (names-inputs ns)
+names-inputs (g ∷ gs) = ap {B = List Name} (λ l. g .name ∷ l) (names-inputs gs)

@@ -1,25 +1,32 @@
 -- A cone without its sources of coefficient 0 has the same least value, span and norm, and at each row the value and the truth that the cone has at a row of its own.
 use mathlib.Core.Path.{_≡_, sym, ap, _∙_}
 use mathlib.Core.Bool.{true}
+use mathlib.Core.List.{List}
 use Prim.Native.Nat.{ℕ, _+_, _<_, _^_}
 use lib.IntN.{pos, negℤ}
 use lib.ListN.{length, getD}
+use Rattle.laws.specs.Select.{select}
 use Rattle.laws.specs.Tabulate.{tabulate-at}
 use Rattle.rules.specs.Composition.{simplifyCone}
-use Rattle.rules.specs.Cone.{Cone, coneBit, values, coneSpan, norm2}
+use Rattle.rules.specs.Cone.{Cone, terms, coneBit, values, coneSpan, norm2}
+use Rattle.rules.specs.Network.{LutNode}
 use Rattle.rules.specs.NetworkText.{sources, allDifferent}
-use Rattle.rules.specs.Scale.{norm}
 use Rattle.rules.specs.Span.{least}
-use Rattle.rules.specs.Store.{terms}
+use Rattle.rules.specs.Store.{isUsed}
 use Rattle.theorems.specs.ConeValues.{linearTable-length}
 use Rattle.theorems.specs.LinearTables.{lower, total, least-table, span-table}
 use Rattle.theorems.specs.SourceRows.{overRows-are, rowOver, rowOver-lt}
 use Rattle.theorems.specs.Terms.{termsOver, coefs, coefs-of, sources-of}
+use Rattle.theorems.specs.Weights.{norm2-weighted, terms-weighted}
 use Rattle.theorems.specs.ZeroSources.{total-used, lower-used, norm-used, used-value}
 
 -- The row of the cone, at a row without those sources.
 unfoldable pub rowIn : Cone → ℕ → ℕ
 rowIn c i = rowOver (simplifyCone c .support) (c .support) i
+
+pub simplified-norm : (nodes : List LutNode) (c : Cone) → norm2 nodes (simplifyCone c) ≡ norm2 nodes c
+unfolding simplifyCone norm2
+simplified-norm nodes c = norm2-weighted nodes (simplifyCone c) ∙ sym (terms-weighted nodes (select isUsed (terms c))) ∙ norm-used nodes (terms c)
 
 module _ (c : Cone) (same : length (c .coefficients) ≡ length (c .support)) where
   all-coefs : coefs (terms c) ≡ c .coefficients
@@ -42,10 +49,6 @@ module _ (c : Cone) (same : length (c .coefficients) ≡ length (c .support)) wh
   pub simplified-span : coneSpan (simplifyCone c) ≡ coneSpan c
   unfolding coneSpan values
   simplified-span = span-table (simplifyCone c .coefficients) ∙ ap (λ n. n + 1) simplified-total ∙ sym (span-table (c .coefficients))
-
-  pub simplified-norm : norm2 (simplifyCone c) ≡ norm2 c
-  unfolding simplifyCone norm2
-  simplified-norm = norm-used (terms c) ∙ ap norm all-coefs
 
   module _ (i : ℕ) (h : i < 2 ^ length (simplifyCone c .support)) where
     pub rowIn-lt : rowIn c i < length (values c)

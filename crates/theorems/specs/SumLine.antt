@@ -9,8 +9,8 @@ use lib.IntN.{ℤ}
 use lib.ListN.{length}
 use Rattle.laws.specs.Test.{both-left, both-right, zero≢one}
 use Rattle.rules.specs.Form.{Good}
-use Rattle.rules.specs.Network.{Term, LutNode, Linear, Network}
-use Rattle.rules.specs.NetworkText.{Net, NodeLine, small, goodTerms, goodSum, nodeAt, textConditions, admissionConditions, readAdmitted}
+use Rattle.rules.specs.Network.{Term, LutNode, Linear, Network, nodeAt}
+use Rattle.rules.specs.NetworkText.{Net, NodeLine, small, goodTerms, goodSum, textConditions, admissionConditions, readAdmitted}
 use Rattle.theorems.specs.Admissible.{Passes, NodesPass, netOf, admitted-admissible}
 use Rattle.theorems.specs.Readings.{NoneMet}
 

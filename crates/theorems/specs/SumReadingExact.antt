@@ -14,8 +14,8 @@ use Rattle.laws.specs.Test.{T-is, T-not-is, zero≢one}
 use Rattle.rules.specs.Cone.{rowFrom}
 use Rattle.rules.specs.Form.{Reading, Good}
 use Rattle.rules.specs.Form as Form
-use Rattle.rules.specs.Network.{Term, LutNode, Input, Linear, Bootstrap, Network, leastOf, greatestOf, isLinear}
-use Rattle.rules.specs.NetworkText.{nodeAt, readAdmitted, Admission, rejected, admissionOf, admission}
+use Rattle.rules.specs.Network.{Term, LutNode, Input, Linear, Bootstrap, Network, leastOf, greatestOf, isLinear, nodeAt}
+use Rattle.rules.specs.NetworkText.{readAdmitted, Admission, rejected, admissionOf, admission}
 use Rattle.rules.specs.Runs.{bitsFor}
 use Rattle.theorems.specs.FirstAssignment.{FirstFor, NoneFor, found-first, found-none, found-one}
 use Rattle.theorems.specs.SumBounds.{least-reached, greatest-reached}

@@ -11,8 +11,8 @@ use lib.IntN.{ℤ, pos}
 use lib.ListN.{length, getD, replicate}
 use Rattle.rules.specs.declared.Stats.{Stats}
 use Rattle.rules.specs.Form.{Good}
-use Rattle.rules.specs.Network.{Bootstrap, Network, isInput, count, nodeValues}
-use Rattle.rules.specs.NetworkText.{nodeAt, readNetwork, admitted, admission}
+use Rattle.rules.specs.Network.{Bootstrap, Network, nodeAt, isInput, count, nodeValues}
+use Rattle.rules.specs.NetworkText.{readNetwork, admitted, admission}
 use Rattle.rules.specs.Phase.{isPeriod, slot, found, slotAnswer}
 use Rattle.rules.specs.Rotation.{Rotatable, rotated}
 use Rattle.rules.specs.Runs.{bitsFor}

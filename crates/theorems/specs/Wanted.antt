@@ -7,8 +7,7 @@ use Prim.Native.Nat.{ℕ, zero, suc, _≤_, _<_}
 use native.Mathlib.Omega.{arith}
 use lib.ListN.{length}
 use Rattle.laws.specs.Test.{if_then_else_, if-both, lt-or-le}
-use Rattle.rules.specs.Network.{LutNode, member}
-use Rattle.rules.specs.NetworkText.{nodeAt}
+use Rattle.rules.specs.Network.{LutNode, member, nodeAt}
 use Rattle.rules.specs.Store.{needs, wantedBelow}
 use Rattle.theorems.specs.Members.{member-right, member-left, member-either}
 

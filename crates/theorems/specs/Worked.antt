@@ -1,5 +1,5 @@
--- Document 01's ★ cases ("Reckoned by hand") under document 02's order of ties, one whose answer that order moved, and two at the
--- bounds of the data sheet: one table, one proof over it.
+-- Document 01's ★ cases ("Reckoned by hand") under document 02's order of ties, one whose answer that order moved, cases at the
+-- bounds of the data sheet (S-2) and of weights (S-6): one table, one proof over it.
 use mathlib.Core.Path.{_≡_, refl}
 use mathlib.Core.Bool.{false}
 use mathlib.Core.List.{List, [], _∷_, map}
@@ -15,8 +15,12 @@ use Rattle.rules.specs.Builder.{fromTable, fromKnown, builder}
 use Rattle.rules.specs.Composition.{unionSupport, gateTruth, Scales, scales, mergedCoefficients, evaluate}
 use Rattle.rules.specs.Computed.Computing.{computing}
 use Rattle.rules.specs.Cone.{Cone, Candidate, identity}
+use Rattle.rules.specs.Form
 use Rattle.rules.specs.Form.{bytes as bytesOf}
 use Rattle.rules.specs.Mapper.{mapper}
+use Rattle.rules.specs.Network
+use Rattle.rules.specs.NetworkText
+use Rattle.rules.specs.NetworkText.{Admission, admitted, rejected, admission}
 use Rattle.rules.specs.Outcome.{written, refused, Outcome, outcome}
 
 pub data Question : Type 0 where
@@ -24,12 +28,15 @@ pub data Question : Type 0 where
   building : ℕ → ℕ → List ℕ → List ℕ → Question
   -- a circuit's text for the mapper
   mapping : String → Question
+  -- a network's text for admission
+  admitting : String → Question
   -- P and M, two cones, the answers of a gate on them, and a scale pair for them
   composing : ℕ → ℕ → Cone → Cone → List ℕ → ℤ → ℤ → Question
 
--- The answer with its buffer, or the score of the pair's candidate if it fits: reuse, span, norm, energy, a, b.
+-- The answer with its buffer, admission's, or the score of the pair's candidate if it fits: reuse, span, norm, energy, a, b.
 pub data Reply : Type 0 where
   answers : Outcome → Reply
+  judges : Admission → Reply
   scores : List (List ℤ) → Reply
 
 -- What the buffer has before.
@@ -44,6 +51,11 @@ bytes b = answers (outcome (written (length b)) (over b buffer))
 abbrev refusal : ℕ → ℕ → Reply
 refusal k line = answers (outcome (refused k line) buffer)
 
+-- Admitted, with the statistics: inputs, sums, tables, different sources, longest table, largest norm, outputs.
+abbrev counts : ℕ → ℕ → ℕ → ℕ → ℕ → ℕ → ℕ → Reply
+counts inputs sums boots sources longest norm outputs =
+    judges (admitted (record { inputs = inputs; sums = sums; boots = boots; sources = sources; longest = longest; norm = norm; outputs = outputs }))
+
 unfoldable pub scoresOf : ℕ → ℕ → Cone → Cone → List ℕ → Scales → List (List ℤ)
 scoresOf P M left right gate p =
     let s : Settings = record { p = P; m = M; t = 10; norm = Unlimited; policy = Span; many = false } in
@@ -55,6 +67,7 @@ scoresOf P M left right gate p =
 unfoldable pub reply : Question → Reply
 reply (building P M values truths) = answers (builder P M (map pos values) truths buffer)
 reply (mapping circuit) = answers (mapper (bytesOf circuit) buffer)
+reply (admitting network) = judges (admission (bytesOf network))
 reply (composing P M left right gate a b) = scores (scoresOf P M left right gate (scales a b))
 
 -- The parity of three inputs as a - b - c.
@@ -96,14 +109,46 @@ cases =
     -- AND under Span, where M is 2 and where NORM is 1: neither bound of the data sheet (document 02, S-2) can be lowered
     ∷ (mapping "(fbs 2 2 10 none span many)\n(in a)\n(in b)\n(gate g 0001 (n 0) (n 1))\n(out y (n 2))\n" ⇒ refusal 9 4)
     ∷ (mapping "(fbs 16 32 10 1 span many)\n(in a)\n(in b)\n(gate g 0001 (n 0) (n 1))\n(out y (n 2))\n" ⇒ refusal 9 4)
+    -- nor can NORM's with weights: AND of the two heaviest inputs, one below the sum of their weights, and at it
+    ∷ (mapping "(fbs 16 32 10 66 span many)\n(in a 3)\n(in b 2)\n(in c 64)\n(gate g 0001 (n 0) (n 2))\n(out y (n 3))\n" ⇒ refusal 9 5)
+    ∷ (mapping "(fbs 16 32 10 67 span many)\n(in a 3)\n(in b 2)\n(in c 64)\n(gate g 0001 (n 0) (n 2))\n(out y (n 3))\n"
+    ⇒ bytes (bytesOf "(net 16 32 67)\n(in a 3)\n(in c 64)\n(lin 0 (1 0) (1 1))\n(boot 2 001)\n(out y (n 3))\n"))
+    ∷ (mapping "(fbs 16 32 10 64 span one)\n(in a)\n(in b 64)\n(gate g 0001 (n 0) (n 1))\n(out y (n 2))\n" ⇒ refusal 9 4)
     -- NOT of a
     ∷ (mapping "(fbs 4 8 10 none span one)\n(in a)\n(gate g 10 (n 0))\n(out y (n 1))\n"
     ⇒ bytes (bytesOf "(net 4 8 none)\n(in a)\n(lin 1 (-1 0))\n(out y (n 1))\n"))
     -- the service's example
     ∷ (mapping "(fbs 4 8 10 none span one)\n(in a)\n(in b)\n(gate g 0001 (n 0) (n 1))\n(out y (n 2))\n"
     ⇒ bytes (bytesOf "(net 4 8 none)\n(in a)\n(in b)\n(lin 0 (1 0) (1 1))\n(boot 2 001)\n(out y (n 3))\n"))
+    -- a weight is written from 2 to 64, without leading zeros
+    ∷ (mapping "(fbs 4 8 10 none span one)\n(in a 1)\n" ⇒ refusal 1 2)
+    ∷ (mapping "(fbs 4 8 10 none span one)\n(in a 65)\n" ⇒ refusal 1 2)
+    ∷ (mapping "(fbs 4 8 10 none span one)\n(in a 02)\n" ⇒ refusal 1 2)
+    -- a name repeated with another weight is repeated
+    ∷ (mapping "(fbs 4 8 10 none span one)\n(in a)\n(in a 2)\n" ⇒ refusal 5 3)
+    -- the heavier input comes first, and inputs keep their weights
+    ∷ (mapping "(fbs 4 8 10 none span one)\n(in a)\n(in b 64)\n(gate g 0001 (n 0) (n 1))\n(out y (n 2))\n"
+    ⇒ bytes (bytesOf "(net 4 8 none)\n(in a)\n(in b 64)\n(lin 0 (1 1) (1 0))\n(boot 2 001)\n(out y (n 3))\n"))
+    -- an input heavier than NORM: NOT of it, AND of it with itself, and as it is
+    ∷ (mapping "(fbs 4 8 10 2 span one)\n(in a 3)\n(gate g 10 (n 0))\n(out y (n 1))\n" ⇒ refusal 8 3)
+    ∷ (mapping "(fbs 4 8 10 2 span one)\n(in a 3)\n(gate g 0001 (n 0) (n 0))\n(out y (n 1))\n" ⇒ refusal 9 3)
+    ∷ (mapping "(fbs 4 8 10 2 span one)\n(in a 3)\n(out y (n 0))\n" ⇒ bytes (bytesOf "(net 4 8 2)\n(in a 3)\n(out y (n 0))\n"))
+    -- Basic's last check refuses a live one, not a dead one
+    ∷ (mapping "(fbs 4 8 10 2 basic one)\n(in a 3)\n(in b)\n(out y (n 0))\n" ⇒ refusal 8 0)
+    ∷ (mapping "(fbs 4 8 10 2 basic one)\n(in a 3)\n(in b)\n(out y (n 1))\n" ⇒ bytes (bytesOf "(net 2 4 2)\n(in b)\n(out y (n 0))\n"))
+    -- in a network, each squared coefficient times its source's weight
+    ∷ (admitting "(net 4 8 none)\n(in a 1)\n" ⇒ judges (rejected 21 2))
+    ∷ (admitting "(net 4 8 13)\n(in a 3)\n(in b)\n(lin 0 (2 0) (1 1))\n(boot 2 0010)\n(out y (n 3))\n" ⇒ counts 2 1 1 1 4 13 1)
+    ∷ (admitting "(net 4 8 12)\n(in a 3)\n(in b)\n(lin 0 (2 0) (1 1))\n(boot 2 0010)\n(out y (n 3))\n" ⇒ judges (rejected 25 4))
+    -- a table counts 1, whatever its source weighs; the largest norm counts the input too, and may be over NORM
+    ∷ (admitting "(net 4 8 1)\n(in a 3)\n(boot 0 10)\n(lin 0 (1 1))\n(out y (n 2))\n" ⇒ counts 1 1 1 1 2 3 1)
     ∷ []
 
+-- from a network's text to its statistics
+unfoldable pub judging : Unit {0}
+unfolding Form.below Form.signed NetworkText.netLine NetworkText.term NetworkText.linLine NetworkText.bootLine NetworkText.networkLine NetworkText.small NetworkText.goodTerms NetworkText.allDifferent NetworkText.goodSum NetworkText.names NetworkText.allInputs NetworkText.unknown NetworkText.anyBadSource NetworkText.started NetworkText.ending NetworkText.textConditions NetworkText.settingsOf NetworkText.fitsTable NetworkText.isBit NetworkText.noBit NetworkText.safetyConditions NetworkText.admissionConditions NetworkText.withNetworkLine NetworkText.withNet NetworkText.networkEnded NetworkText.noNetwork NetworkText.readAdmitted NetworkText.admissionOf NetworkText.admission Network.below0 Network.above0 Network.leastSum Network.greatestSum Network.leastOf Network.greatestOf Network.isInput Network.isLinear Network.isBootstrap Network.tableLength Network.count Network.different Network.stats
+judging = tt
+
 pub worked : map (λ c. reply (c .asks)) cases ≡ map (λ c. c .gives) cases
-unfolding cases reply buffer parity scoresOf builder fromKnown fromTable computing
+unfolding cases reply buffer parity scoresOf builder fromKnown fromTable computing judging
 worked = refl

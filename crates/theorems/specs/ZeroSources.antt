@@ -14,9 +14,8 @@ use Rattle.laws.specs.Select.{select, any}
 use Rattle.laws.specs.Test.{if_then_else_}
 use Rattle.rules.specs.Composition.{assigned}
 use Rattle.rules.specs.Cone.{rowFrom, linearTable}
-use Rattle.rules.specs.Network.{Term}
+use Rattle.rules.specs.Network.{Term, LutNode, norm}
 use Rattle.rules.specs.NetworkText.{sources, allDifferent}
-use Rattle.rules.specs.Scale.{norm}
 use Rattle.rules.specs.Store.{isUsed}
 use Rattle.theorems.specs.ConeValues.{weigh, weigh-unused, value-at}
 use Rattle.theorems.specs.LinearTables.{lower, total}
@@ -89,27 +88,28 @@ any-selected p (t ∷ ts) = by (isUsed t) refl (any-selected p ts) (any-selected
 
 -- ---- They add nothing to the span, on either side of 0, nor to the norm.
 
-module _ (F : List ℤ → ℕ) (none : (c : ℤ) (cs : List ℤ) → natAbs c ≡ 0 → F (c ∷ cs) ≡ F cs) (same : (c : ℤ) (cs ds : List ℤ) → F cs ≡ F ds → F (c ∷ cs) ≡ F (c ∷ ds)) where
-  used-same : (ts : List Term) → F (coefs (select isUsed ts)) ≡ F (coefs ts)
+module _ (F : List Term → ℕ) (none : (t : Term) (ts : List Term) → natAbs (t .coef) ≡ 0 → F (t ∷ ts) ≡ F ts)
+    (same : (t : Term) (ts us : List Term) → F ts ≡ F us → F (t ∷ ts) ≡ F (t ∷ us)) where
+  used-same : (ts : List Term) → F (select isUsed ts) ≡ F ts
   unfolding select
   used-same [] = refl
   used-same (t ∷ ts) = by (isUsed t) refl (used-same ts)
     where
-      by : (u : Bool) → isUsed t ≡ u → F (coefs (select isUsed ts)) ≡ F (coefs ts) → F (coefs (if u then t ∷ select isUsed ts else select isUsed ts)) ≡ F (t .coef ∷ coefs ts)
-      by true e r = same (t .coef) (coefs (select isUsed ts)) (coefs ts) r
-      by false e r = r ∙ sym (none (t .coef) (coefs ts) (unused-zero t e))
+      by : (u : Bool) → isUsed t ≡ u → F (select isUsed ts) ≡ F ts → F (if u then t ∷ select isUsed ts else select isUsed ts) ≡ F (t ∷ ts)
+      by true e r = same t (select isUsed ts) ts r
+      by false e r = r ∙ sym (none t ts (unused-zero t e))
 
 pub total-used : (ts : List Term) → total (coefs (select isUsed ts)) ≡ total (coefs ts)
 unfolding total
-total-used = used-same total (λ c cs z. omega arith) (λ c cs ds e. omega arith)
+total-used = used-same (λ ts. total (coefs ts)) (λ t ts z. omega arith) (λ t ts us e. omega arith)
 
 pub lower-used : (ts : List Term) → lower (coefs (select isUsed ts)) ≡ lower (coefs ts)
 unfolding lower
-lower-used = used-same lower (λ c cs z. omega (arith, abs-parts c)) (λ c cs ds e. omega arith)
+lower-used = used-same (λ ts. lower (coefs ts)) (λ t ts z. omega (arith, abs-parts (t .coef))) (λ t ts us e. omega arith)
 
-pub norm-used : (ts : List Term) → norm (coefs (select isUsed ts)) ≡ norm (coefs ts)
+pub norm-used : (nodes : List LutNode) (ts : List Term) → norm nodes (select isUsed ts) ≡ norm nodes ts
 unfolding norm
-norm-used = used-same norm (λ c cs z. rw z (omega arith)) (λ c cs ds e. omega arith)
+norm-used nodes = used-same (norm nodes) (λ t ts z. rw z (omega arith)) (λ t ts us e. omega arith)
 
 -- ---- The value at a row over the used sources is the value at that row of all sources.
 

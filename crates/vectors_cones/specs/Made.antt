@@ -28,7 +28,9 @@ use Rattle.compose.specs.declared.Basis.{Basis}
 use Rattle.compose.specs.Basis.{IsBasis, coefficientsOver, coefficientsOver-within}
 use Rattle.theorems.specs.LinearTables.{span-table}
 use Rattle.theorems.specs.ConeValues.{linearTable-length}
+use Rattle.cone.specs.Sources.{AreNodes, are-nodes}
 use Rattle.cone.specs.View.{coneOf, entryAt, truthAt, is-cone, IsCone}
+use Rattle.nodes.specs.View.{IsStore}
 use Rattle.vectors_cones.specs.declared.ConeRows.{ConeRows}
 
 unfoldable pub rowsOf : ConeRows → rules.Cone
@@ -114,3 +116,7 @@ basis-small left right b l r is =
       lefts = side-small (b .n) (b .left) (unionSupport (left .support) (right .support)) left (is .lefts) l;
       rights = side-small (b .n) (b .right) (unionSupport (left .support) (right .support)) right (is .rights) r;
     }
+
+-- with 672 nodes every source of a cone is one
+pub sources-stand : (bytes : List ℕ) (c : Cone) → IsStore bytes 672 → IsCone c → AreNodes bytes (coneOf c .support)
+sources-stand bytes c s is = are-nodes bytes 672 (coneOf c .support) s (λ i h. is .near i)

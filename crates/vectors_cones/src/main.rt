@@ -1,5 +1,5 @@
 // Replays composing and simplifying on the cones of standard input, a line each: P, M and NORM (0 for no limit), two cones and a gate's four answers.
-// A cone is the number of its sources, the sources, their coefficients and its truths.
+// A cone is the number of its sources, the sources, their coefficients and its truths. Each source weighs 1.
 use compose::Basis;
 use cone::Cone;
 use cone::valid::Validity;
@@ -25,6 +25,7 @@ ghost use Rattle.rules.specs.Span.{span};
 ghost use Rattle.scale.specs.Limits.{Within};
 ghost use lib.IntN.{natAbs};
 ghost use Rattle.cone.specs.View.{coneOf, IsCone};
+ghost use Rattle.nodes.specs.View.{IsStore};
 ghost use Rattle.vectors_cones.specs.Made.{rowsOf, IsForm, IsSmall};
 
 // ---- reading
@@ -372,12 +373,24 @@ fn divisor_of(cone: Cone) -> i64
     scale::coefficient_normalization_divisor(&coefs[..n])
 }
 
+// A store of 672 inputs, each of weight 1.
+fn put_inputs(nodes: &mut [u8; 25536])
+    requires { ⌜ length (now nodes) ≡ 25536 ⌝ }
+    ensures { λ _. ⌜ IsStore (now (nodes .exit)) 672 ⌝ }
+{
+    let mut i = 0;
+    while i < 672 {
+        lut::store::put_input(nodes, i, b"", 1);
+        i += 1;
+    }
+}
+
 // Span, norm and divisor.
-fn show_measures(cone: Cone)
-    requires { ⌜ IsCone cone ⌝ }
+fn show_measures(nodes: &[u8; 25536], cone: Cone)
+    requires { ⌜ IsStore (now nodes) 672 × IsCone cone ⌝ }
 {
     show_number(cone.span());
-    io::print_decimal(STDOUT_FILENO, cone.norm2());
+    io::print_decimal(STDOUT_FILENO, cone.norm2(nodes));
     space();
     show_signed(divisor_of(cone));
 }
@@ -413,8 +426,8 @@ fn number_of(v: Validity) -> u64 {
 }
 
 // A cone, and what validate_cone says of it.
-fn show_judged(s: Settings, cone: Cone)
-    requires { ⌜ IsCone cone ⌝ }
+fn show_judged(s: Settings, nodes: &[u8; 25536], cone: Cone)
+    requires { ⌜ IsStore (now nodes) 672 × IsCone cone ⌝ }
 {
     let n = cone.n;
     let support = cone.support;
@@ -427,7 +440,7 @@ fn show_judged(s: Settings, cone: Cone)
     show_truth(truth, linear::rows_of(n));
     io::print_decimal(
         STDOUT_FILENO,
-        number_of(cone::valid::validate_cone(s, cone)),
+        number_of(cone::valid::validate_cone(s, nodes, cone)),
     );
 }
 
@@ -436,15 +449,15 @@ fn no_cone() {
 }
 
 // The cone normalised and without unused sources.
-fn show_simplified(s: Settings, cone: Cone)
-    requires { ⌜ IsCone cone ⌝ }
+fn show_simplified(s: Settings, nodes: &[u8; 25536], cone: Cone)
+    requires { ⌜ IsStore (now nodes) 672 × IsCone cone ⌝ }
 {
     let m = made_of(normalised(cone));
     if !m.is {
         no_cone();
         return;
     }
-    show_judged(s, compose::simplify::simplify_cone(m.cone));
+    show_judged(s, nodes, compose::simplify::simplify_cone(m.cone));
 }
 
 // a times the left coefficients and the right ones.
@@ -461,8 +474,8 @@ fn merged_coefs(basis: Basis, a: i64) -> [i64; 11]
 }
 
 // The gate's truth over the union, with a times the left coefficients and the right ones.
-fn show_merged(s: Settings, basis: Basis, a: i64, truth: [u8; 2048])
-    requires { ⌜ IsSmall basis × (natAbs a ≤ 32) ⌝ }
+fn show_merged(s: Settings, nodes: &[u8; 25536], basis: Basis, a: i64, truth: [u8; 2048])
+    requires { ⌜ IsStore (now nodes) 672 × (IsSmall basis × (natAbs a ≤ 32)) ⌝ }
 {
     let n = basis.n;
     let support = basis.support;
@@ -477,7 +490,7 @@ fn show_merged(s: Settings, basis: Basis, a: i64, truth: [u8; 2048])
         no_cone();
         return;
     }
-    show_simplified(s, m.cone);
+    show_simplified(s, nodes, m.cone);
 }
 
 fn span_of(cone: Cone) -> i64
@@ -488,8 +501,8 @@ fn span_of(cone: Cone) -> i64
 }
 
 // The union with both rows of coefficients, the three tables, and four cones simplified: both, and both merged, the left one once and as often as the right span.
-fn run(s: Settings, left: Cone, right: Cone, gate: [u8; 4])
-    requires { ⌜ IsCone left × (IsCone right × (length (unionSupport (coneOf left .support) (coneOf right .support)) ≤ 11)) ⌝ }
+fn run(s: Settings, nodes: &[u8; 25536], left: Cone, right: Cone, gate: [u8; 4])
+    requires { ⌜ IsStore (now nodes) 672 × (IsCone left × (IsCone right × (length (unionSupport (coneOf left .support) (coneOf right .support)) ≤ 11))) ⌝ }
 {
     let basis = compose::basis_of(left, right);
     let mut xs = [0i32; 2048];
@@ -501,13 +514,13 @@ fn run(s: Settings, left: Cone, right: Cone, gate: [u8; 4])
     show_values(xs, rows);
     show_values(ys, rows);
     show_truth(truth, rows);
-    show_simplified(s, left);
+    show_simplified(s, nodes, left);
     space();
-    show_simplified(s, right);
+    show_simplified(s, nodes, right);
     space();
-    show_merged(s, basis, 1, truth);
+    show_merged(s, nodes, basis, 1, truth);
     space();
-    show_merged(s, basis, span_of(right), truth);
+    show_merged(s, nodes, basis, span_of(right), truth);
 }
 
 fn union_size(left: Cone, right: Cone) -> usize
@@ -521,19 +534,21 @@ fn union_size(left: Cone, right: Cone) -> usize
     support::union_support_size(&ls[..ln], &rs[..rn])
 }
 
-fn run_both(s: Settings, left: Cone, right: Cone, gate: [u8; 4])
-    requires { ⌜ IsCone left × IsCone right ⌝ }
+fn run_both(s: Settings, nodes: &[u8; 25536], left: Cone, right: Cone, gate: [u8; 4])
+    requires { ⌜ IsStore (now nodes) 672 × (IsCone left × IsCone right) ⌝ }
 {
     if 11 < union_size(left, right) {
         no_cone();
         return;
     }
-    show_measures(left);
-    show_measures(right);
-    run(s, left, right, gate);
+    show_measures(nodes, left);
+    show_measures(nodes, right);
+    run(s, nodes, left, right, gate);
 }
 
-fn run_tested(s: Settings, left: ConeRows, right: ConeRows, gate: [u8; 4]) {
+fn run_tested(s: Settings, nodes: &[u8; 25536], left: ConeRows, right: ConeRows, gate: [u8; 4])
+    requires { ⌜ IsStore (now nodes) 672 ⌝ }
+{
     let l = made_of(left);
     if !l.is {
         no_cone();
@@ -544,7 +559,7 @@ fn run_tested(s: Settings, left: ConeRows, right: ConeRows, gate: [u8; 4]) {
         no_cone();
         return;
     }
-    run_both(s, l.cone, r.cone, gate);
+    run_both(s, nodes, l.cone, r.cone, gate);
 }
 
 fn limit_of(n: usize) -> Limit {
@@ -555,7 +570,9 @@ fn limit_of(n: usize) -> Limit {
 }
 
 // One case from a place of the text, and where the next one starts.
-fn replay(text: &[u8], from: usize) -> usize {
+fn replay(nodes: &[u8; 25536], text: &[u8], from: usize) -> usize
+    requires { ⌜ IsStore (now nodes) 672 ⌝ }
+{
     let p = next_token(text, from);
     let m = next_token(text, p.next);
     let k = next_token(text, m.next);
@@ -571,20 +588,22 @@ fn replay(text: &[u8], from: usize) -> usize {
         policy: Policy::Span,
         many: false,
     };
-    run_tested(s, left.cone, right.cone, [g[0], g[1], g[2], g[3]]);
+    run_tested(s, nodes, left.cone, right.cone, [g[0], g[1], g[2], g[3]]);
     io::write_all(STDOUT_FILENO, b"\n");
     skip(text, gate.next)
 }
 
 // A proved loop has to end, so the cases are counted down from a number that no file uses up.
-fn replay_all(text: &[u8]) {
+fn replay_all(nodes: &[u8; 25536], text: &[u8])
+    requires { ⌜ IsStore (now nodes) 672 ⌝ }
+{
     let mut at = skip(text, 0);
     let mut turns: usize = 100000;
     while turns > 0 {
         if text.len() <= at {
             return;
         }
-        at = replay(text, at);
+        at = replay(nodes, text, at);
         turns -= 1;
     }
 }
@@ -592,5 +611,7 @@ fn replay_all(text: &[u8]) {
 fn main() {
     let mut text = io::large_buffer();
     let n = io::read_full(STDIN_FILENO, &mut text);
-    replay_all(&text[..n]);
+    let mut nodes = [0u8; 25536];
+    put_inputs(&mut nodes);
+    replay_all(&nodes, &text[..n]);
 }

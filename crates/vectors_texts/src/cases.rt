@@ -149,7 +149,7 @@ fn answer_admission(text: &[u8]) {
 fn answer_reader(text: &[u8]) {
     let mut out = [0u8; 8192];
     let mut gates = [0u8; 576];
-    let mut ports = [0usize; 160];
+    let mut ports = [0usize; 192];
     let r = circuit::read(text, &mut gates, &mut ports);
     match r {
         Reading::Refused(number, line) => {

@@ -114,10 +114,19 @@ fn put_gate(out: &mut [u8], at: usize, line: usize, g: [u8; 6]) -> usize {
     put(out, d, b')')
 }
 
-fn put_input(out: &mut [u8], at: usize, s: &[u8], start: usize, end: usize) -> usize {
+// A space and the weight, of 1 nothing.
+fn put_weight(out: &mut [u8], at: usize, w: usize) -> usize {
+    if w == 1 {
+        return at;
+    }
+    put_next(out, at, w)
+}
+
+fn put_input(out: &mut [u8], at: usize, s: &[u8], start: usize, end: usize, w: usize) -> usize {
     let a = put_all(out, at, b"(in ");
     let b = put_name(out, a, s, start, end);
-    put(out, b, b')')
+    let c = put_weight(out, b, w);
+    put(out, c, b')')
 }
 
 fn put_port(out: &mut [u8], at: usize, n: usize) -> usize {
@@ -134,14 +143,14 @@ fn put_output(out: &mut [u8], at: usize, s: &[u8], start: usize, end: usize, wir
     put(out, c, b')')
 }
 
-fn put_inputs(out: &mut [u8], at: usize, s: &[u8], ports: &[usize; 160], n: usize) -> usize
-    requires { ⌜ length (now ports) ≡ 160 ⌝ }
+fn put_inputs(out: &mut [u8], at: usize, s: &[u8], ports: &[usize; 192], n: usize) -> usize
+    requires { ⌜ length (now ports) ≡ 192 ⌝ }
 {
     let k = at_most(n, 32);
     let mut to = at;
     let mut i = 0;
     while i < k {
-        to = put_input(out, to, s, ports[2 * i], ports[2 * i + 1]);
+        to = put_input(out, to, s, ports[2 * i], ports[2 * i + 1], ports[160 + i]);
         i += 1;
     }
     to
@@ -171,8 +180,8 @@ fn put_gates(out: &mut [u8], at: usize, gates: &[u8; 576], inputs: usize, n: usi
     to
 }
 
-fn put_outputs(out: &mut [u8], at: usize, s: &[u8], ports: &[usize; 160], n: usize) -> usize
-    requires { ⌜ length (now ports) ≡ 160 ⌝ }
+fn put_outputs(out: &mut [u8], at: usize, s: &[u8], ports: &[usize; 192], n: usize) -> usize
+    requires { ⌜ length (now ports) ≡ 192 ⌝ }
 {
     let k = at_most(n, 32);
     let mut to = at;
@@ -192,9 +201,9 @@ pub fn put_circuit(
     c: Circuit,
     s: &[u8],
     gates: &[u8; 576],
-    ports: &[usize; 160],
+    ports: &[usize; 192],
 ) -> usize
-    requires { ⌜ (length (now gates) ≡ 576) × (length (now ports) ≡ 160) ⌝ }
+    requires { ⌜ (length (now gates) ≡ 576) × (length (now ports) ≡ 192) ⌝ }
 {
     let settings = c.settings;
     let a = put_settings(out, at, settings);

@@ -10,13 +10,14 @@ use borrow.Author.Tests.{eq-eqb, ne-eqb}
 use lib.Dec.{eqb}
 use lib.ListN.{length, getD}
 use Rattle.laws.specs.Test.{if_then_else_, decide}
-use Rattle.rules.specs.Network.{Term, LutNode, Input, Linear, Bootstrap, member}
-use Rattle.rules.specs.NetworkText.{sources, nodeAt}
+use Rattle.rules.specs.Network.{Term, LutNode, Input, Linear, Bootstrap, member, nodeAt}
+use Rattle.rules.specs.NetworkText.{sources}
 use Rattle.rules.specs.Store.{needs, wantedBelow, renumbered, renumberedTerm, renumberedNode, keptFrom}
 use Rattle.theorems.specs.Members.{member-head, member-tail}
 use Rattle.theorems.specs.Wanted.{wanted-closed}
+use Rattle.nodes.specs.Nodes.{fine-needs}
 use Rattle.nodes.specs.View.{nodeOf, storeOf, IsStore, at-store, store-length}
-use Rattle.writer.specs.Live.{newNumber, newTerm, newNode, liveFrom, liveNodes, Ready, Sourced, member-at, fine-needs}
+use Rattle.writer.specs.Live.{newNumber, newTerm, newNode, liveFrom, liveNodes, Ready, Sourced, member-at}
 
 -- `live` numbers the nodes that are kept
 unfoldable pub Numbered : List ℕ → List ℕ → ℕ → Type 0
@@ -67,7 +68,7 @@ same-terms kept live (t ∷ ts) h =
 same-node : (kept live : List ℕ) (x : LutNode) → ((j : ℕ) → member j (needs x) ≡ true → newNumber live j ≡ renumbered kept j)
     → newNode live x ≡ renumberedNode kept x
 unfolding needs newNode renumberedNode
-same-node kept live (Input name) h = refl
+same-node kept live (Input g) h = refl
 same-node kept live (Linear c ts) h = ap (Linear c) (same-terms kept live ts h)
 same-node kept live (Bootstrap i table) h = ap (λ k. Bootstrap k table) (h i (member-head i []))
 

@@ -1,8 +1,7 @@
 -- The live nodes of a store with their new numbers. `live` has for each node 0, or its new number and one more.
 use mathlib.Core.Path.{_≡_, refl, sym, ap, ap₂, _∙_}
-use mathlib.Core.Bool.{Bool, true, false, true≢false}
+use mathlib.Core.Bool.{Bool, true, false}
 use mathlib.Core.List.{List, [], _∷_, _++_, map}
-use mathlib.Core.Logic.{⊎-elim}
 use Prim.Native.Nat.{ℕ, zero, suc, _+_, _-_, _<_, _≤_}
 use native.Mathlib.Nat.{not-suc-le-zero, le-of-suc-le-suc}
 use native.Mathlib.Numerals.{add-one}
@@ -13,16 +12,15 @@ use lib.IntN.{ℤ, pos, natAbs}
 use lib.ListN.{length, getD, drop, drop-of-length-le}
 use lib.Seq.{drop-cons}
 use Rattle.laws.specs.Test.{if_then_else_}
-use Rattle.laws.specs.Laid.{laid-nil}
 use Rattle.rules.specs.Form.{bytes}
-use Rattle.rules.specs.Network.{Term, LutNode, Input, Linear, Bootstrap, isLinear, member}
-use Rattle.rules.specs.NetworkText.{sources, nodeAt}
+use Rattle.rules.specs.Network.{Term, LutNode, Input, Linear, Bootstrap, isLinear, weightOf, member}
 use Rattle.rules.specs.Store.{needs, termsOf}
 use Rattle.rules.specs.Writing.{signedText, termsText, nodeText, nodesText}
-use Rattle.theorems.specs.Members.{member-head, member-tail, member-cons}
-use Rattle.nodes.specs.Nodes.{kindOf, constantOf, bytesIn, sources-at, as-many}
-use Rattle.nodes.specs.View.{term, nodeOf, storeOf, FineTerms, Fine, IsNode, IsStore, at-store, store-length, is-node}
-use Rattle.lines.specs.Lines.{termText}
+use Rattle.theorems.specs.Members.{member-head, member-tail}
+use Rattle.theorems.specs.NodesAt.{drop-node}
+use Rattle.nodes.specs.Nodes.{kindOf, constantOf, bytesIn, as-many, terms-need, fine-needs}
+use Rattle.nodes.specs.View.{term, nodeOf, storeOf, Fine, IsNode, IsStore, at-store, store-length, is-node}
+use Rattle.lines.specs.Lines.{inText, termText}
 use Rattle.lines.specs.Put.{Put, Room, Left, left-step, left-room, left-none}
 
 unfoldable pub newNumber : List ℕ → ℕ → ℕ
@@ -72,21 +70,6 @@ member-at [] k h = absurd (not-suc-le-zero h)
 member-at (n ∷ ns) zero h = member-head n ns
 member-at (n ∷ ns) (suc k) h = member-tail (getD ns k 0) n ns (member-at ns k (le-of-suc-le-suc h))
 
-fine-sources : (i : ℕ) (ts : List Term) → FineTerms i ts → (j : ℕ) → member j (sources ts) ≡ true → j < i
-unfolding FineTerms sources member
-fine-sources i [] f j h = absurd (true≢false (sym h))
-fine-sources i (t ∷ ts) f j h =
-    ⊎-elim (λ (e : j ≡ t .node). let l = f .1 in omega arith) (λ (e : member j (sources ts) ≡ true). fine-sources i ts (f .2) j e)
-    (member-cons j (t .node) (sources ts) h)
-
--- they are earlier
-pub fine-needs : (i : ℕ) (n : LutNode) → Fine i n → (j : ℕ) → member j (needs n) ≡ true → j < i
-unfolding Fine needs member
-fine-needs i (Input name) f j h = absurd (true≢false (sym h))
-fine-needs i (Linear c ts) f j h = fine-sources i ts (f .2) j h
-fine-needs i (Bootstrap s table) f j h =
-    ⊎-elim (λ (e : j ≡ s). let l = f .0 in omega arith) (λ (e : member j [] ≡ true). absurd (true≢false (sym e))) (member-cons j s [] h)
-
 module _ {live bytes : List ℕ} {i : ℕ} (r : ReadyAt live bytes i) (k : ℕ) (h : k < length (needs (nodeOf bytes i))) where
   pub source-near : getD (needs (nodeOf bytes i)) k 0 < 672
   source-near =
@@ -112,18 +95,9 @@ unfoldable pub sumText : List ℕ → LutNode → List ℕ
 sumText live n = bytes "(lin " ++ signedText (constantOf n) ++ termsLeft live n 0 ++ bytes ")\n"
 
 module _ (live : List ℕ) (n : LutNode) (e : isLinear n ≡ true) where
-  same-source : (k : ℕ) → k < length (termsOf n) → getD (needs n) k 0 ≡ getD (termsOf n) k (term (pos 0) 0) .node
-  unfolding termsOf needs sources
-  same-source k h = by n e h
-    where
-      by : (m : LutNode) → isLinear m ≡ true → k < length (termsOf m) → getD (needs m) k 0 ≡ getD (termsOf m) k (term (pos 0) 0) .node
-      by (Input name) e h = absurd (not-suc-le-zero h)
-      by (Linear c ts) e h = sources-at ts k h
-      by (Bootstrap i table) e h = absurd (not-suc-le-zero h)
-
   pub terms-step : (k : ℕ) → k < length (termsOf n) → termsLeft live n k ≡ termAt live n k ++ termsLeft live n (k + 1)
   unfolding termsLeft termAt termsText termText newTerm
-  terms-step k h = rw (drop-cons (termsOf n) k (term (pos 0) 0) h, same-source k h, add-one)
+  terms-step k h = rw (drop-cons (termsOf n) k (term (pos 0) 0) h, terms-need n k h .1, add-one)
 
   pub terms-end : (k : ℕ) → length (termsOf n) ≤ k → termsLeft live n k ≡ []
   unfolding termsLeft termsText
@@ -132,15 +106,15 @@ module _ (live : List ℕ) (n : LutNode) (e : isLinear n ≡ true) where
 -- ---- laws: a node by its kind
 
 module _ (live : List ℕ) {k : ℕ} where
-  pub input-kind : (n : LutNode) → k ≡ kindOf n → k ≡ 0 → (isLinear n ≡ false) × (newNode live n ≡ Input (bytesIn n))
-  unfolding kindOf isLinear newNode bytesIn
-  input-kind (Input name) e h = (refl, refl)
+  pub input-kind : (n : LutNode) → k ≡ kindOf n → k ≡ 0 → (isLinear n ≡ false) × (nodeText (newNode live n) ≡ inText (bytesIn n) (weightOf n))
+  unfolding kindOf isLinear newNode bytesIn weightOf nodeText inText
+  input-kind (Input g) e h = (refl, refl)
   input-kind (Linear c ts) e h = absurd (omega arith)
   input-kind (Bootstrap i table) e h = absurd (omega arith)
 
   pub sum-kind : (n : LutNode) → k ≡ kindOf n → k ≡ 1 → (isLinear n ≡ true) × (nodeText (newNode live n) ≡ sumText live n)
   unfolding kindOf isLinear newNode nodeText sumText termsLeft constantOf termsOf
-  sum-kind (Input name) e h = absurd (omega arith)
+  sum-kind (Input g) e h = absurd (omega arith)
   sum-kind (Linear c ts) e h = (refl, refl)
   sum-kind (Bootstrap i table) e h = absurd (omega arith)
 
@@ -152,12 +126,13 @@ pub record Boot (live : List ℕ) (n : LutNode) : Type 0 where
 
 pub boot-kind : (live : List ℕ) {k : ℕ} (i : ℕ) (n : LutNode) → Fine i n → k ≡ kindOf n → (k ≡ 0 → ⊥) → (k ≡ 1 → ⊥) → Boot live n
 unfolding kindOf isLinear newNode needs bytesIn Fine
-boot-kind live i (Input name) f e a b = absurd (a e)
+boot-kind live i (Input g) f e a b = absurd (a e)
 boot-kind live i (Linear c ts) f e a b = absurd (b e)
 boot-kind live i (Bootstrap j table) f e a b = record { plain = refl; one = omega arith; bits = f .2; is = refl }
 
-pub input-text : (live : List ℕ) (n : LutNode) {l : List ℕ} → newNode live n ≡ Input (bytesIn n) → l ≡ bytesIn n → nodeText (newNode live n) ≡ nodeText (Input l)
-input-text live n e f = ap nodeText (e ∙ ap Input (sym f))
+pub input-text : (live : List ℕ) (n : LutNode) {l : List ℕ} {w : ℕ} → nodeText (newNode live n) ≡ inText (bytesIn n) (weightOf n) → l ≡ bytesIn n → w ≡ weightOf n
+    → nodeText (newNode live n) ≡ inText l w
+input-text live n e f g = e ∙ ap₂ inText (sym f) (sym g)
 
 module _ (live : List ℕ) (n : LutNode) (b : Boot live n) {l : List ℕ} (e : l ≡ bytesIn n) where
   pub boot-bits : (k : ℕ) → getD l k 0 ≤ 1
@@ -196,19 +171,14 @@ lines-cons live i x xs = by (eqb (getD live i 0) 0)
 
 module _ (live bytes : List ℕ) (count i : ℕ) where
   pub lines-step : i < count → linesLeft live bytes count i ≡ lineAt live bytes i ++ linesLeft live bytes count (i + 1)
-  unfolding linesLeft lineAt nodeAt
+  unfolding linesLeft lineAt
   lines-step h =
       let l = store-length bytes count in
-      let d = drop-cons (storeOf bytes count) i (Input []) (omega arith) in
-      let a : getD (storeOf bytes count) i (Input []) ≡ nodeOf bytes i = at-store bytes i count h in
-      rw (d, a, add-one) (rw add-one at (lines-cons live i (nodeOf bytes i) (drop (suc i) (storeOf bytes count))))
+      rw (drop-node (storeOf bytes count) i (omega arith), at-store bytes i count h, add-one) (rw add-one at (lines-cons live i (nodeOf bytes i) (drop (suc i) (storeOf bytes count))))
 
   pub lines-end : count ≤ i → linesLeft live bytes count i ≡ []
   unfolding linesLeft liveFrom nodesText
   lines-end h = let l = store-length bytes count in rw (drop-of-length-le (storeOf bytes count) {i = i} (omega arith))
-
-pub put-none : (at : ℕ) (out : List ℕ) → Put at [] out at out
-put-none at out = record { place = omega arith; bytes = sym (laid-nil at out) }
 
 -- ---- laws: what the code needs of a source and of a term
 

@@ -77,7 +77,7 @@ liveOutputs live s ps n = tabulate n (liveOutput live s ps)
 
 -- what the writer asks of them: names within the text of k bytes, signals that are live
 pub record Ported (live ps : List ℕ) (k n : ℕ) : Type 0 where
-  pub long : length ps ≡ 160
+  pub long : length ps ≡ 192
   pub few : n ≤ 32
   pub name : (i : ℕ) → i < n → (getD ps (64 + 3 * i) 0 ≤ getD ps (64 + 3 * i + 1) 0) × (getD ps (64 + 3 * i + 1) 0 ≤ k)
   pub signal : (i : ℕ) → i < n → Signalled live (getD ps (64 + 3 * i + 2) 0)

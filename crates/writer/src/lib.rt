@@ -24,7 +24,7 @@ pub fn write(
     out: &mut [u8],
     s: &[u8],
     n: Network,
-    ports: &[usize; 160],
+    ports: &[usize; 192],
     nodes: &[u8; 25536],
     live: &[u16; 672],
 ) -> usize

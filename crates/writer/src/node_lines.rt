@@ -90,7 +90,8 @@ fn put_node(out: &mut [u8], at: usize, nodes: &[u8; 25536], live: &[u16; 672], i
 {
     let kind = nodes::node::kind_of(nodes, i);
     if kind == nodes::node::INPUT {
-        return put_in(out, at, nodes::node::table_of(nodes, i));
+        let weight = nodes::node::weight_of(nodes, i);
+        return put_in(out, at, nodes::node::table_of(nodes, i), weight);
     }
     if kind == nodes::node::LINEAR {
         return put_lin(out, at, nodes, live, i);

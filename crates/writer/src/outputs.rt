@@ -44,7 +44,7 @@ fn put_port(
     out: &mut [u8],
     at: usize,
     s: &[u8],
-    ports: &[usize; 160],
+    ports: &[usize; 192],
     live: &[u16; 672],
     n: usize,
     i: usize,
@@ -64,7 +64,7 @@ pub fn put_outs(
     out: &mut [u8],
     at: usize,
     s: &[u8],
-    ports: &[usize; 160],
+    ports: &[usize; 192],
     live: &[u16; 672],
     n: usize,
 ) -> usize

@@ -5,6 +5,7 @@ use crate::lut::{LutCircuit, LutNode, LutSignal};
 use crate::mapper::{CoefficientPolicy, MapConfig, Mapper, SchedulePolicy};
 use crate::probe::{self, Place};
 use crate::reader::{self, Circuit, Policy, Refusal, Wire};
+use crate::weights;
 use std::fmt::Write as _;
 use std::panic::{AssertUnwindSafe, catch_unwind};
 use std::time::{Duration, Instant};
@@ -25,9 +26,10 @@ fn to_rust(circuit: &Circuit) -> BoolCircuit {
         Wire::Constant(value) => BoolWire::Const(*value),
     };
     let mut result = BoolCircuit::default();
-    for name in &circuit.inputs {
+    for input in &circuit.inputs {
+        let name = input.name.clone();
         result.inputs.push(result.nodes.len());
-        result.nodes.push(BoolNode::Input { name: name.clone() });
+        result.nodes.push(BoolNode::Input { name });
     }
     for gate in &circuit.gates {
         result.nodes.push(BoolNode::Lut {
@@ -102,12 +104,15 @@ pub fn map(job: &[u8]) -> Mapped {
     }
 }
 
-/// Map a circuit of the Rust's, its gates named by their lines, under the settings of a read one.
+/// Map a circuit of the Rust's, its gates named by their lines, under the settings of a read one and the weights of its
+/// inputs.
 pub fn map_rust(circuit: Circuit, rust: &BoolCircuit, job: &[u8]) -> Mapped {
     let mapper = match Mapper::new(config(&circuit)) {
         Ok(mapper) => mapper,
         Err(error) => stop(&format!("the Rust refused the settings: {error}"), job),
     };
+    let of_inputs: Vec<u64> = circuit.inputs.iter().map(|input| input.weight).collect();
+    weights::set(&of_inputs);
     probe::begin();
     let start = Instant::now();
     let mapped = catch_unwind(AssertUnwindSafe(|| mapper.map(rust)));
@@ -118,6 +123,14 @@ pub fn map_rust(circuit: Circuit, rust: &BoolCircuit, job: &[u8]) -> Mapped {
         Err(_) => stop("the Rust panicked", job),
     };
     Mapped { result, map_time }
+}
+
+/// A space and the weight of the circuit's input of this name; of 1 nothing.
+fn weight_text(circuit: &Circuit, name: &str) -> String {
+    match circuit.inputs.iter().find(|input| input.name == name) {
+        Some(input) if input.weight != 1 => format!(" {}", input.weight),
+        _ => String::new(),
+    }
 }
 
 fn network_text(circuit: &Circuit, network: &LutCircuit, job: &[u8]) -> String {
@@ -139,7 +152,7 @@ fn network_text(circuit: &Circuit, network: &LutCircuit, job: &[u8]) -> String {
                 if inputs_over {
                     stop("an input behind another node", job);
                 }
-                let _ = writeln!(text, "(in {name})");
+                let _ = writeln!(text, "(in {name}{})", weight_text(circuit, name));
             }
             LutNode::Linear { terms, constant } => {
                 inputs_over = true;

@@ -15,6 +15,7 @@ mod answer;
 mod probe;
 mod reader;
 mod service;
+mod weights;
 
 use reader::Refusal;
 use service::Job;

@@ -1,4 +1,4 @@
-//! Circuit texts, read as document 01 says: conditions 1 to 7.
+//! Circuit texts, read as document 01 says, and document 02 of weights (S-6): conditions 1 to 7.
 
 #[derive(Clone, Copy, Debug, Eq, PartialEq)]
 pub struct Refusal {
@@ -31,6 +31,12 @@ pub enum Wire {
 }
 
 #[derive(Clone, Debug)]
+pub struct Input {
+    pub name: String,
+    pub weight: u64,
+}
+
+#[derive(Clone, Debug)]
 pub struct Gate {
     pub line: usize,
     pub bits: Vec<u8>,
@@ -40,7 +46,7 @@ pub struct Gate {
 #[derive(Clone, Debug)]
 pub struct Circuit {
     pub settings: Settings,
-    pub inputs: Vec<String>,
+    pub inputs: Vec<Input>,
     pub gates: Vec<Gate>,
     pub outputs: Vec<(String, Wire)>,
 }
@@ -60,7 +66,7 @@ enum Form {
         policy: Policy,
         many: bool,
     },
-    In(String),
+    In(Input),
     Gate(Vec<u8>, Vec<Wire>),
     Out(String, Wire),
 }
@@ -112,6 +118,14 @@ impl<'a> Cursor<'a> {
         let name =
             self.run(|byte| byte.is_ascii_lowercase() || byte.is_ascii_digit() || byte == b'_')?;
         (name.len() <= 16).then(|| String::from_utf8(name.to_vec()).unwrap())
+    }
+
+    /// Nothing is 1, which is not written otherwise.
+    fn weight(&mut self) -> Option<u64> {
+        if !self.eat(" ") {
+            return Some(1);
+        }
+        self.number().filter(|weight| (2..=64).contains(weight))
     }
 
     fn bits(&mut self) -> Option<Vec<u8>> {
@@ -181,9 +195,10 @@ fn form(line: &[u8]) -> Option<Form> {
     }
     if cursor.eat("(in ") {
         let name = cursor.name()?;
+        let weight = cursor.weight()?;
         cursor.need(")")?;
         cursor.end()?;
-        return Some(Form::In(name));
+        return Some(Form::In(Input { name, weight }));
     }
     if cursor.eat("(gate ") {
         cursor.name()?;
@@ -218,7 +233,7 @@ enum Part {
 pub fn read(text: &[u8]) -> Result<Circuit, Refusal> {
     let mut part = Part::Start;
     let mut settings = None;
-    let mut inputs: Vec<String> = Vec::new();
+    let mut inputs: Vec<Input> = Vec::new();
     let mut gates: Vec<Gate> = Vec::new();
     let mut outputs: Vec<(String, Wire)> = Vec::new();
 
@@ -261,17 +276,17 @@ pub fn read(text: &[u8]) -> Result<Circuit, Refusal> {
                     many,
                 });
             }
-            Some(Form::In(name)) => {
+            Some(Form::In(input)) => {
                 if inputs.len() == MOST_INPUTS {
                     return refuse(3);
                 }
                 if part != Part::Inputs {
                     return refuse(4);
                 }
-                if inputs.contains(&name) {
+                if inputs.iter().any(|other| other.name == input.name) {
                     return refuse(5);
                 }
-                inputs.push(name);
+                inputs.push(input);
             }
             Some(Form::Gate(bits, wires)) => {
                 if gates.len() == MOST_GATES {

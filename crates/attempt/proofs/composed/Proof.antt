@@ -11,10 +11,10 @@ use Rattle.laws.specs.Tail.{head-length}
 use Rattle.rules.specs.Cone.{ok, constant}
 use Rattle.rules.specs.Composition.{unionSupport, gateTruth, allEqual, mergeCones, findCandidate}
 use Rattle.cone.specs.View.{coneOf}
+use Rattle.cone.specs.Sources.{constant-stands, are-nodes}
 use Rattle.nodes.specs.View.{storeOf}
 use Rattle.attempt.specs.Pair.{Tabled, gated-constant, gated-merged}
-use Rattle.attempt.specs.PairSources.{constant-stands}
-use Rattle.attempt.specs.PairTrial.{trial-tabled, rows-few, trial-mergeable, trial-judged, trial-stands}
+use Rattle.attempt.specs.PairTrial.{trial-tabled, rows-few, trial-mergeable, trial-judged, trial-below, trial-stands}
 use Rattle.attempt.specs.Tried.{triedOf}
 use Rattle.attempt.proofs.composed.Statement.{statement}
 use Rattle.attempt.proofs.composed.Tie as tie
@@ -87,8 +87,10 @@ judged-requires c κs =
     let r = c .before .before .before .before .before .before .before in
     let k = r .before .before .before .before in
     let s = k .before .before .before .before in
-    let A = s .args in
-    trial-mergeable (A .s) (A .nodes .now) (A .count) (A .left) (A .right) (A .basis) (s .pre .0) (r .rows-of .result) (k .cone-composition-tables .last .1 .1 .1 .1 .0) (k .cone-composition-tables .last .1 .1 .1 .1 .1 .0) (k .cone-composition-tables .last .1 .1 .1 .1 .1 .1 .0) (tabled r .0) (storeOf (A .nodes .now) (A .count)) (c .best-pair .result) (c .best-pair .ensures)
+    let A = s .args in (
+      trial-mergeable (A .s) (A .nodes .now) (A .count) (A .left) (A .right) (A .basis) (s .pre .0) (r .rows-of .result) (k .cone-composition-tables .last .1 .1 .1 .1 .0) (k .cone-composition-tables .last .1 .1 .1 .1 .1 .0) (k .cone-composition-tables .last .1 .1 .1 .1 .1 .1 .0) (tabled r .0) (storeOf (A .nodes .now) (A .count)) (c .best-pair .result) (c .best-pair .ensures),
+      are-nodes (A .nodes .now) (A .count) _ (s .pre .0 .store) (trial-below (A .s) (A .nodes .now) (A .count) (A .left) (A .right) (A .basis) (s .pre .0) (c .best-pair .result) .at),
+    )
 
 returns-2 : tie.Need-returns-2
 returns-2 c =
@@ -99,9 +101,9 @@ returns-2 c =
     let s = k .before .before .before .before in
     let A = s .args in
     let nodes = storeOf (A .nodes .now) (A .count) in (
-      c .judged .ensures .0
+      c .judged .ensures .0 (A .count) (trial-below (A .s) (A .nodes .now) (A .count) (A .left) (A .right) (A .basis) (s .pre .0) (p .best-pair .result))
           ∙ trial-judged (A .s) (A .nodes .now) (A .count) (A .left) (A .right) (A .basis) (s .pre .0) (r .rows-of .result) (k .cone-composition-tables .last .1 .1 .1 .1 .0) (k .cone-composition-tables .last .1 .1 .1 .1 .1 .0) (k .cone-composition-tables .last .1 .1 .1 .1 .1 .1 .0) (tabled r .0) nodes (p .best-pair .result) (p .best-pair .ensures)
-          ∙ ap (λ l. Option·map (mergeCones (A .s)) (findCandidate (A .s) nodes (unionSupport (coneOf (A .left) .support) (coneOf (A .right) .support)) (coneOf (A .left)) (coneOf (A .right)) l)) (tabled r .1)
+          ∙ ap (λ l. Option·map (mergeCones (A .s) nodes) (findCandidate (A .s) nodes (unionSupport (coneOf (A .left) .support) (coneOf (A .right) .support)) (coneOf (A .left)) (coneOf (A .right)) l)) (tabled r .1)
           ∙ gated-merged (A .s) nodes (coneOf (A .left)) (coneOf (A .right)) (A .gate) (equal-is (e .before) ∙ e .if1 .left),
       λ q. trial-stands (A .s) (A .nodes .now) (A .count) (A .left) (A .right) (A .basis) (s .pre .0) (p .best-pair .result) (c .judged .result .cone) (c .judged .ensures .1 q),
     )

@@ -21,15 +21,15 @@ enum-told-3 c = search needs
 
 returns : tie.Need-returns
 unfolding triedOf validityOf
-returns c = (ap some (sym (ap (validityOf _) (c .enum-told .given .1)) ∙ c .before .before .validate-cone .ensures), refl)
+returns c = (λ count b. ap some (sym (ap (validityOf _) (c .enum-told .given .1)) ∙ c .before .before .validate-cone .ensures count b), refl)
 
 returns-2 : tie.Need-returns-2
 unfolding triedOf validityOf
-returns-2 c = (ap some (sym (ap (validityOf _) (c .enum-told2 .given .1)) ∙ c .before .before .validate-cone .ensures), refl)
+returns-2 c = (λ count b. ap some (sym (ap (validityOf _) (c .enum-told2 .given .1)) ∙ c .before .before .validate-cone .ensures count b), refl)
 
 returns-3 : tie.Need-returns-3
 unfolding triedOf validityOf
-returns-3 c = (ap some (sym (ap (validityOf _) (c .enum-told3 .given .1)) ∙ c .before .before .validate-cone .ensures), refl)
+returns-3 c = (λ count b. ap some (sym (ap (validityOf _) (c .enum-told3 .given .1)) ∙ c .before .before .validate-cone .ensures count b), refl)
 
 pub validated-spec : {M : Type 1} → statement M
 validated-spec =

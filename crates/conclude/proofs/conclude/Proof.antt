@@ -2,7 +2,7 @@ use mathlib.Core.Path.{refl}
 use mathlib.Core.List.{[]}
 use borrow.Author.Needs.{needs}
 use Rattle.laws.specs.Lists.{zeros-at}
-use Rattle.conclude.specs.Conclude.{over-refused, answer-is, answer-asks}
+use Rattle.conclude.specs.Conclude.{kept-closed, over-refused, answer-is, answer-asks}
 use Rattle.conclude.proofs.conclude.Statement.{statement}
 use Rattle.conclude.proofs.conclude.Tie as tie
 
@@ -15,14 +15,15 @@ is-over-norm-requires c κs = let k = c .before in (k .before .before .before .b
 returns : tie.Need-returns
 returns c =
     let k = c .before .before .before in
-    over-refused _ _ _ _ _ _ _ (c .before .is-over-norm .ensures _ (k .keep .ensures _)) (c .if1 .taken) _
+    let s = k .before .before .before .before in
+    over-refused _ _ _ _ _ _ _ (c .before .is-over-norm .ensures _ (k .keep .ensures _) (kept-closed _ _ _ _ _ (s .pre .store))) (c .if1 .taken) _
 
 answer-requires : tie.Need-answer-requires
 answer-requires c κs =
     let e = c .before .before in
     let k = e .before .before .before in
     let s = k .before .before .before .before in
-    answer-asks _ _ _ _ _ _ _ (e .before .is-over-norm .ensures _ (k .keep .ensures _)) (e .if1 .left) _ (s .pre) (k .keep .ensures _)
+    answer-asks _ _ _ _ _ _ _ (e .before .is-over-norm .ensures _ (k .keep .ensures _) (kept-closed _ _ _ _ _ (s .pre .store))) (e .if1 .left) _ (s .pre) (k .keep .ensures _)
 
 same-length : tie.Need-same-length
 same-length c = search needs
@@ -33,7 +34,7 @@ returns-2 c =
     let e = a .before .before .before in
     let k = e .before .before .before in
     let s = k .before .before .before .before in
-    answer-is _ _ _ _ _ _ _ (e .before .is-over-norm .ensures _ (k .keep .ensures _)) (e .if1 .left) _ (s .pre) (k .keep .ensures _) _ _ (a .answer .ensures)
+    answer-is _ _ _ _ _ _ _ (e .before .is-over-norm .ensures _ (k .keep .ensures _) (kept-closed _ _ _ _ _ (s .pre .store))) (e .if1 .left) _ (s .pre) (k .keep .ensures _) _ _ (a .answer .ensures)
 
 pub conclude-spec : {M : Type 1} → statement M
 conclude-spec =

@@ -8,7 +8,7 @@ is-basic-requires : tie.Need-is-basic-requires
 is-basic-requires c κs = search needs
 
 returns : tie.Need-returns
-returns c = λ kept keeps. not-basic _ _ _ (c .before .is-basic .ensures) (not-true _ (c .if1 .taken))
+returns c = λ kept keeps closed. not-basic _ _ _ (c .before .is-basic .ensures) (not-true _ (c .if1 .taken))
 
 largest-norm-requires : tie.Need-largest-norm-requires
 largest-norm-requires c κs = search needs
@@ -20,7 +20,7 @@ returns-2 : tie.Need-returns-2
 returns-2 c =
     let l = c .before in
     let e = l .before in
-    λ kept keeps. basic-over _ _ _ _ _ (e .before .is-basic .ensures) (not-false _ (e .if1 .left)) (l .largest-norm .ensures kept keeps) (c .is-over .ensures)
+    λ kept keeps closed. basic-over _ _ _ _ _ (e .before .is-basic .ensures) (not-false _ (e .if1 .left)) (l .largest-norm .ensures kept keeps closed) (c .is-over .ensures)
 
 pub is-over-norm-spec : {M : Type 1} → statement M
 is-over-norm-spec =

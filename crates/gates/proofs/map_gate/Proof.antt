@@ -1,6 +1,6 @@
 use mathlib.Core.Path.{refl, sym, ap, subst, _∙_}
 use Rattle.cone_wires.specs.Wires.{coneIn}
-use Rattle.bootstrap.specs.View.{Stands}
+use Rattle.cone.specs.Sources.{Stands}
 use Rattle.gates.specs.Wired.{SlotIn, slot-below}
 use Rattle.gates.specs.Gates.{few-gate, other-slot, two-bits, not-255, unary-is, two-is, four-bits}
 use borrow.Author.Needs.{needs}
@@ -58,20 +58,22 @@ element-copy-out-map-unary-2 c = search needs
 -- src/gates.rt:134:9
 map-unary-requires : tie.Need-map-unary-requires
 map-unary-requires c κs =
-    let s = c .before .before .before .before .before .before in
+    let t = c .before .before .before in
+    let s = t .before .before .before .before in
     let g = s .pre .1 .1 .1 in
     let w = s .pre .1 .1 .0 in
-    let a = c .before .before .before .cone-at .ensures ∙ ap (coneIn _) (c .before .before .before .before .before .slot-of .ensures) in
-    (s .pre .0, (subst (Stands _) (sym a) (w .at _ (g .first)), two-bits _ _ (g .bits) (sym (c .before .before .before .before .slot-of2 .ensures) ∙ c .before .before .if1 .taken)))
+    let a = t .before .cone-at .ensures ∙ ap (coneIn _) (t .before .before .before .slot-of .ensures) in
+    (s .pre .0, (w .store, (subst (Stands _) (sym a) (w .at _ (g .first)), two-bits _ _ (g .bits) (sym (t .before .before .slot-of2 .ensures) ∙ t .if1 .taken))))
 
 -- src/gates.rt:134:9
 returns : tie.Need-returns
 returns c =
-    let s = c .before .before .before .before .before .before .before in
+    let t = c .before .before .before .before in
+    let s = t .before .before .before .before in
     let g = s .pre .1 .1 .1 in
     let w = s .pre .1 .1 .0 in
-    let a = c .before .before .before .before .cone-at .ensures ∙ ap (coneIn _) (c .before .before .before .before .before .before .slot-of .ensures) in
-    (unary-is _ _ _ _ _ _ w g _ _ a (sym (c .before .before .before .before .before .slot-of2 .ensures) ∙ c .before .before .before .if1 .taken) _ (c .map-unary .ensures .0 _), c .map-unary .ensures .1 _ (w .store))
+    let a = t .before .cone-at .ensures ∙ ap (coneIn _) (t .before .before .before .slot-of .ensures) in
+    (unary-is _ _ _ _ _ _ w g _ _ a (sym (t .before .before .slot-of2 .ensures) ∙ t .if1 .taken) _ (c .map-unary .ensures .0), c .map-unary .ensures .1)
 
 -- src/gates.rt:136:9
 cone-at-requires-2 : tie.Need-cone-at-requires-2

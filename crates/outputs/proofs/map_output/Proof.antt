@@ -2,7 +2,7 @@ use mathlib.Core.Path.{sym, ap, subst, _∙_}
 use Rattle.rules.specs.Mapper.{outputSignal}
 use Rattle.cone.specs.View.{coneOf}
 use Rattle.cone_wires.specs.Wires.{coneIn}
-use Rattle.bootstrap.specs.View.{Stands}
+use Rattle.cone.specs.Sources.{Stands}
 use Rattle.gates.specs.Wired.{SlotIn, slot-below}
 use Rattle.outputs.specs.Outputs.{port-low, port-slot, port-cone}
 use Rattle.outputs.proofs.map_output.Statement.{statement}

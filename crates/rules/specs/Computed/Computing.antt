@@ -7,6 +7,7 @@ use Rattle.laws.specs.Select
 use Rattle.laws.specs.Tabulate
 use Rattle.laws.specs.Test
 use Rattle.rules.specs.Builder
+use Rattle.rules.specs.Circuit
 use Rattle.rules.specs.CircuitText
 use Rattle.rules.specs.Composition
 use Rattle.rules.specs.Computed.Case
@@ -23,17 +24,17 @@ use Rattle.rules.specs.Writing
 
 -- from a text to a circuit
 unfoldable pub reading : Unit {0}
-unfolding Form.before Form.lines Form.onward Form.either Form.only Form.gather Form.upTo Form.exactly Form.run Form.runOf Form.judged Form.onLine Form.readLines Form.isNameByte Form.isName Form.name Form.isDigit Form.isNumber Form.valueFrom Form.number Form.isBitByte Form.isBits Form.bitsFrom Form.bits Form.wire Form.upTo4096 Form.norm Form.inLine Form.outLine CircuitText.policy CircuitText.tables CircuitText.fbsLine CircuitText.gateLine CircuitText.circuitLine CircuitText.inLimits CircuitText.some? CircuitText.sameName CircuitText.listed CircuitText.nodeCount CircuitText.noNode CircuitText.anyNoNode CircuitText.matching CircuitText.conditions CircuitText.withLine CircuitText.withSettings CircuitText.ended CircuitText.nothing CircuitText.readCircuit
+unfolding Form.before Form.lines Form.onward Form.either Form.only Form.gather Form.upTo Form.exactly Form.run Form.runOf Form.judged Form.onLine Form.readLines Form.isNameByte Form.isName Form.name Form.isDigit Form.isNumber Form.valueFrom Form.number Form.isBitByte Form.isBits Form.bitsFrom Form.bits Form.wire Form.upTo4096 Form.norm Form.from2To64 Form.weight Form.inLine Form.outLine CircuitText.policy CircuitText.tables CircuitText.fbsLine CircuitText.gateLine CircuitText.circuitLine CircuitText.inLimits CircuitText.some? CircuitText.sameName CircuitText.listed CircuitText.nodeCount CircuitText.noNode CircuitText.anyNoNode CircuitText.matching Circuit.givenNames CircuitText.conditions CircuitText.withLine CircuitText.withSettings CircuitText.ended CircuitText.nothing CircuitText.readCircuit
 reading = tt
 
 -- values, scale pairs and tables
 unfoldable pub tables : Unit {0}
-unfolding Test.allb Gcd.gcdWithin Gcd.gcd Tabulate.tabulate Span.leastFrom Span.greatestFrom Span.least Span.greatest Span.span Scale.gcdFrom Scale.startsNegative Scale.divisor Scale.quotients Scale.normalised Scale.isScalePair Scale.norm Rotation.pairSum Rotation.sameSum Rotation.centre Rotation.rotatable Builder.agrees Builder.enter Builder.knownEntries Builder.knownOr Builder.filled Builder.against Builder.opposedAt Builder.opposed Builder.completion Builder.tableLimits
+unfolding Test.allb Gcd.gcdWithin Gcd.gcd Tabulate.tabulate Span.leastFrom Span.greatestFrom Span.least Span.greatest Span.span Scale.gcdFrom Scale.startsNegative Scale.divisor Scale.quotients Scale.normalised Scale.isScalePair Rotation.pairSum Rotation.sameSum Rotation.centre Rotation.rotatable Builder.agrees Builder.enter Builder.knownEntries Builder.knownOr Builder.filled Builder.against Builder.opposedAt Builder.opposed Builder.completion Builder.tableLimits
 tables = tt
 
 -- cones and the store
 unfoldable pub cones : Unit {0}
-unfolding zipWith Select.select Select.any Select.all Integer.eqZ Network.nodeNorm Network.largest Network.bootSources Network.member NetworkText.sources NetworkText.nodeAt NetworkText.over Cone.constant Cone.identity Cone.rowFrom Cone.coneBit Cone.linearTable Cone.values Cone.coneSpan Cone.norm2 Cone.energy Cone.completed Cone.bootstrapTable Cone.isLutValid Cone.withinNorm Cone.fits Cone.validateCone Cone.less Cone.better Cone.bestFrom Cone.best Cone.coneOrderKey Store.sameTerms Store.sameNode Store.numberOf Store.intern Store.terms Store.isUsed Store.insert Store.sorted Store.linearTerms Store.linearOf Store.coefficientOf Store.bootstrapInputs Store.hasBootstrap Store.termsOf Store.sameSources Store.bootstrapForms Store.withForm Store.ranked Store.coneOr Store.realigned Store.bootstrapped Store.bootstrapCone Store.needs Store.wireNeeds Store.outputNeeds Store.wantedBelow Store.live Store.renumbered Store.renumberedTerm Store.renumberedNode Store.renumberedWire Store.renumberedOutput Store.keptFrom
+unfolding zipWith Select.select Select.any Select.all Integer.eqZ Network.nodeAt Network.weightOf Network.norm Network.nodeNorm Network.largest Network.bootSources Network.member NetworkText.sources NetworkText.over Cone.constant Cone.identity Cone.rowFrom Cone.coneBit Cone.linearTable Cone.values Cone.coneSpan Cone.terms Cone.norm2 Cone.energy Cone.completed Cone.bootstrapTable Cone.isLutValid Cone.withinNorm Cone.fits Cone.validateCone Cone.less Cone.better Cone.bestFrom Cone.best Cone.coneOrderKey Store.sameTerms Store.sameNode Store.numberOf Store.intern Store.isUsed Store.insert Store.sorted Store.linearTerms Store.linearOf Store.coefficientOf Store.bootstrapInputs Store.hasBootstrap Store.termsOf Store.sameSources Store.bootstrapForms Store.withForm Store.ranked Store.coneOr Store.realigned Store.bootstrapped Store.bootstrapCone Store.needs Store.wireNeeds Store.outputNeeds Store.wantedBelow Store.live Store.renumbered Store.renumberedTerm Store.renumberedNode Store.renumberedWire Store.renumberedOutput Store.keptFrom
 cones = tt
 
 -- gates and outputs
@@ -43,7 +44,7 @@ gates = tt
 
 -- from a network to a text
 unfoldable pub writing : Unit {0}
-unfolding Over.over Writing.digitsWithin Writing.digits Writing.signedText Writing.bitsText Writing.wireText Writing.limitText Writing.termsText Writing.nodeText Writing.nodesText Writing.outputText Writing.outputsText Writing.networkText Case.buffer Case.mapped Case.outcomeOf Case.expected
+unfolding Over.over Writing.digitsWithin Writing.digits Writing.signedText Writing.bitsText Writing.wireText Writing.limitText Writing.termsText Writing.weightText Writing.nodeText Writing.nodesText Writing.outputText Writing.outputsText Writing.networkText Case.buffer Case.mapped Case.outcomeOf Case.expected
 writing = tt
 
 unfoldable pub computing : Unit {0}

@@ -12,7 +12,9 @@ cast-result c =
     simp (toZ-ofZ (c .fits .x), toZ-ofZ (square-fits (c .args .x) (omega (arith, c .pre)))) (square-nonNeg (c .args .x), record { fits = omega (arith, abs-mul-le (c .args .x) (c .args .x) (c .pre) (c .pre)) })
 
 returns : tie.Need-returns
-returns c = simp (toZ-ofZ (c .fits .x), toZ-ofZ (square-fits (c .args .x) (omega (arith, c .pre)))) (abs-mul (c .args .x) (c .args .x))
+returns c =
+    simp (toZ-ofZ (c .fits .x), toZ-ofZ (square-fits (c .args .x) (omega (arith, c .pre))))
+    (abs-mul (c .args .x) (c .args .x), omega (arith, abs-mul-le (c .args .x) (c .args .x) (c .pre) (c .pre)))
 
 pub square-spec : {M : Type 1} → statement M
 square-spec = tie.close (tie.spec mul-result cast-result returns)

@@ -7,6 +7,7 @@ use borrow.Author.Needs.{needs}
 use borrow.Author.Tests.{not-true, not-false}
 use lib.IntN.{ℤ, pos, _-ℤ_}
 use lib.ListN.{length, getD, take, replicate, length-set}
+use lib.Seq.{length-take-le}
 use mathlib.Core.Bool.{true}
 use mir.Syntax.{w32}
 use mir.Val.{toZ, ofZ}
@@ -27,33 +28,37 @@ abbrev contextAt : Settings → Moments → List ℤ → List ℤ → List ℕ �
 contextAt s m left right sources nodes count = context s (storeOf nodes count) (take (length left) sources) left right m
 
 abbrev Inv-loop2 : tie.InvT-loop2
-Inv-loop2 s r m left right sources nodes count xs ys truth top end origin best u v₀ c known₀ i₀ v known i =
+Inv-loop2 s r m left right weights sources nodes count xs ys truth top end origin best u v₀ c known₀ i₀ v known i =
     (v ≡ v₀) × (i ≤ length xs) × (length known ≡ 32) × (enteredFrom c xs ys truth i known ≡ enteredFrom c xs ys truth 0 (replicate 32 2))
 
 abbrev μ-loop2 : tie.MeasureT-loop2
-μ-loop2 s r m left right sources nodes count xs ys truth top end origin best u v₀ c known₀ i₀ v known i = length xs - i
+μ-loop2 s r m left right weights sources nodes count xs ys truth top end origin best u v₀ c known₀ i₀ v known i = length xs - i
 
 abbrev Inv-pair : tie.InvT-pair
-Inv-pair s r m left right sources nodes count xs ys truth top end origin best₀ u v₀ best v =
+Inv-pair s r m left right weights sources nodes count xs ys truth top end origin best₀ u v₀ best v =
     let step = stepAt (contextAt s m left right sources nodes count) xs ys truth origin in
     walkRow step u v (end - v) best ≡ walkRow step u (r .start) (end - r .start) best₀
 
 abbrev μ-pair : tie.MeasureT-pair
-μ-pair s r m left right sources nodes count xs ys truth top end origin best₀ u v₀ best v = end - v
+μ-pair s r m left right weights sources nodes count xs ys truth top end origin best₀ u v₀ best v = end - v
 
 abbrev Inv-loop : tie.InvT-loop
-Inv-loop s r m left right sources nodes count xs ys truth top end origin best₀ u₀ best u =
+Inv-loop s r m left right weights sources nodes count xs ys truth top end origin best₀ u₀ best u =
     let step = stepAt (contextAt s m left right sources nodes count) xs ys truth origin in
     walk step (r .start) (end - r .start) u (top - u) best ≡ walk step (r .start) (end - r .start) (r .bottom) (top - r .bottom) noScore
 
 abbrev μ-loop : tie.MeasureT-loop
-μ-loop s r m left right sources nodes count xs ys truth top end origin best₀ u₀ best u = top - u
+μ-loop s r m left right weights sources nodes count xs ys truth top end origin best₀ u₀ best u = top - u
 
 abbrev contextOf : tie.Start Inv-loop2 μ-loop2 Inv-pair μ-pair Inv-loop μ-loop → Context
 contextOf s = contextAt (s .args .s) (s .args .m) (s .args .left .now) (s .args .right .now) (s .args .sources) (s .args .nodes .now) (s .args .count)
 
 abbrev stepOf : tie.Start Inv-loop2 μ-loop2 Inv-pair μ-pair Inv-loop μ-loop → ℕ → ℕ → Score → Score
 stepOf s = stepAt (contextOf s) (s .args .xs .now) (s .args .ys .now) (s .args .truth .now) (s .args .r .origin)
+
+-- as many sources as coefficients
+even : (s : tie.Start Inv-loop2 μ-loop2 Inv-pair μ-pair Inv-loop μ-loop) → length (take (length (s .args .left .now)) (s .args .sources)) ≡ length (s .args .left .now)
+even s = let long : length (s .args .sources) ≡ 11 = search needs in length-take-le _ (s .args .sources) (omega (arith, s .pre .0 .rows .few))
 
 -- ---- the pair (u, v), where its turn begins
 module _ (p : tie.In-pair Inv-loop2 μ-loop2 Inv-pair μ-pair Inv-loop μ-loop) where
@@ -92,10 +97,10 @@ module _ (e : tie.Else1 Inv-loop2 μ-loop2 Inv-pair μ-pair Inv-loop μ-loop) wh
   is-ok = not-false _ (e .if1 .left)
 
   is-scored : Scored (e .before .before .candidate-at .result)
-  is-scored = scored _ _ _ _ _ _ _ (start pair .pre .0) _ _ (scaling pair) _ (e .before .before .candidate-at .ensures) is-ok
+  is-scored = scored _ _ _ _ _ _ _ (start pair .pre .0) _ _ _ (scaling pair) _ (e .before .before .candidate-at .ensures) is-ok
 
   is-merged : Merges (start pair .args .left .now) (start pair .args .right .now) (e .before .before .candidate-at .result)
-  is-merged = merges _ _ _ _ _ _ _ (start pair .pre .0) _ _ (scaling pair) _ (e .before .before .candidate-at .ensures) is-ok
+  is-merged = merges _ _ _ _ _ _ _ (start pair .pre .0) _ _ _ (scaling pair) _ (e .before .before .candidate-at .ensures) is-ok
 
 -- ---- a row
 module _ (l : tie.After-level-arg2 Inv-loop2 μ-loop2 Inv-pair μ-pair Inv-loop μ-loop) where
@@ -115,10 +120,10 @@ module _ (l : tie.After-level-arg2 Inv-loop2 μ-loop2 Inv-pair μ-pair Inv-loop 
   y-is = read-back-at w32 (getD (first .args .ys .now) row (pos 0)) (l .level-arg2 .given)
 
   row-is : Level (l .before .before .before .before .before .before .candidate-at .result) (toZ w32 (ofZ w32 (getD (first .args .xs .now) row (pos 0)))) (toZ w32 (ofZ w32 (getD (first .args .ys .now) row (pos 0))))
-  row-is = row-level _ _ _ _ _ _ _ (first .pre .0) _ _ (scaling (pair (l .before .before .before .before))) _ (l .before .before .before .before .before .before .candidate-at .ensures) (is-ok (l .before .before .before .before)) row row-in _ _ x-is y-is
+  row-is = row-level _ _ _ _ _ _ _ (first .pre .0) _ _ _ (scaling (pair (l .before .before .before .before))) _ (l .before .before .before .before .before .before .candidate-at .ensures) (is-ok (l .before .before .before .before)) row row-in _ _ x-is y-is
 
   index : levelOf (l .before .before .before .before .before .before .candidate-at .result) (toZ w32 (ofZ w32 (getD (first .args .xs .now) row (pos 0)))) (toZ w32 (ofZ w32 (getD (first .args .ys .now) row (pos 0)))) < 32
-  index = row-inside _ _ _ _ _ _ _ (first .pre .0) _ _ (scaling (pair (l .before .before .before .before))) _ (l .before .before .before .before .before .before .candidate-at .ensures) (is-ok (l .before .before .before .before)) row row-in _ _ x-is y-is
+  index = row-inside _ _ _ _ _ _ _ (first .pre .0) _ _ _ (scaling (pair (l .before .before .before .before))) _ (l .before .before .before .before .before .before .candidate-at .ensures) (is-ok (l .before .before .before .before)) row row-in _ _ x-is y-is
 
 no-score-requires : tie.Need-no-score-requires Inv-loop2 μ-loop2 Inv-pair μ-pair Inv-loop μ-loop
 no-score-requires c κs = search needs
@@ -130,7 +135,7 @@ pair-holds : tie.Need-pair-holds Inv-loop2 μ-loop2 Inv-pair μ-pair Inv-loop μ
 pair-holds c = refl
 
 candidate-at-requires : tie.Need-candidate-at-requires Inv-loop2 μ-loop2 Inv-pair μ-pair Inv-loop μ-loop
-candidate-at-requires c κs = (start c .pre .0 .rows, (u-small c, (start c .pre .1 .0 .origin, v-small c)))
+candidate-at-requires c κs = (start c .pre .0 .rows, (start c .pre .1 .1 .1 .long, (u-small c, (start c .pre .1 .0 .origin, v-small c))))
 
 add-v : tie.Need-add-v Inv-loop2 μ-loop2 Inv-pair μ-pair Inv-loop μ-loop
 add-v c = omega (arith, v-small (c .before .before .before), start (c .before .before .before) .pre .1 .0 .origin)
@@ -139,7 +144,7 @@ pair-less : tie.Need-pair-less Inv-loop2 μ-loop2 Inv-pair μ-pair Inv-loop μ-l
 pair-less c = search needs
 
 pair-again : tie.Need-pair-again Inv-loop2 μ-loop2 Inv-pair μ-pair Inv-loop μ-loop
-pair-again c = turn (c .before .before .before) _ (step-skipped _ _ _ _ _ _ _ _ _ (c .before .before .candidate-at .ensures) (not-true _ (c .if1 .taken)))
+pair-again c = let p = c .before .before .before in turn p _ (step-skipped _ _ _ _ _ _ _ _ _ _ (start p .pre .0 .rows) (even (start p)) (start p .pre .1 .1 .1) (c .before .before .candidate-at .ensures) (not-true _ (c .if1 .taken)))
 
 loop2-holds : tie.Need-loop2-holds Inv-loop2 μ-loop2 Inv-pair μ-pair Inv-loop μ-loop
 loop2-holds c = (refl, omega arith, refl, refl)
@@ -164,7 +169,7 @@ pair-again-2 c =
     let p = c .before .before .before .before .before .before .before .before .before .before .before in
     let clash = rows-clash _ _ _ _ (s .pre .0 .y-long) (s .pre .0 .t-long) (o .i) (o .known) (row-in l) _ _ _ _ (x-is l) (y-is l) (c .before .before .before .level .ensures) refl (sym (c .before .agrees .ensures) ∙ not-true _ (c .if2 .taken)) in
     ap (λ w. walkRow (stepOf s) (u p) (w + 1) (s .args .r .end - (w + 1)) (p .before .pair .best)) (o .inv .0)
-    ∙ turn p _ (step-clashed _ _ _ _ _ _ _ _ _ (c .before .before .before .before .before .before .before .before .before .before .candidate-at .ensures) (is-ok (c .before .before .before .before .before .before .before .before)) (clash ∙ o .inv .3))
+    ∙ turn p _ (step-clashed _ _ _ _ _ _ _ _ _ _ (s .pre .0 .rows) (even s) (s .pre .1 .1 .1) (c .before .before .before .before .before .before .before .before .before .before .candidate-at .ensures) (is-ok (c .before .before .before .before .before .before .before .before)) (clash ∙ o .inv .3))
 
 array-write-known : tie.Need-array-write-known Inv-loop2 μ-loop2 Inv-pair μ-pair Inv-loop μ-loop
 array-write-known c = omega (arith, c .before .before .before .level .ensures, index (c .before .before .before .before), c .before .before .before .before .before .before .before .loop2 .inv .2)
@@ -186,7 +191,7 @@ considered-requires c κs =
     let s = c .before .before .before .before .before .before .before .before .before .before .before in
     let o = c .before .loop2 in
     let entered = rows-end _ _ _ _ (s .pre .0 .y-long) (s .pre .0 .t-long) (o .i) (o .known) (c .loop2-test .left) ∙ o .inv .3 in
-    (s .pre .0 .rows, (s .pre .0 .moments, (is-scored (c .before .before), (is-merged (c .before .before), (s .pre .1 .1, rows-entries _ _ _ _ (s .pre .0 .y-long) (s .pre .0 .t-long) _ entered)))))
+    (s .pre .0 .rows, (s .pre .0 .moments, (is-scored (c .before .before), (is-merged (c .before .before), (s .pre .1 .1 .0, rows-entries _ _ _ _ (s .pre .0 .y-long) (s .pre .0 .t-long) _ entered)))))
 
 add-v-3 : tie.Need-add-v-3 Inv-loop2 μ-loop2 Inv-pair μ-pair Inv-loop μ-loop
 add-v-3 c = omega (arith, c .before .before .loop2 .inv .0, v-small (c .before .before .before .before .before .before), start (c .before .before .before .before .before .before) .pre .1 .0 .origin)
@@ -201,7 +206,7 @@ pair-again-3 c =
     let p = c .before .before .before .before .before .before in
     let entered = rows-end _ _ _ _ (s .pre .0 .y-long) (s .pre .0 .t-long) (o .i) (o .known) (c .before .loop2-test .left) ∙ o .inv .3 in
     ap (λ w. walkRow (stepOf s) (u p) (w + 1) (s .args .r .end - (w + 1)) (c .considered .result)) (o .inv .0)
-    ∙ turn p _ (step-considered _ _ _ _ _ _ _ _ _ (c .before .before .before .before .before .candidate-at .ensures) (is-ok (c .before .before .before)) _ entered _ (c .considered .ensures))
+    ∙ turn p _ (step-considered _ _ _ _ _ _ _ _ _ _ (s .pre .0 .rows) (even s) (s .pre .1 .1 .1) (c .before .before .before .before .before .candidate-at .ensures) (is-ok (c .before .before .before)) _ entered _ (c .considered .ensures))
 
 loop-again : tie.Need-loop-again Inv-loop2 μ-loop2 Inv-pair μ-pair Inv-loop μ-loop
 loop-again c =

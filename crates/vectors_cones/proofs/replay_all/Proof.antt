@@ -4,10 +4,10 @@ use Rattle.vectors_cones.proofs.replay_all.Statement.{statement}
 use Rattle.vectors_cones.proofs.replay_all.Tie as tie
 
 abbrev Inv-loop : tie.InvT-loop
-Inv-loop text at₀ turns₀ at turns = Unit {0}
+Inv-loop nodes text at₀ turns₀ at turns = Unit {0}
 
 abbrev μ-loop : tie.MeasureT-loop
-μ-loop text at₀ turns₀ at turns = turns
+μ-loop nodes text at₀ turns₀ at turns = turns
 
 pub replay-all-spec : {M : Type 1} → statement M
 replay-all-spec =

@@ -17,21 +17,25 @@ module _ (c : tie.After-basis-of) where
   coefs-small : IsSmall (c .basis-of .result)
   coefs-small =
       let s = c .before in
-      basis-small (coneOf (s .args .left)) (coneOf (s .args .right)) (c .basis-of .result) (small (s .args .left) (s .pre .0)) (small (s .args .right) (s .pre .1 .0)) (c .basis-of .ensures)
+      basis-small (coneOf (s .args .left)) (coneOf (s .args .right)) (c .basis-of .result) (small (s .args .left) (s .pre .1 .0)) (small (s .args .right) (s .pre .1 .1 .0)) (c .basis-of .ensures)
 
 cone-composition-tables-requires : tie.Need-cone-composition-tables-requires
 cone-composition-tables-requires c κs =
     let b = c .before .before .before in
-    (b .before .pre .0, (b .before .pre .1 .0, (b .basis-of .ensures, record { x = fits b; y = fits b; t = fits b })))
+    (b .before .pre .1 .0, (b .before .pre .1 .1 .0, (b .basis-of .ensures, record { x = fits b; y = fits b; t = fits b })))
 
 few : (c : tie.After-rows-of) → c .rows-of .result ≤ 2048
 few c = rw (c .rows-of .ensures) (fits (c .before .before .before .before .before .before .before .before .before))
 
 show-merged-requires : tie.Need-show-merged-requires
-show-merged-requires c κs = (coefs-small (c .before .before .before .before .before .before .before .before .before .before .before .before .before .before .before .before), omega arith)
+show-merged-requires c κs =
+    let b = c .before .before .before .before .before .before .before .before .before .before .before .before .before .before .before .before in
+    (b .before .pre .0, (coefs-small b, omega arith))
 
 show-merged-requires-2 : tie.Need-show-merged-requires-2
-show-merged-requires-2 c κs = (coefs-small (c .before .before .before .before .before .before .before .before .before .before .before .before .before .before .before .before .before .before .before), within-same 32 _ _ (read-back (c .span-of .result) (c .span-of .ok)) (c .span-of .ensures))
+show-merged-requires-2 c κs =
+    let b = c .before .before .before .before .before .before .before .before .before .before .before .before .before .before .before .before .before .before .before in
+    (b .before .pre .0, (coefs-small b, within-same 32 _ _ (read-back (c .span-of .result) (c .span-of .ok)) (c .span-of .ensures)))
 
 pub run-spec : {M : Type 1} → statement M
 run-spec =

@@ -9,7 +9,7 @@ run-both-requires c κs =
     let r = c .before .before .made-of2 in
     let e = c .before .before .before in
     let l = e .before .before .made-of in
-    (l .ensures (not-false (l .result .is) (e .if1 .left)) .0, r .ensures (not-false (r .result .is) (c .if2 .left)) .0)
+    (e .before .before .before .pre, (l .ensures (not-false (l .result .is) (e .if1 .left)) .0, r .ensures (not-false (r .result .is) (c .if2 .left)) .0))
 
 pub run-tested-spec : {M : Type 1} → statement M
 run-tested-spec =

@@ -1,18 +1,24 @@
 -- `vectors_cones::show_judged` is safe: at most 11 sources have at most 2,048 rows.
 use borrow.Author.Needs.{needs}
 use Rattle.cone.specs.View.{rows-fit}
+use Rattle.vectors_cones.specs.Made.{sources-stand}
 use Rattle.vectors_cones.proofs.show_judged.Statement.{statement}
 use Rattle.vectors_cones.proofs.show_judged.Tie as tie
 
 truths-of-requires : tie.Need-truths-of-requires
 truths-of-requires c κs =
     let s = c .before .before .before .before .before .before in
-    (s .pre, (rows-fit (s .args .cone) (s .pre), rows-fit (s .args .cone) (s .pre)))
+    (s .pre .1, (rows-fit (s .args .cone) (s .pre .1), rows-fit (s .args .cone) (s .pre .1)))
 
 show-truth-requires : tie.Need-show-truth-requires
 show-truth-requires c κs =
     let s = c .before .before .before .before .before .before .before .before .before .before in
-    rw (c .rows-of .ensures) (rows-fit (s .args .cone) (s .pre))
+    rw (c .rows-of .ensures) (rows-fit (s .args .cone) (s .pre .1))
+
+validate-cone-requires : tie.Need-validate-cone-requires
+validate-cone-requires c κs =
+    let s = c .before .before .before .before .before .before .before .before .before .before .before in
+    (s .pre .1, sources-stand (s .args .nodes .now) (s .args .cone) (s .pre .0) (s .pre .1))
 
 pub show-judged-spec : {M : Type 1} → statement M
 show-judged-spec =
@@ -25,7 +31,7 @@ show-judged-spec =
     truths-of-requires
     (λ c κs. search needs)
     show-truth-requires
-    (λ c κs. search needs)
+    validate-cone-requires
     (λ c κs. search needs)
     (λ c κs. search needs)
     (λ c. search needs))

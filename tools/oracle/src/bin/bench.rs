@@ -24,6 +24,8 @@ mod probe;
 mod reader;
 #[path = "../service.rs"]
 mod service;
+#[path = "../weights.rs"]
+mod weights;
 
 use service::Job;
 use std::hint::black_box;

@@ -5,6 +5,9 @@
 #[path = "../copies.rs"]
 mod copies;
 rust_copied_to!("cones");
+#[allow(dead_code)]
+#[path = "../weights.rs"]
+mod weights;
 
 use std::io;
 

@@ -18,6 +18,8 @@ mod answer;
 mod probe;
 #[path = "../reader.rs"]
 mod reader;
+#[path = "../weights.rs"]
+mod weights;
 
 use circuit::{BoolCircuit, BoolNode, BoolWire};
 use std::io::Read;

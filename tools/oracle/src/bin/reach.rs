@@ -12,6 +12,8 @@ mod answer;
 mod reader;
 #[path = "../service.rs"]
 mod service;
+#[path = "../weights.rs"]
+mod weights;
 
 #[path = "../probe.rs"]
 mod plain_probe;

@@ -11,7 +11,7 @@ larger-requires : tie.Need-larger-requires
 larger-requires c κs = search needs
 
 returns : tie.Need-returns
-returns c = input-is _ _ (c .larger .ensures)
+returns c = input-is _ _ _ (c .larger .ensures)
 
 pub count-input-spec : {M : Type 1} → statement M
 count-input-spec = tie.close (tie.spec add-r larger-requires returns)

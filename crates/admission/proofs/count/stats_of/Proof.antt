@@ -2,13 +2,13 @@
 use Prim.Native.Nat.{_-_, _≤_}
 use native.Mathlib.Omega.{arith}
 use borrow.Author.Needs.{needs}
-use Rattle.nodes.specs.View.{is-node}
+use Rattle.nodes.specs.View.{store-below}
 use Rattle.admission.specs.Count.{Counting, counting-start, counting-long, counting-room, counting-next, counting-done}
 use Rattle.admission.proofs.count.stats_of.Statement.{statement}
 use Rattle.admission.proofs.count.stats_of.Tie as tie
 
 abbrev Inv-loop : tie.InvT-loop
-Inv-loop nodes count outputs taken₀ s₀ i₀ taken s i = (i ≤ count) × Counting nodes outputs taken s i
+Inv-loop nodes count outputs taken₀ s₀ i₀ taken s i = (i ≤ count) × Counting nodes count outputs taken s i
 
 abbrev μ-loop : tie.MeasureT-loop
 μ-loop nodes count outputs taken₀ s₀ i₀ taken s i = count - i
@@ -17,13 +17,13 @@ no-stats-requires : tie.Need-no-stats-requires Inv-loop μ-loop
 no-stats-requires c κs = search needs
 
 loop-holds : tie.Need-loop-holds Inv-loop μ-loop
-loop-holds c = let s = c .before in (omega arith, counting-start (s .args .nodes .now) (s .args .outputs) (c .no-stats .result) (c .no-stats .ensures))
+loop-holds c = let s = c .before in (omega arith, counting-start (s .args .nodes .now) (s .args .count) (s .args .outputs) (c .no-stats .result) (c .no-stats .ensures))
 
 count-node-requires : tie.Need-count-node-requires Inv-loop μ-loop
 count-node-requires c κs =
     let s = c .before .before .before .before in
     let o = c .before .before .loop in
-    (is-node (s .args .nodes .now) (s .args .count) (o .i) (s .pre) (c .before .loop-test .taken), counting-room (o .inv .1) (omega (arith, s .pre .most, o .inv .0)), counting-long (o .inv .1))
+    (store-below (s .args .nodes .now) (s .args .count) _ (s .pre) (omega (arith, c .before .loop-test .taken)), counting-room (o .inv .1) (omega (arith, s .pre .most, o .inv .0)), counting-long (o .inv .1))
 
 add-i : tie.Need-add-i Inv-loop μ-loop
 add-i c = search needs
@@ -36,13 +36,12 @@ loop-again c =
     let s = c .before .before .before .before .before in
     let o = c .before .before .before .loop in
     let h = c .before .before .loop-test .taken in
-    (omega (arith, h), counting-next (o .inv .1) (s .pre .fine (o .i) h) (omega (arith, h, s .pre .most)) (c .count-node .ensures .0) (c .count-node .ensures .1))
+    (omega (arith, h), counting-next (o .inv .1) (s .pre) h (c .count-node .ensures .0) (c .count-node .ensures .1))
 
 returns : tie.Need-returns Inv-loop μ-loop
 returns c =
-    let s = c .before .before .before in
     let o = c .before .loop in
-    counting-done (s .args .count) (o .inv .1) (omega (arith, o .inv .0, c .loop-test .left))
+    counting-done (o .inv .1) (omega (arith, o .inv .0, c .loop-test .left))
 
 pub stats-of-spec : {M : Type 1} → statement M
 stats-of-spec =

@@ -7,9 +7,8 @@ use mir.Syntax.{w64}
 use mir.Val.{toZ, ofZ, SFits}
 use mir.Facts.{toZ-ofZ}
 use Rattle.laws.specs.Integer.{ints, plus, minus, sub-parts, plus-neg, minus-neg, abs-neg, read-back, fits-abs}
-use Rattle.rules.specs.Cone.{values}
+use Rattle.rules.specs.Cone.{values, terms}
 use Rattle.rules.specs.Span.{least}
-use Rattle.rules.specs.Store.{terms}
 use Rattle.cone.specs.View.{coneOf, low-small}
 use Rattle.nodes.specs.View.{term, termsIn, termsOver}
 use borrow.Author.Needs.{needs}

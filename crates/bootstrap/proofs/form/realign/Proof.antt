@@ -6,6 +6,7 @@ use native.Mathlib.Omega.{arith}
 use borrow.Author.Needs.{needs}
 use borrow.Author.Tests.{not-true, not-false}
 use Rattle.cone.specs.View.{coneOf}
+use Rattle.cone.specs.Sources.{stands-nodes}
 use Rattle.lut.specs.Forms.{form-none}
 use Rattle.nodes.specs.View.{nodeOf, storeOf, is-node}
 use Rattle.bootstrap.specs.Form.{candidateIn, form-skips}
@@ -44,7 +45,7 @@ loop-again c =
     let none = form-none (coneOf (s .args .c) .support) (s .args .nodes .now) (nodeOf (s .args .nodes .now) (o .i)) [] (λ e. c .if2 .taken (k .kind-of .ensures ∙ e)) in (
       omega (arith, l .loop-test .taken),
       walk-on (s .args .s) (s .args .nodes .now) (s .args .count) (s .pre .1 .0) (s .args .c) (o .i) (o .best) (o .inv .1) (omega (arith, l .loop-test .taken)) (o .best)
-          (form-skips (s .args .s) (coneOf (s .args .c)) (candidateIn (o .best)) _ _ none refl) (o .inv .1 .kept),
+          (form-skips (s .args .s) (storeOf (s .args .nodes .now) (s .args .count)) (coneOf (s .args .c)) (candidateIn (storeOf (s .args .nodes .now) (s .args .count)) (o .best)) _ _ none refl) (o .inv .1 .kept),
     )
 
 consider-requires : tie.Need-consider-requires Inv-loop μ-loop
@@ -52,14 +53,14 @@ consider-requires c κs =
     let l = c .before .before in
     let s = l .before .before .before .before in
     let o = l .before .loop in
-    (s .pre .0, (record { at = λ j h. is-node (s .args .nodes .now) (s .args .count) j (s .pre .1 .0) (omega (arith, l .loop-test .taken)) }, (s .pre .1 .1 .cone, o .inv .1 .kept)))
+    (s .pre .0, (record { at = λ j h. is-node (s .args .nodes .now) (s .args .count) j (s .pre .1 .0) (omega (arith, l .loop-test .taken)) }, (s .pre .1 .1 .cone, (stands-nodes (s .args .nodes .now) (s .args .count) (s .args .c) (s .pre .1 .0) (s .pre .1 .1), o .inv .1 .kept))))
 
 loop-again-2 : tie.Need-loop-again-2 Inv-loop μ-loop
 loop-again-2 c =
     let l = c .before .before .before in
     let s = l .before .before .before .before in
     let o = l .before .loop in
-    (omega (arith, l .loop-test .taken), walk-on (s .args .s) (s .args .nodes .now) (s .args .count) (s .pre .1 .0) (s .args .c) (o .i) (o .best) (o .inv .1) (omega (arith, l .loop-test .taken)) (c .consider .result) (c .consider .ensures .0) (c .consider .ensures .1))
+    (omega (arith, l .loop-test .taken), walk-on (s .args .s) (s .args .nodes .now) (s .args .count) (s .pre .1 .0) (s .args .c) (o .i) (o .best) (o .inv .1) (omega (arith, l .loop-test .taken)) (c .consider .result) (c .consider .ensures .0 (s .args .count) (s .pre .1 .1 .below)) (c .consider .ensures .1))
 
 returns-2 : tie.Need-returns-2 Inv-loop μ-loop
 returns-2 c =

@@ -1,7 +1,7 @@
 use mathlib.Core.Path.{subst}
 use borrow.Author.Needs.{needs}
 use lib.ListN.{length}
-use Rattle.forms.specs.Forms.{nameFrom, nameTo, nameEnd, nameTaken, outFrom, outTo, outEnd, outTaken, named-at}
+use Rattle.forms.specs.Forms.{inFrom, inTo, inEnd, inTaken, outFrom, outTo, outEnd, outTaken, named-at}
 use Rattle.text.specs.Reads.{found, ends}
 use Rattle.circuit_text.specs.GateLine.{gateTaken, gateEnd, BitsIn}
 use Rattle.circuit_text.specs.LineRead.{fbs-line, in-line, gate-line, out-line, no-line}
@@ -23,9 +23,9 @@ returns-2 c =
     let t1 = p .before in
     let p1 = t1 .before .before in
     let s0 = p1 .before .before in
-    in-line _ _ _ (s0 .pre) (found (fbsTaken _) (p1 .read-fbs .ensures) (t1 .enum-told .given .1)) _ _ _
-    (found (nameTaken _) (p .read-in .ensures .reads) (k .a .given .1)) (ends nameEnd (p .read-in .ensures .reads) (k .a .given .1))
-    (named-at nameFrom nameTo (p .read-in .ensures .named) (k .a .given .1))
+    in-line _ _ _ (s0 .pre) (found (fbsTaken _) (p1 .read-fbs .ensures) (t1 .enum-told .given .1)) _ _ _ _
+    (found (inTaken _) (p .read-in .ensures .reads) (k .a .given .1)) (ends inEnd (p .read-in .ensures .reads) (k .a .given .1))
+    (named-at inFrom inTo (p .read-in .ensures .named) (k .a .given .1))
 
 returns-3 : tie.Need-returns-3
 returns-3 c =
@@ -36,7 +36,7 @@ returns-3 c =
     let t1 = p2 .before in
     let p1 = t1 .before .before in
     let s0 = p1 .before .before in
-    gate-line _ _ _ (s0 .pre) (found (fbsTaken _) (p1 .read-fbs .ensures) (t1 .enum-told .given .1)) (found (nameTaken _) (p2 .read-in .ensures .reads) (t2 .enum-told2 .given .1)) _ _ _ _
+    gate-line _ _ _ (s0 .pre) (found (fbsTaken _) (p1 .read-fbs .ensures) (t1 .enum-told .given .1)) (found (inTaken _) (p2 .read-in .ensures .reads) (t2 .enum-told2 .given .1)) _ _ _ _
     (found (gateTaken _) (p .read-gate .ensures .0) (k .d .given .1)) (ends gateEnd (p .read-gate .ensures .0) (k .d .given .1))
     (subst (BitsIn (length (s0 .args .s .now))) (k .d .given .1) (p .read-gate .ensures .1))
 
@@ -50,7 +50,7 @@ returns-4 c =
     let t1 = p2 .before in
     let p1 = t1 .before .before in
     let s0 = p1 .before .before in
-    no-line _ _ _ (s0 .pre) (found (fbsTaken _) (p1 .read-fbs .ensures) (t1 .enum-told .given .1)) (found (nameTaken _) (p2 .read-in .ensures .reads) (t2 .enum-told2 .given .1))
+    no-line _ _ _ (s0 .pre) (found (fbsTaken _) (p1 .read-fbs .ensures) (t1 .enum-told .given .1)) (found (inTaken _) (p2 .read-in .ensures .reads) (t2 .enum-told2 .given .1))
     (found (gateTaken _) (p3 .read-gate .ensures .0) (t3 .enum-told3 .given .1)) (found (outTaken _) (p .read-out .ensures .reads) (c .enum-told4 .given .1))
 
 returns-5 : tie.Need-returns-5
@@ -64,7 +64,7 @@ returns-5 c =
     let t1 = p2 .before in
     let p1 = t1 .before .before in
     let s0 = p1 .before .before in
-    out-line _ _ _ (s0 .pre) (found (fbsTaken _) (p1 .read-fbs .ensures) (t1 .enum-told .given .1)) (found (nameTaken _) (p2 .read-in .ensures .reads) (t2 .enum-told2 .given .1))
+    out-line _ _ _ (s0 .pre) (found (fbsTaken _) (p1 .read-fbs .ensures) (t1 .enum-told .given .1)) (found (inTaken _) (p2 .read-in .ensures .reads) (t2 .enum-told2 .given .1))
     (found (gateTaken _) (p3 .read-gate .ensures .0) (t3 .enum-told3 .given .1)) _ _ _ _
     (found (outTaken _) (p .read-out .ensures .reads) (k .a2 .given .1)) (ends outEnd (p .read-out .ensures .reads) (k .a2 .given .1))
     (named-at outFrom outTo (p .read-out .ensures .named) (k .a2 .given .1))

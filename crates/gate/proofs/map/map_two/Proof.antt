@@ -44,19 +44,19 @@ mul-at : tie.Need-mul-at
 mul-at c = search needs
 
 array-read-map-unary : tie.Need-array-read-map-unary
-array-read-map-unary c = omega (arith, small (c .before))
+array-read-map-unary c = omega (arith, small (c .before .before))
 
 add-map-unary : tie.Need-add-map-unary
 add-map-unary c = search needs
 
 array-read-map-unary-2 : tie.Need-array-read-map-unary-2
-array-read-map-unary-2 c = omega (arith, small (c .before))
+array-read-map-unary-2 c = omega (arith, small (c .before .before))
 
 map-unary-requires : tie.Need-map-unary-requires
-map-unary-requires c κs = let s = c .before .before .before .before in let p = s .pre .1 .1 .1 in let t = is-T _ (p .1 .1) in (s .pre .0, (p .1 .0, (bit-at (s .args .t6) _ t, bit-at (s .args .t6) _ t)))
+map-unary-requires c κs = let s = c .before .before .before .before .before in let p = s .pre .1 .1 .1 in let t = is-T _ (p .1 .1) in (s .pre .0, (s .pre .1 .0, (p .1 .0, (bit-at (s .args .t6) _ t, bit-at (s .args .t6) _ t))))
 
 returns : tie.Need-returns
-returns c = let s = c .before .before .before .before .before in let b = bit (c .before .before) in (c .map-unary .ensures .0 _ ∙ two-left (s .args .s) _ (coneOf (s .args .left)) (coneOf (s .args .right)) (s .args .t6) _ (b .0) (b .1) (small (c .before .before)) (long s), c .map-unary .ensures .1 _ (s .pre .1 .0))
+returns c = let s = c .before .before .before .before .before .before in let b = bit (c .before .before .before) in (c .map-unary .ensures .0 ∙ two-left (s .args .s) _ (coneOf (s .args .left)) (coneOf (s .args .right)) (s .args .t6) _ (b .0) (b .1) (small (c .before .before .before)) (long s), c .map-unary .ensures .1)
 
 enum-told : tie.Need-enum-told
 enum-told c = search needs
@@ -71,19 +71,19 @@ cast-at-2 : tie.Need-cast-at-2
 cast-at-2 c = search needs
 
 array-read-map-unary-3 : tie.Need-array-read-map-unary-3
-array-read-map-unary-3 c = omega (arith, small2 (c .before))
+array-read-map-unary-3 c = omega (arith, small2 (c .before .before))
 
 add-map-unary-2 : tie.Need-add-map-unary-2
 add-map-unary-2 c = search needs
 
 array-read-map-unary-4 : tie.Need-array-read-map-unary-4
-array-read-map-unary-4 c = omega (arith, small2 (c .before))
+array-read-map-unary-4 c = omega (arith, small2 (c .before .before))
 
 map-unary-requires-2 : tie.Need-map-unary-requires-2
-map-unary-requires-2 c κs = let s = c .before .before .before .before .before .before .before in let p = s .pre .1 .1 .1 in let t = is-T _ (p .1 .1) in (s .pre .0, (p .0, (bit-at (s .args .t6) _ t, bit-at (s .args .t6) _ t)))
+map-unary-requires-2 c κs = let s = c .before .before .before .before .before .before .before .before in let p = s .pre .1 .1 .1 in let t = is-T _ (p .1 .1) in (s .pre .0, (s .pre .1 .0, (p .0, (bit-at (s .args .t6) _ t, bit-at (s .args .t6) _ t))))
 
 returns-2 : tie.Need-returns-2
-returns-2 c = let s = c .before .before .before .before .before .before .before .before in let b = bit2 (c .before .before) in (c .map-unary2 .ensures .0 _ ∙ two-right (s .args .s) _ (coneOf (s .args .left)) (coneOf (s .args .right)) (s .args .t6) _ (no-of (coneOf (s .args .left)) (sym (c .before .before .before .before .before .enum-told .given .1) ∙ c .before .before .before .before .before .before .before .constant-value .ensures)) (b .0) (b .1), c .map-unary2 .ensures .1 _ (s .pre .1 .0))
+returns-2 c = let s = c .before .before .before .before .before .before .before .before .before in let b = bit2 (c .before .before .before) in (c .map-unary2 .ensures .0 ∙ two-right (s .args .s) _ (coneOf (s .args .left)) (coneOf (s .args .right)) (s .args .t6) _ (no-of (coneOf (s .args .left)) (sym (c .before .before .before .before .before .before .enum-told .given .1) ∙ c .before .before .before .before .before .before .before .before .constant-value .ensures)) (b .0) (b .1), c .map-unary2 .ensures .1)
 
 enum-told-2 : tie.Need-enum-told-2
 enum-told-2 c = search needs

@@ -5,7 +5,8 @@ use Rattle.rules.specs.Mapper as M
 use Rattle.rules.specs.Cone as C
 use Rattle.cone.specs.Valid.{validityOf}
 use Rattle.cone.specs.View.{coneOf, truth-bit}
-use Rattle.gate.specs.GateSteps.{unary-equal, unary-judged, through-stands, constant-stands}
+use Rattle.cone.specs.Sources.{constant-stands, stands-nodes}
+use Rattle.gate.specs.GateSteps.{unary-equal, unary-judged, through-stands}
 use borrow.Author.Needs.{needs}
 use Rattle.gate.proofs.map.map_unary.Statement.{statement}
 use Rattle.gate.proofs.map.map_unary.Tie as tie
@@ -26,10 +27,14 @@ unchanged-requires : tie.Need-unchanged-requires
 unchanged-requires c κs = search needs
 
 returns : tie.Need-returns
-returns c = let s = c .before .before .before .before .before .before in let d = c .before .before .before .before .before .apply-unary in let k = c .before .constant in (λ bytes. c .unchanged .ensures .0 bytes ∙ ap (M.unchanged _) (k .ensures .1 ∙ ap C.constant (c .before .before .first-truth .ensures)) ∙ unary-equal (s .args .s) _ (coneOf (s .args .c)) (coneOf (d .result)) _ (d .ensures .1) (sym (c .before .before .before .before .all-equal .ensures) ∙ c .before .before .before .if1 .taken), λ bytes st. c .unchanged .ensures .1 bytes st (constant-stands _ _ _ (k .ensures .0) (k .ensures .1)))
+returns c = let s = c .before .before .before .before .before .before in let d = c .before .before .before .before .before .apply-unary in let k = c .before .constant in (c .unchanged .ensures .0 _ ∙ ap (M.unchanged _) (k .ensures .1 ∙ ap C.constant (c .before .before .first-truth .ensures)) ∙ unary-equal (s .args .s) _ (coneOf (s .args .c)) (coneOf (d .result)) _ (d .ensures .1) (sym (c .before .before .before .before .all-equal .ensures) ∙ c .before .before .before .if1 .taken), c .unchanged .ensures .1 _ (s .pre .1 .0) (constant-stands _ _ _ (k .ensures .0) (k .ensures .1)))
 
 validate-cone-requires : tie.Need-validate-cone-requires
-validate-cone-requires c κs = search needs
+validate-cone-requires c κs =
+    let s = c .before .before .before in
+    let d = c .before .before .apply-unary in
+    let st = through-stands _ _ _ _ (d .ensures .0) (d .ensures .1) (s .pre .1 .1 .0) in
+    (st .cone, stands-nodes _ _ _ (s .pre .1 .0) st)
 
 enum-told : tie.Need-enum-told
 enum-told c = search needs
@@ -51,15 +56,15 @@ refused-requires-2 c κs = search needs
 
 returns-2 : tie.Need-returns-2
 unfolding validityOf
-returns-2 c = let s = c .before .before .before .before .before .before .before in let d = c .before .before .before .before .before .before .apply-unary in let v = c .before .before .before .validate-cone in (λ bytes. c .unchanged2 .ensures .0 bytes ∙ unary-judged (s .args .s) _ (coneOf (s .args .c)) (coneOf (d .result)) _ (d .ensures .1) (C.ok (coneOf (d .result))) (sym (c .before .before .before .before .before .all-equal .ensures) ∙ c .before .before .before .before .if1 .left) (ap (validityOf (coneOf (d .result))) (sym (c .before .enum-told .given .1)) ∙ v .ensures), λ bytes st. c .unchanged2 .ensures .1 bytes st (through-stands _ _ _ _ (d .ensures .0) (d .ensures .1) (s .pre .1 .0)))
+returns-2 c = let s = c .before .before .before .before .before .before .before in let d = c .before .before .before .before .before .before .apply-unary in let v = c .before .before .before .validate-cone in let st = through-stands _ _ _ _ (d .ensures .0) (d .ensures .1) (s .pre .1 .1 .0) in (c .unchanged2 .ensures .0 _ ∙ unary-judged (s .args .s) _ (coneOf (s .args .c)) (coneOf (d .result)) _ (d .ensures .1) (C.ok (coneOf (d .result))) (sym (c .before .before .before .before .before .all-equal .ensures) ∙ c .before .before .before .before .if1 .left) (ap (validityOf (coneOf (d .result))) (sym (c .before .enum-told .given .1)) ∙ v .ensures (s .args .count) (st .below)), c .unchanged2 .ensures .1 _ (s .pre .1 .0) st)
 
 returns-3 : tie.Need-returns-3
 unfolding validityOf
-returns-3 c = let s = c .before .before .before .before .before .before .before in let d = c .before .before .before .before .before .before .apply-unary in let v = c .before .before .before .validate-cone in (λ bytes. c .refused .ensures .0 bytes ∙ unary-judged (s .args .s) _ (coneOf (s .args .c)) (coneOf (d .result)) _ (d .ensures .1) (C.err 8) (sym (c .before .before .before .before .before .all-equal .ensures) ∙ c .before .before .before .before .if1 .left) (ap (validityOf (coneOf (d .result))) (sym (c .before .enum-told2 .given .1)) ∙ v .ensures), λ bytes st. c .refused .ensures .1 _ _ bytes)
+returns-3 c = let s = c .before .before .before .before .before .before .before in let d = c .before .before .before .before .before .before .apply-unary in let v = c .before .before .before .validate-cone in let st = through-stands _ _ _ _ (d .ensures .0) (d .ensures .1) (s .pre .1 .1 .0) in (c .refused .ensures .0 _ ∙ unary-judged (s .args .s) _ (coneOf (s .args .c)) (coneOf (d .result)) _ (d .ensures .1) (C.err 8) (sym (c .before .before .before .before .before .all-equal .ensures) ∙ c .before .before .before .before .if1 .left) (ap (validityOf (coneOf (d .result))) (sym (c .before .enum-told2 .given .1)) ∙ v .ensures (s .args .count) (st .below)), c .refused .ensures .1 _ _ _)
 
 returns-4 : tie.Need-returns-4
 unfolding validityOf
-returns-4 c = let s = c .before .before .before .before .before .before .before in let d = c .before .before .before .before .before .before .apply-unary in let v = c .before .before .before .validate-cone in (λ bytes. c .refused2 .ensures .0 bytes ∙ unary-judged (s .args .s) _ (coneOf (s .args .c)) (coneOf (d .result)) _ (d .ensures .1) (C.err 10) (sym (c .before .before .before .before .before .all-equal .ensures) ∙ c .before .before .before .before .if1 .left) (ap (validityOf (coneOf (d .result))) (sym (c .before .enum-told3 .given .1)) ∙ v .ensures), λ bytes st. c .refused2 .ensures .1 _ _ bytes)
+returns-4 c = let s = c .before .before .before .before .before .before .before in let d = c .before .before .before .before .before .before .apply-unary in let v = c .before .before .before .validate-cone in let st = through-stands _ _ _ _ (d .ensures .0) (d .ensures .1) (s .pre .1 .1 .0) in (c .refused2 .ensures .0 _ ∙ unary-judged (s .args .s) _ (coneOf (s .args .c)) (coneOf (d .result)) _ (d .ensures .1) (C.err 10) (sym (c .before .before .before .before .before .all-equal .ensures) ∙ c .before .before .before .before .if1 .left) (ap (validityOf (coneOf (d .result))) (sym (c .before .enum-told3 .given .1)) ∙ v .ensures (s .args .count) (st .below)), c .refused2 .ensures .1 _ _ _)
 
 pub map-unary-spec : {M : Type 1} → statement M
 map-unary-spec =

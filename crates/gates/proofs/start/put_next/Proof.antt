@@ -1,3 +1,4 @@
+-- `gates::start::put_next` meets its contract.
 use native.Mathlib.Omega.{arith}
 use Rattle.gates.specs.Start.{name-few, started-next}
 use Rattle.circuit.specs.View.{nameAt}
@@ -5,66 +6,61 @@ use borrow.Author.Needs.{needs}
 use Rattle.gates.proofs.start.put_next.Statement.{statement}
 use Rattle.gates.proofs.start.put_next.Tie as tie
 
--- src/start.rt:32:22
 mul-from : tie.Need-mul-from
 mul-from c = search needs
 
--- src/start.rt:32:16
 mul-from-2 : tie.Need-mul-from-2
 mul-from-2 c = search needs
 
--- src/start.rt:32:16
 element-copy-out-from : tie.Need-element-copy-out-from
 element-copy-out-from c = search needs
 
--- src/start.rt:33:20
 mul-to : tie.Need-mul-to
 mul-to c = search needs
 
--- src/start.rt:33:20
 add-to : tie.Need-add-to
 add-to c = search needs
 
--- src/start.rt:33:14
 mul-to-2 : tie.Need-mul-to-2
 mul-to-2 c = search needs
 
--- src/start.rt:33:14
 element-copy-out-to : tie.Need-element-copy-out-to
 element-copy-out-to c = search needs
 
--- src/start.rt:34:25
+add-weight : tie.Need-add-weight
+add-weight c = search needs
+
+mul-weight : tie.Need-mul-weight
+mul-weight c = search needs
+
+element-copy-out-weight : tie.Need-element-copy-out-weight
+element-copy-out-weight c = search needs
+
 sub-put-input : tie.Need-sub-put-input
-sub-put-input c = let s = c .before .before .before .before in let f = s .pre .0 .name (s .args .i) (omega arith) in omega (arith, f .later)
+sub-put-input c = let s = c .before .before .before .before .before in let f = s .pre .0 .name (s .args .i) (omega arith) in omega (arith, f .later)
 
--- src/start.rt:34:25
 part-put-input-start : tie.Need-part-put-input-start
-part-put-input-start c = let s = c .before .before .before .before in let f = s .pre .0 .name (s .args .i) (omega arith) in omega (arith, f .later)
+part-put-input-start c = let s = c .before .before .before .before .before in let f = s .pre .0 .name (s .args .i) (omega arith) in omega (arith, f .later)
 
--- src/start.rt:34:25
 part-put-input-end : tie.Need-part-put-input-end
-part-put-input-end c = let s = c .before .before .before .before in let f = s .pre .0 .name (s .args .i) (omega arith) in omega (arith, f .inside)
+part-put-input-end c = let s = c .before .before .before .before .before in let f = s .pre .0 .name (s .args .i) (omega arith) in omega (arith, f .inside)
 
--- src/start.rt:34:5
 put-input-requires : tie.Need-put-input-requires
 unfolding nameAt
 put-input-requires c κs =
-    let s = c .before .before .before .before .before in
-    (s .pre .1 .wired .store, omega (arith, s .pre .0 .few), name-few _ _ _ (s .pre .0 .name _ (omega arith)))
+    let s = c .before .before .before .before .before .before in
+    (s .pre .1 .wired .store, omega (arith, s .pre .0 .few), name-few _ _ _ (s .pre .0 .name _ (omega arith)), s .pre .0 .weight (s .args .i) (omega arith))
 
--- src/start.rt:35:9
 identity-requires : tie.Need-identity-requires
 identity-requires c κs = search needs
 
--- src/start.rt:36:5
 put-cone-requires : tie.Need-put-cone-requires
 put-cone-requires c κs = search needs
 
--- src/start.rt:22:1
 returns : tie.Need-returns
 unfolding nameAt
 returns c =
-    let s = c .before .before .before .before .before .before .before .before .before in
+    let s = c .before .before .before .before .before .before .before .before .before .before in
     let p = c .before .before .before .put-input .ensures in
     let own = c .before .before .identity .ensures in
     started-next _ _ _ _ _ (s .pre .1) (omega (arith, s .pre .0 .few)) _ _ _ (p .1) (c .put-cone .ensures) (own .0) (own .1) (p .0)
@@ -80,6 +76,9 @@ put-next-spec =
     add-to
     mul-to-2
     element-copy-out-to
+    add-weight
+    mul-weight
+    element-copy-out-weight
     sub-put-input
     part-put-input-start
     part-put-input-end

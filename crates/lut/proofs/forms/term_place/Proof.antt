@@ -6,7 +6,8 @@ use borrow.Author.Needs.{needs}
 use lib.ListN.{length, drop}
 use Rattle.rules.specs.Store.{termsOf}
 use Rattle.nodes.specs.View.{nodeOf}
-use Rattle.lut.specs.Forms.{placeOf, terms-need, place-here, place-on, place-end}
+use Rattle.nodes.specs.Nodes.{terms-need}
+use Rattle.lut.specs.Forms.{placeOf, place-here, place-on, place-end}
 use Rattle.lut.proofs.forms.term_place.Statement.{statement}
 use Rattle.lut.proofs.forms.term_place.Tie as tie
 

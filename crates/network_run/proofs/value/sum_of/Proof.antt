@@ -11,7 +11,7 @@ use lib.ListN.{length, getD}
 use Rattle.laws.specs.Integer.{read-back, fits-abs}
 use Rattle.rules.specs.Network.{sumFrom}
 use Rattle.rules.specs.Store.{termsOf}
-use Rattle.lut.specs.Forms.{terms-need}
+use Rattle.nodes.specs.Nodes.{terms-need}
 use Rattle.nodes.specs.Nodes.{constantOf, few-terms, source-before, as-many, constant-small, coefficient-small}
 use Rattle.nodes.specs.View.{term, nodeOf}
 use Rattle.network_run.specs.Value.{sumAt, sum-start, sum-next, sum-end, sum-size, term-is}

@@ -1,5 +1,5 @@
 use Rattle.text.specs.Reads.{passed, endOf, found, ends}
-use Rattle.forms.specs.Forms.{capOutput, nameTaken, nameEnd, nameFrom, nameTo, outTaken, outEnd, outFrom, outTo, named-at}
+use Rattle.forms.specs.Forms.{capOutput, inTaken, inEnd, inFrom, inTo, outTaken, outEnd, outFrom, outTo, named-at, weighed-at}
 use Rattle.text.specs.Capped.{exact-none}
 use mathlib.Core.Path.{subst}
 use Rattle.network_text.specs.LineIs.{none-is}
@@ -48,9 +48,10 @@ in-line-requires c κs =
     let u1 = c .before .before .before .before in
     record {
       no-net = exact-none capNet _ (found (netTaken _) (u1 .before .before .read-net .ensures) (u1 .enum-told .given .1));
-      piece = found (nameTaken _) (r .reads) g;
-      named = named-at nameFrom nameTo (r .named) g;
-      inside = ends nameEnd (r .reads) g;
+      piece = found (inTaken _) (r .reads) g;
+      named = named-at inFrom inTo (r .named) g;
+      weighed = weighed-at (r .weighed) g;
+      inside = ends inEnd (r .reads) g;
     }
 
 -- src/line.rt:189:9
@@ -80,7 +81,7 @@ lin-line-requires c κs =
     let g = c .before .a2 .given .1 in
     let u2 = c .before .before .before .before .before in
     let u1 = u2 .before .before .before in
-    record { no-net = exact-none capNet _ (found (netTaken _) (u1 .before .before .read-net .ensures) (u1 .enum-told .given .1)); no-in = found (nameTaken _) (u2 .before .before .read-in .ensures .reads) (u2 .enum-told2 .given .1); word = found (passed _) r g; inside = ends endOf r g }
+    record { no-net = exact-none capNet _ (found (netTaken _) (u1 .before .before .read-net .ensures) (u1 .enum-told .given .1)); no-in = found (inTaken _) (u2 .before .before .read-in .ensures .reads) (u2 .enum-told2 .given .1); word = found (passed _) r g; inside = ends endOf r g }
 
 -- src/line.rt:192:9
 returns-3 : tie.Need-returns-3
@@ -108,7 +109,7 @@ boot-line-requires c κs =
     let u1 = u2 .before .before .before in
     record {
       no-net = exact-none capNet _ (found (netTaken _) (u1 .before .before .read-net .ensures) (u1 .enum-told .given .1));
-      no-in = found (nameTaken _) (u2 .before .before .read-in .ensures .reads) (u2 .enum-told2 .given .1);
+      no-in = found (inTaken _) (u2 .before .before .read-in .ensures .reads) (u2 .enum-told2 .given .1);
       no-lin = found (passed _) (u3 .before .before .read-word .ensures) (u3 .enum-told3 .given .1);
       piece = found (bootTaken _) (r .reads) g;
       place = subst (BootBits _) g (r .place);
@@ -142,7 +143,7 @@ out-line-requires c κs =
     let u1 = u2 .before .before .before in
     record {
       no-net = exact-none capNet _ (found (netTaken _) (u1 .before .before .read-net .ensures) (u1 .enum-told .given .1));
-      no-in = found (nameTaken _) (u2 .before .before .read-in .ensures .reads) (u2 .enum-told2 .given .1);
+      no-in = found (inTaken _) (u2 .before .before .read-in .ensures .reads) (u2 .enum-told2 .given .1);
       no-lin = found (passed _) (u3 .before .before .read-word .ensures) (u3 .enum-told3 .given .1);
       no-boot = exact-none capBoot _ (found (bootTaken _) (u4 .before .before .read-boot .ensures .reads) (u4 .enum-told4 .given .1));
       piece = found (outTaken _) (r .reads) g;
@@ -170,7 +171,7 @@ returns-6 c =
     let u3 = u4 .before .before .before in
     let u2 = u3 .before .before .before .before in
     let u1 = u2 .before .before .before in
-    none-is (exact-none capNet _ (found (netTaken _) (u1 .before .before .read-net .ensures) (u1 .enum-told .given .1))) (found (nameTaken _) (u2 .before .before .read-in .ensures .reads) (u2 .enum-told2 .given .1)) (found (passed _) (u3 .before .before .read-word .ensures) (u3 .enum-told3 .given .1)) (exact-none capBoot _ (found (bootTaken _) (u4 .before .before .read-boot .ensures .reads) (u4 .enum-told4 .given .1))) (exact-none capOutput _ (found (outTaken _) (u5 .before .before .read-out .ensures .reads) (u5 .enum-told5 .given .1))) (c .plain .ensures)
+    none-is (exact-none capNet _ (found (netTaken _) (u1 .before .before .read-net .ensures) (u1 .enum-told .given .1))) (found (inTaken _) (u2 .before .before .read-in .ensures .reads) (u2 .enum-told2 .given .1)) (found (passed _) (u3 .before .before .read-word .ensures) (u3 .enum-told3 .given .1)) (exact-none capBoot _ (found (bootTaken _) (u4 .before .before .read-boot .ensures .reads) (u4 .enum-told4 .given .1))) (exact-none capOutput _ (found (outTaken _) (u5 .before .before .read-out .ensures .reads) (u5 .enum-told5 .given .1))) (c .plain .ensures)
 
 pub read-line-spec : {M : Type 1} → statement M
 read-line-spec =

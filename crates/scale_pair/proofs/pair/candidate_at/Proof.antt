@@ -28,7 +28,7 @@ module _ (u v o : ℕ) (h : u ≤ 32) (k : o ≤ 32) (l : v ≤ o + 32) (x y z :
 sub-candidate : tie.Need-sub-candidate
 sub-candidate c =
     let s = c .before .before .before in
-    fits _ _ _ (s .pre .1 .0) (s .pre .1 .1 .0) (s .pre .1 .1 .1) _ _ _
+    fits _ _ _ (s .pre .1 .1 .0) (s .pre .1 .1 .1 .0) (s .pre .1 .1 .1 .1) _ _ _
     (read-back (c .before .before .signed .result) (c .before .before .signed .ok) ∙ c .before .before .signed .ensures)
     (read-back (c .before .signed2 .result) (c .before .signed2 .ok) ∙ c .before .signed2 .ensures)
     (read-back (c .signed3 .result) (c .signed3 .ok) ∙ c .signed3 .ensures)
@@ -37,10 +37,13 @@ candidate-requires : tie.Need-candidate-requires
 candidate-requires c κs =
     let s = c .before .before .before in (
       s .pre .0,
-      scaling _ _ _ (s .pre .1 .0) (s .pre .1 .1 .0) (s .pre .1 .1 .1) _ _ _
-          (read-back (c .before .before .signed .result) (c .before .before .signed .ok) ∙ c .before .before .signed .ensures)
-          (read-back (c .before .signed2 .result) (c .before .signed2 .ok) ∙ c .before .signed2 .ensures)
-          (read-back (c .signed3 .result) (c .signed3 .ok) ∙ c .signed3 .ensures),
+      (
+        s .pre .1 .0,
+        scaling _ _ _ (s .pre .1 .1 .0) (s .pre .1 .1 .1 .0) (s .pre .1 .1 .1 .1) _ _ _
+            (read-back (c .before .before .signed .result) (c .before .before .signed .ok) ∙ c .before .before .signed .ensures)
+            (read-back (c .before .signed2 .result) (c .before .signed2 .ok) ∙ c .before .signed2 .ensures)
+            (read-back (c .signed3 .result) (c .signed3 .ok) ∙ c .signed3 .ensures),
+      ),
     )
 
 returns : tie.Need-returns
@@ -51,8 +54,8 @@ returns c =
     let o = c .before .signed3 in
     let e = read-back (u .result) (u .ok) ∙ u .ensures in
     c .candidate .ensures
-    ∙ ap₂ (pairOf (s .args .s) (s .args .left .now) (s .args .right .now)) e
-    (read _ _ _ (s .pre .1 .0) (s .pre .1 .1 .0) (s .pre .1 .1 .1) _ _ _ e (read-back (v .result) (v .ok) ∙ v .ensures) (read-back (o .result) (o .ok) ∙ o .ensures))
+    ∙ ap₂ (pairOf (s .args .s) (s .args .weights .now) (s .args .left .now) (s .args .right .now)) e
+    (read _ _ _ (s .pre .1 .1 .0) (s .pre .1 .1 .1 .0) (s .pre .1 .1 .1 .1) _ _ _ e (read-back (v .result) (v .ok) ∙ v .ensures) (read-back (o .result) (o .ok) ∙ o .ensures))
 
 pub candidate-at-spec : {M : Type 1} → statement M
 candidate-at-spec =

@@ -11,13 +11,14 @@ weigh-requires : tie.Need-weigh-requires
 weigh-requires c κs =
     let s = c .before .before .before .before in
     let n = c .before .before .normalise in
-    normalised-fit (s .args .coefs .now) (n .last .0) (n .ensures .1) (s .pre .0) (s .pre .1)
+    let f = normalised-fit (s .args .coefs .now) (n .last .0) (n .ensures .1) (s .pre .0) (s .pre .1 .1) in
+    (f .0, (s .pre .1 .0, f .1))
 
 returns : tie.Need-returns
 returns c =
     let s = c .before .before .before .before .before in
     let n = c .before .before .before .normalise in
-    measured-is _ _ _ _ _ _ (s .args .coefs .now) (n .last .0) _ (c .weigh .ensures) (toZ-ofZ (s .fits .a)) (toZ-ofZ (s .fits .b)) (read-back (n .result) (n .ok) ∙ n .ensures .0) (n .ensures .1)
+    measured-is _ _ _ _ _ _ _ (s .args .coefs .now) (n .last .0) _ (c .weigh .ensures) (toZ-ofZ (s .fits .a)) (toZ-ofZ (s .fits .b)) (read-back (n .result) (n .ok) ∙ n .ensures .0) (n .ensures .1)
 
 pub measure-spec : {M : Type 1} → statement M
 measure-spec = tie.close (tie.spec (λ c κs. search needs) weigh-requires (λ c. search needs) returns)

@@ -10,7 +10,7 @@ use Rattle.scale_pair.proofs.pair.weigh.Tie as tie
 returns : tie.Need-returns
 returns c =
     let s = c .before .before .before .before in
-    weighed-is _ _ _ _ (s .args .coefs .now) _ _ _ _ _ _ _ (c .before .before .before .linear-span .ensures) (c .before .before .coefficients-norm2 .ensures) (c .before .is-within .ensures)
+    weighed-is _ _ _ _ _ (s .args .coefs .now) _ _ _ _ _ _ _ (c .before .before .before .linear-span .ensures) (c .before .before .coefficients-norm2 .ensures) (c .before .is-within .ensures)
     (toZ-ofZ (s .fits .a)) (toZ-ofZ (s .fits .b)) (toZ-ofZ (s .fits .divisor)) (read-back (c .linear-least .result) (c .linear-least .ok) ∙ c .linear-least .ensures)
 
 pub weigh-spec : {M : Type 1} → statement M

@@ -6,7 +6,7 @@ use Rattle.vectors_texts.proofs.circuits.put_inputs.Statement.{statemen
 use Rattle.vectors_texts.proofs.circuits.put_inputs.Tie as tie
 
 abbrev Inv-loop : tie.InvT-loop
-Inv-loop out₀ at s ports n k to₀ i₀ out to i = (i ≤ k) × (length out ≡ length out₀) × (k ≤ 32) × (length ports ≡ 160)
+Inv-loop out₀ at s ports n k to₀ i₀ out to i = (i ≤ k) × (length out ≡ length out₀) × (k ≤ 32) × (length ports ≡ 192)
 
 abbrev μ-loop : tie.MeasureT-loop
 μ-loop out₀ at s ports n k to₀ i₀ out to i = k - i
@@ -18,6 +18,9 @@ put-inputs-spec =
     Inv-loop
     μ-loop
     (λ c κs. search needs)
+    (λ c. search needs)
+    (λ c. search needs)
+    (λ c. search needs)
     (λ c. search needs)
     (λ c. search needs)
     (λ c. search needs)

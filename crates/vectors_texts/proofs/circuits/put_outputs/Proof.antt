@@ -6,7 +6,7 @@ use Rattle.vectors_texts.proofs.circuits.put_outputs.Statement.{stateme
 use Rattle.vectors_texts.proofs.circuits.put_outputs.Tie as tie
 
 abbrev Inv-loop : tie.InvT-loop
-Inv-loop out₀ at s ports n k to₀ i₀ out to i = (i ≤ k) × (length out ≡ length out₀) × (k ≤ 32) × (length ports ≡ 160)
+Inv-loop out₀ at s ports n k to₀ i₀ out to i = (i ≤ k) × (length out ≡ length out₀) × (k ≤ 32) × (length ports ≡ 192)
 
 abbrev μ-loop : tie.MeasureT-loop
 μ-loop out₀ at s ports n k to₀ i₀ out to i = k - i

@@ -1,5 +1,5 @@
-use Rattle.lines.specs.Put.{put-text, room-text}
-use Rattle.writer.specs.Live.{no-line, its-line, put-none, ready-at}
+use Rattle.lines.specs.Put.{put-none, put-text, room-text}
+use Rattle.writer.specs.Live.{no-line, its-line, ready-at}
 use borrow.Author.Needs.{needs}
 use Rattle.writer.proofs.node_lines.put_live.Statement.{statement}
 use Rattle.writer.proofs.node_lines.put_live.Tie as tie

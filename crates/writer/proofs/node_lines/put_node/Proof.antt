@@ -9,30 +9,36 @@ use Rattle.writer.proofs.node_lines.put_node.Tie as tie
 kind-of-requires : tie.Need-kind-of-requires
 kind-of-requires c κs = search needs
 
--- src/node_lines.rt:93:32
+-- src/node_lines.rt:93:22
+weight-of-requires : tie.Need-weight-of-requires
+weight-of-requires c κs = c .before .before .before .pre .0 .node
+
+-- src/node_lines.rt:94:32
 table-of-requires : tie.Need-table-of-requires
 table-of-requires c κs =
-    let a = c .before .before .before .before in
-    let n = nodeOf (a .args .nodes .now) (a .args .i) in
-    (a .pre .0 .node, input-kind (a .args .live .now) n (c .before .before .kind-of .ensures) (c .before .if1 .taken) .0)
-
--- src/node_lines.rt:93:9
-put-in-requires : tie.Need-put-in-requires
-put-in-requires c κs =
     let a = c .before .before .before .before .before in
     let n = nodeOf (a .args .nodes .now) (a .args .i) in
-    room-text (input-text (a .args .live .now) n (input-kind (a .args .live .now) n (c .before .before .before .kind-of .ensures) (c .before .before .if1 .taken) .1) (c .table-of .ensures)) (a .pre .1)
+    (a .pre .0 .node, input-kind (a .args .live .now) n (c .before .before .before .kind-of .ensures) (c .before .before .if1 .taken) .0)
 
--- src/node_lines.rt:93:9
+-- src/node_lines.rt:94:9
+put-in-requires : tie.Need-put-in-requires
+put-in-requires c κs =
+    let a = c .before .before .before .before .before .before in
+    let n = nodeOf (a .args .nodes .now) (a .args .i) in
+    let t = input-kind (a .args .live .now) n (c .before .before .before .before .kind-of .ensures) (c .before .before .before .if1 .taken) .1 in
+    room-text (input-text (a .args .live .now) n t (c .table-of .ensures) (c .before .before .weight-of .ensures)) (a .pre .1)
+
+-- src/node_lines.rt:94:9
 same-length : tie.Need-same-length
 same-length c = search needs
 
--- src/node_lines.rt:93:9
+-- src/node_lines.rt:94:9
 returns : tie.Need-returns
 returns c =
-    let a = c .before .before .before .before .before .before .before .before in
+    let a = c .before .before .before .before .before .before .before .before .before in
     let n = nodeOf (a .args .nodes .now) (a .args .i) in
-    put-text (input-text (a .args .live .now) n (input-kind (a .args .live .now) n (c .before .before .before .before .before .before .kind-of .ensures) (c .before .before .before .before .before .if1 .taken) .1) (c .before .before .before .table-of .ensures)) (c .before .before .put-in .ensures)
+    let t = input-kind (a .args .live .now) n (c .before .before .before .before .before .before .before .kind-of .ensures) (c .before .before .before .before .before .before .if1 .taken) .1 in
+    put-text (input-text (a .args .live .now) n t (c .before .before .before .table-of .ensures) (c .before .before .before .before .before .weight-of .ensures)) (c .before .before .put-in .ensures)
 
 -- src/node_lines.rt:96:9
 put-lin-requires : tie.Need-put-lin-requires
@@ -94,6 +100,7 @@ put-node-spec =
     tie.close
     (tie.spec
     kind-of-requires
+    weight-of-requires
     table-of-requires
     put-in-requires
     same-length

@@ -9,12 +9,12 @@ use lib.ListN.{length, getD, take, length-map}
 use lib.Seq.{ext-getD}
 use Rattle.laws.specs.Select.{select, select-le, any}
 use Rattle.rules.specs.Cone as rules
-use Rattle.rules.specs.Cone.{linearTable}
+use Rattle.rules.specs.Cone.{linearTable, terms}
 use Rattle.rules.specs.Composition.{simplifyCone}
 use Rattle.rules.specs.Network.{Term}
 use Rattle.rules.specs.NetworkText.{sources, allDifferent}
 use Rattle.rules.specs.Span.{least, span}
-use Rattle.rules.specs.Store.{terms, isUsed}
+use Rattle.rules.specs.Store.{isUsed}
 use Rattle.theorems.specs.KnownRows.{hits, isAt}
 use Rattle.theorems.specs.SimplifiedCones.{rowIn, rowIn-lt, simplified-total, simplified-least, simplified-span, simplified-value, simplified-truth}
 use Rattle.theorems.specs.ZeroSources.{any-selected}

@@ -1,6 +1,7 @@
--- Two arrays that agree up to an index: what is read there is the same.
+-- Two arrays that agree from one index up to another: what is read there is the same.
 use mathlib.Core.Path.{_≡_, refl, ap, ap₂, _∙_}
 use mathlib.Core.List.{List, [], _∷_, _++_}
+use mathlib.Core.Logic.{_⊎_, inl, inr, ⊎-elim}
 use Prim.Native.Nat.{ℕ, _+_, _*_, _-_, _<_, _≤_}
 use native.Mathlib.Numerals.{add-one}
 use native.Mathlib.Omega.{arith}
@@ -9,19 +10,27 @@ use lib.Seq.{getD-set-same, getD-set-other, paste, getD-take, getD-append-add, l
 use Rattle.laws.specs.Tabulate.{tabulate, tabulate-same, tabulate-snoc}
 use Rattle.rules.specs.Circuit as C
 use Rattle.text.specs.Name.{Named}
-use Rattle.circuit.specs.View.{wiresIn, answersIn, gateIn, gatesIn, nameAt, inputName, inputNames, outputIn, outputsIn, portWire, NamedAt}
+use Rattle.circuit.specs.View.{wiresIn, answersIn, gateIn, gatesIn, nameAt, inputName, inputIn, inputsIn, outputIn, outputsIn, portWire, NamedAt}
 
-pub record Below (m : ℕ) (l t : List ℕ) : Type 0 where
-  pub same : (j : ℕ) → j < m → getD t j 0 ≡ getD l j 0
+pub record Agree (m n : ℕ) (l t : List ℕ) : Type 0 where
+  pub same : (j : ℕ) → m ≤ j → j < n → getD t j 0 ≡ getD l j 0
 
-pub below-self : (m : ℕ) (l : List ℕ) → Below m l l
-below-self m l = record { same = λ j h. refl }
+abbrev pub Below : ℕ → List ℕ → List ℕ → Type 0
+Below n l t = Agree 0 n l t
 
-pub below-set : (m : ℕ) (l t : List ℕ) (i x : ℕ) → m ≤ i → Below m l t → Below m l (set t i x)
-below-set m l t i x h b = record { same = λ j k. getD-set-other t i j x 0 (λ (e : j ≡ i). omega arith) ∙ b .same j k }
+pub agree-self : (m n : ℕ) (l : List ℕ) → Agree m n l l
+agree-self m n l = record { same = λ j h k. refl }
+
+-- a store outside
+pub agree-set : (m n : ℕ) (l t : List ℕ) (i x : ℕ) → (i < m) ⊎ (n ≤ i) → Agree m n l t → Agree m n l (set t i x)
+agree-set m n l t i x h b =
+    record { same = λ j f k. getD-set-other t i j x 0 (λ (e : j ≡ i). ⊎-elim (λ (q : i < m). omega arith) (λ (q : n ≤ i). omega arith) h) ∙ b .same j f k }
 
 pub below-less : (m n : ℕ) {l t : List ℕ} → n ≤ m → Below m l t → Below n l t
-below-less m n h b = record { same = λ j k. b .same j (omega arith) }
+below-less m n h b = record { same = λ j f k. b .same j f (omega arith) }
+
+below-at : {n : ℕ} {l t : List ℕ} → Below n l t → (j : ℕ) → j < n → getD t j 0 ≡ getD l j 0
+below-at b j h = b .same j (omega arith) h
 
 -- what was there, and one more
 snoc : {A : Type 0} (n : ℕ) (f g : ℕ → A) (x : A) → ((i : ℕ) → i < n → g i ≡ f i) → g n ≡ x → tabulate (n + 1) g ≡ tabulate n f ++ (x ∷ [])
@@ -33,7 +42,7 @@ module _ (gs hs : List ℕ) (inputs : ℕ) where
   gate-same : (k i : ℕ) → Below (6 * k) gs hs → i < k → gateIn hs inputs i ≡ gateIn gs inputs i
   unfolding gateIn wiresIn answersIn
   gate-same k i b h =
-      rw (b .same (6 * i) (omega arith), b .same (6 * i + 1) (omega arith), b .same (6 * i + 2) (omega arith), b .same (6 * i + 3) (omega arith), b .same (6 * i + 4) (omega arith), b .same (6 * i + 5) (omega arith))
+      rw (below-at b (6 * i) (omega arith), below-at b (6 * i + 1) (omega arith), below-at b (6 * i + 2) (omega arith), below-at b (6 * i + 3) (omega arith), below-at b (6 * i + 4) (omega arith), below-at b (6 * i + 5) (omega arith))
 
   pub gates-same : (n : ℕ) → Below (6 * n) gs hs → gatesIn hs inputs n ≡ gatesIn gs inputs n
   unfolding gatesIn
@@ -43,25 +52,31 @@ module _ (gs hs : List ℕ) (inputs : ℕ) where
   unfolding gatesIn
   gates-more n g b e = snoc n _ _ g (λ i h. gate-same n i b h) e
 
--- ---- The names: two numbers each.
+-- ---- The inputs: two numbers for the name, and from 160 on the weight; the outputs: three numbers each.
 
 module _ (s ps qs : List ℕ) where
   pub name-same : (m j : ℕ) → Below m ps qs → j + 1 < m → nameAt s qs j ≡ nameAt s ps j
   unfolding nameAt
-  name-same m j b h = rw (b .same j (omega arith), b .same (j + 1) h)
+  name-same m j b h = rw (below-at b j (omega arith), below-at b (j + 1) h)
 
-  pub names-same : (n : ℕ) → Below (2 * n) ps qs → inputNames s qs n ≡ inputNames s ps n
-  unfolding inputNames inputName
-  names-same n b = tabulate-same n _ _ (λ i h. name-same (2 * n) (2 * i) b (omega arith))
+  module _ (n : ℕ) (names : Below (2 * n) ps qs) (weights : Agree 160 (160 + n) ps qs) where
+    input-same : (i : ℕ) → i < n → inputIn s qs i ≡ inputIn s ps i
+    unfolding inputIn inputName
+    input-same i h =
+        ap₂ {C = C.Given} (λ a w. record { name = a; weight = w }) (name-same (2 * n) (2 * i) names (omega arith)) (weights .same (160 + i) (omega arith) (omega arith))
 
-  pub names-more : (n : ℕ) (w : C.Name) → Below (2 * n) ps qs → nameAt s qs (2 * n) ≡ w → inputNames s qs (n + 1) ≡ inputNames s ps n ++ (w ∷ [])
-  unfolding inputNames inputName
-  names-more n w b e = snoc n _ _ w (λ i h. name-same (2 * n) (2 * i) b (omega arith)) e
+    pub inputs-same : inputsIn s qs n ≡ inputsIn s ps n
+    unfolding inputsIn
+    inputs-same = tabulate-same n _ _ input-same
+
+    pub inputs-more : (g : C.Given) → inputIn s qs n ≡ g → inputsIn s qs (n + 1) ≡ inputsIn s ps n ++ (g ∷ [])
+    unfolding inputsIn
+    inputs-more g e = snoc n _ _ g input-same e
 
   out-same : (n i : ℕ) → Below (64 + 3 * n) ps qs → i < n → outputIn s qs i ≡ outputIn s ps i
   unfolding outputIn
   out-same n i b h =
-      ap₂ (λ a w. record { name = a; wire = portWire w }) (name-same (64 + 3 * n) (64 + 3 * i) b (omega arith)) (b .same (64 + 3 * i + 2) (omega arith))
+      ap₂ (λ a w. record { name = a; wire = portWire w }) (name-same (64 + 3 * n) (64 + 3 * i) b (omega arith)) (below-at b (64 + 3 * i + 2) (omega arith))
 
   pub outs-more : (n : ℕ) (o : C.Output) → Below (64 + 3 * n) ps qs → outputIn s qs n ≡ o → outputsIn s qs (n + 1) ≡ outputsIn s ps n ++ (o ∷ [])
   unfolding outputsIn
@@ -76,6 +91,11 @@ module _ (ps : List ℕ) (j a b : ℕ) (h : j + 1 < length ps) where
   put-end : getD (set (set ps j a) (j + 1) b) (j + 1) 0 ≡ b
   put-end = getD-set-same (set ps j a) (j + 1) b 0 (simp length-set h)
 
+  pub put-agree : (m n : ℕ) → (j + 1 < m) ⊎ (n ≤ j) → Agree m n ps (set (set ps j a) (j + 1) b)
+  put-agree m n f =
+      agree-set m n ps (set ps j a) (j + 1) b (⊎-elim (λ (q : j + 1 < m). inl q) (λ (q : n ≤ j). inr (omega arith)) f)
+      (agree-set m n ps ps j a (⊎-elim (λ (q : j + 1 < m). inl (omega arith)) (λ (q : n ≤ j). inr q) f) (agree-self m n ps))
+
   pub put-name : (s : List ℕ) → nameAt s (set (set ps j a) (j + 1) b) j ≡ take (b - a) (drop a s)
   unfolding nameAt
   put-name s = rw (put-start, put-end)
@@ -84,7 +104,7 @@ module _ (ps : List ℕ) (j a b : ℕ) (h : j + 1 < length ps) where
   put-named k n = rw (put-start, put-end) n
 
 pub named-same : (k : ℕ) (ps qs : List ℕ) (m j : ℕ) → Below m ps qs → j + 1 < m → NamedAt k ps j → NamedAt k qs j
-named-same k ps qs m j b h n = rw (b .same j (omega arith), b .same (j + 1) h) n
+named-same k ps qs m j b h n = rw (below-at b j (omega arith), below-at b (j + 1) h) n
 
 -- ---- A copy into the middle.
 
@@ -92,7 +112,7 @@ module _ (d s : List ℕ) (at n : ℕ) (h : at ≤ length d) (k : n ≤ length s
   pub below-paste : Below at d (paste d at s n)
   below-paste =
       record {
-        same = λ j i.
+        same = λ j f i.
             let l : length (take at d) ≡ at = length-take-le at d h in
             let m : length (take at d ++ take n s) ≡ at + n = length-paste-head d at s n h k in
             List·getD-append (take at d ++ take n s) (drop (at + n) d) 0 j (omega arith)

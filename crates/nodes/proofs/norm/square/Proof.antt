@@ -1,8 +1,8 @@
 use native.Mathlib.Omega.{arith}
 use mir.Facts.{toZ-ofZ}
 use Rattle.laws.specs.Integer.{abs-mul-le, abs-mul, square-nonNeg, square-fits}
-use Rattle.network_bounds.proofs.bounds.square.Statement.{statement}
-use Rattle.network_bounds.proofs.bounds.square.Tie as tie
+use Rattle.nodes.proofs.norm.square.Statement.{statement}
+use Rattle.nodes.proofs.norm.square.Tie as tie
 
 mul-result : tie.Need-mul-result
 mul-result c = simp (toZ-ofZ (c .fits .x)) (square-fits (c .args .x) (omega (arith, c .pre)))
