@@ -95,6 +95,7 @@ typedef struct fbs_admission {
     size_t longest; /* bits of the longest table */
     size_t norm;    /* the largest squared norm of a node, by the weights of the inputs; an input counts its weight */
     size_t outputs;
+    size_t depth;   /* the largest of a node: how many boots lie one behind another; nodes that no output needs count too */
 } fbs_admission;
 
 /* Found: number 0, line 0, how many terms the `lin` has, and a bit for each in their order. Else: number, line and count 0. Each place

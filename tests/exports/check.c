@@ -137,31 +137,34 @@ static void check_answer_buffer(void) {
 #define NET "(net 4 8 none)\n(in a)\n"
 #define SUM "(in b)\n(lin 0 (1 0) (1 1))\n"
 
-/* 3 inputs, 1 sum of values 0..3, 6 boots on 2 nodes, tables of up to 4 bits, norm 1 + 4, 7 outputs: no two alike */
+/* 3 inputs, 1 sum of values 0..3, 10 boots on 6 nodes, tables of up to 4 bits, norm 1 + 4, 7 outputs, depth 2: no two alike */
 static const char *various =
     "(net 4 8 none)\n(in a)\n(in b)\n(in c)\n(lin 0 (1 0) (2 1))\n(boot 3 0001)\n(boot 3 0110)\n(boot 3 0111)\n(boot 3 1000)\n"
-    "(boot 2 01)\n(boot 2 10)\n(out t (n 4))\n(out u (n 5))\n(out v (n 6))\n(out w (n 7))\n(out x (n 8))\n(out y (n 9))\n(out z (k 1))\n";
+    "(boot 2 01)\n(boot 2 10)\n(boot 4 01)\n(boot 5 01)\n(boot 6 01)\n(boot 7 01)\n"
+    "(out t (n 4))\n(out u (n 5))\n(out v (n 6))\n(out w (n 7))\n(out x (n 8))\n(out y (n 9))\n(out z (k 1))\n";
 
 static const struct {
     const char *what, *text;
     fbs_admission reply;
 } judged[] = {
-    {"document 01's network", "(net 4 8 none)\n(in a)\n(in b)\n(lin 0 (1 0) (1 1))\n(boot 2 001)\n(out y (n 3))\n", {0, 0, 2, 1, 1, 1, 3, 2, 1}},
-    {"the net line alone", "(net 4 8 none)\n", {0, 0, 0, 0, 0, 0, 0, 0, 0}},
-    {"an input counts 1 in the norm", "(net 4 8 none)\n(in a)\n(out y (n 0))\n", {0, 0, 1, 0, 0, 0, 0, 1, 1}},
-    {"and its weight where it has one", "(net 4 8 none)\n(in a 64)\n(out y (n 0))\n", {0, 0, 1, 0, 0, 0, 0, 64, 1}},
-    {"a sum's norm by weights, at its limit", "(net 4 8 3)\n(in a 2)\n(in b)\n(lin 0 (1 0) (1 1))\n", {0, 0, 2, 1, 0, 0, 0, 3, 0}},
-    {"21", NET "(lin 0 (0 0))\n", {21, 3, 0, 0, 0, 0, 0, 0, 0}},
-    {"21, the empty text", "", {21, 1, 0, 0, 0, 0, 0, 0, 0}},
-    {"21, a name repeated", NET "(in a)\n", {21, 3, 0, 0, 0, 0, 0, 0, 0}},
-    {"21, weight 1 is not written", NET "(in b 1)\n", {21, 3, 0, 0, 0, 0, 0, 0, 0}},
-    {"22", NET "(boot 9 01)\n", {22, 3, 0, 0, 0, 0, 0, 0, 0}},
-    {"22, a sum on a sum", NET "(lin 0 (1 0))\n(lin 0 (1 1))\n", {22, 4, 0, 0, 0, 0, 0, 0, 0}},
-    {"23", NET "(boot 0 001)\n", {23, 3, 0, 0, 0, 0, 0, 0, 0}},
-    {"24", "(net 2 4 none)\n(in a)\n(in b)\n(lin 0 (1 0) (2 1))\n(boot 2 0001)\n", {24, 5, 0, 0, 0, 0, 0, 0, 0}},
-    {"25", "(net 4 8 1)\n(in a)\n(in b)\n(lin 0 (1 0) (1 1))\n", {25, 4, 0, 0, 0, 0, 0, 0, 0}},
-    {"25, by weights", "(net 4 8 2)\n(in a 2)\n(in b)\n(lin 0 (1 0) (1 1))\n", {25, 4, 0, 0, 0, 0, 0, 0, 0}},
-    {"26", NET SUM "(out y (n 2))\n", {26, 5, 0, 0, 0, 0, 0, 0, 0}},
+    {"document 01's network", "(net 4 8 none)\n(in a)\n(in b)\n(lin 0 (1 0) (1 1))\n(boot 2 001)\n(out y (n 3))\n", {0, 0, 2, 1, 1, 1, 3, 2, 1, 1}},
+    {"the net line alone", "(net 4 8 none)\n", {0, 0, 0, 0, 0, 0, 0, 0, 0, 0}},
+    {"an input counts 1 in the norm", "(net 4 8 none)\n(in a)\n(out y (n 0))\n", {0, 0, 1, 0, 0, 0, 0, 1, 1, 0}},
+    {"and its weight where it has one", "(net 4 8 none)\n(in a 64)\n(out y (n 0))\n", {0, 0, 1, 0, 0, 0, 0, 64, 1, 0}},
+    {"a sum's norm by weights, at its limit", "(net 4 8 3)\n(in a 2)\n(in b)\n(lin 0 (1 0) (1 1))\n", {0, 0, 2, 1, 0, 0, 0, 3, 0, 0}},
+    {"21", NET "(lin 0 (0 0))\n", {21, 3, 0, 0, 0, 0, 0, 0, 0, 0}},
+    {"21, the empty text", "", {21, 1, 0, 0, 0, 0, 0, 0, 0, 0}},
+    {"21, a name repeated", NET "(in a)\n", {21, 3, 0, 0, 0, 0, 0, 0, 0, 0}},
+    {"21, weight 1 is not written", NET "(in b 1)\n", {21, 3, 0, 0, 0, 0, 0, 0, 0, 0}},
+    {"22", NET "(boot 9 01)\n", {22, 3, 0, 0, 0, 0, 0, 0, 0, 0}},
+    {"22, a sum on a sum", NET "(lin 0 (1 0))\n(lin 0 (1 1))\n", {22, 4, 0, 0, 0, 0, 0, 0, 0, 0}},
+    {"23", NET "(boot 0 001)\n", {23, 3, 0, 0, 0, 0, 0, 0, 0, 0}},
+    {"24", "(net 2 4 none)\n(in a)\n(in b)\n(lin 0 (1 0) (2 1))\n(boot 2 0001)\n", {24, 5, 0, 0, 0, 0, 0, 0, 0, 0}},
+    {"25", "(net 4 8 1)\n(in a)\n(in b)\n(lin 0 (1 0) (1 1))\n", {25, 4, 0, 0, 0, 0, 0, 0, 0, 0}},
+    {"25, by weights", "(net 4 8 2)\n(in a 2)\n(in b)\n(lin 0 (1 0) (1 1))\n", {25, 4, 0, 0, 0, 0, 0, 0, 0, 0}},
+    {"26", NET SUM "(out y (n 2))\n", {26, 5, 0, 0, 0, 0, 0, 0, 0, 0}},
+    {"a boot on a boot, which no output needs", NET "(boot 0 10)\n(boot 1 10)\n(out y (n 1))\n", {0, 0, 1, 0, 2, 2, 2, 1, 1, 2}},
+    {"a sum is as deep as its deepest source", NET "(in b)\n(boot 0 10)\n(boot 2 10)\n(lin 0 (1 1) (1 3) (1 2))\n(boot 4 0111)\n", {0, 0, 2, 1, 3, 3, 4, 3, 0, 3}},
 };
 
 static void check_admission(void) {
@@ -173,13 +176,14 @@ static void check_admission(void) {
     expect("admitted", r.number == 0 && r.line == 0);
     expect("3 inputs", r.inputs == 3);
     expect("1 sum", r.sums == 1);
-    expect("6 boots", r.boots == 6);
-    expect("2 different sources", r.sources == 2);
+    expect("10 boots", r.boots == 10);
+    expect("6 different sources", r.sources == 6);
     expect("the longest table has 4 bits", r.longest == 4);
     expect("the largest norm is 5", r.norm == 5);
     expect("7 outputs", r.outputs == 7);
+    expect("2 boots one behind the other", r.depth == 2);
     r = fbs_admit(NULL, 0);
-    expect("no text is the empty text", r.number == 21 && r.line == 1 && r.inputs == 0 && r.outputs == 0);
+    expect("no text is the empty text", r.number == 21 && r.line == 1 && r.inputs == 0 && r.outputs == 0 && r.depth == 0);
 }
 
 /* ---- The builder. */
@@ -304,7 +308,8 @@ static void check_network_run(void) {
     is("100, no bits; before 101", fbs_run_network(bytes(various), strlen(various), NULL, 0, NULL, 0), 100, 0, 0);
     is("101, no places", fbs_run_network(bytes(various), strlen(various), bits, 3, NULL, 0), 101, 0, 0);
     is("21, no text; before 100", fbs_run_network(NULL, 0, bits, 4, values, WANTED), 21, 1, 0);
-    is("22", fbs_run_network(bytes(judged[6].text), strlen(judged[6].text), bits, 1, values, WANTED), 22, 3, 0);
+    const char *later = NET "(boot 9 01)\n";
+    is("22", fbs_run_network(bytes(later), strlen(later), bits, 1, values, WANTED), 22, 3, 0);
     const char *narrow = NET SUM "(boot 2 01)\n(out y (n 3))\n";
     is("102, value 2 in a table of 2", fbs_run_network(bytes(narrow), strlen(narrow), bits, 2, values, 1), 102, 0, 0);
     expect("no run keeps the values", numbers_kept(values, 0, WANTED + 2));

@@ -22,6 +22,7 @@ mod wonkpecan {
         pub longest: usize,
         pub norm: usize,
         pub outputs: usize,
+        pub depth: usize,
     }
 
     #[repr(C)]
@@ -129,7 +130,7 @@ fn refused(number: usize, line: usize) -> Reply {
 }
 
 fn rejected(number: usize, line: usize) -> Admission {
-    Admission { number, line, inputs: 0, sums: 0, boots: 0, sources: 0, longest: 0, norm: 0, outputs: 0 }
+    Admission { number, line, inputs: 0, sums: 0, boots: 0, sources: 0, longest: 0, norm: 0, outputs: 0, depth: 0 }
 }
 
 const AND: &[u8] = b"(fbs 4 8 10 none span one)\n(in a)\n(in b)\n(gate g 0001 (n 0) (n 1))\n(out y (n 2))\n";
@@ -187,7 +188,7 @@ fn check_map() {
 }
 
 fn check_admit() {
-    let stats = Admission { number: 0, line: 0, inputs: 2, sums: 1, boots: 1, sources: 1, longest: 3, norm: 2, outputs: 1 };
+    let stats = Admission { number: 0, line: 0, inputs: 2, sums: 1, boots: 1, sources: 1, longest: 3, norm: 2, outputs: 1, depth: 1 };
     same("document 01's network", admit(NETWORK), stats);
     same("21, the empty text", admit(&[]), rejected(21, 1));
     same("21", admit(b"(net 4 8 none)\n(in a)\n(lin 0 (0 0))\n"), rejected(21, 3));

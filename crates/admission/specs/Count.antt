@@ -13,12 +13,14 @@ use lib.Seq.{getD-set-same, getD-set-other, ext-getD}
 use Rattle.laws.specs.Tabulate.{tabulate, tabulate-length, tabulate-at, tabulate-snoc}
 use Rattle.laws.specs.Test.{if_then_else_, if-both, eq-or-ne}
 use Rattle.rules.specs.declared.Stats.{Stats}
-use Rattle.rules.specs.Network.{LutNode, Input, Linear, Bootstrap, isInput, isLinear, isBootstrap, tableLength, nodeNorm, count, largest, bootSources, member, different}
+use Rattle.rules.specs.Network.{LutNode, Input, Linear, Bootstrap, isInput, isLinear, isBootstrap, tableLength, nodeNorm, count, largest, bootSources, member, different, nodeDepth, depthsFrom, depths, depth, largestDepth}
 use Rattle.rules.specs.Store.{needs}
 use Rattle.theorems.specs.Counts.{count-snoc, count-most}
+use Rattle.theorems.specs.Depths.{largest-more, largest-depth-more}
+use Rattle.nodes.specs.Depth.{recorded-next}
 use Rattle.nodes.specs.Nodes.{kindOf, bytesIn, source-before}
 use Rattle.nodes.specs.Norm.{norm-among}
-use Rattle.nodes.specs.View.{nodeOf, storeOf, store-length, IsStore}
+use Rattle.nodes.specs.View.{nodeOf, storeOf, depthIn, store-length, IsStore}
 
 -- The statistics of these nodes among all of them, with n outputs.
 unfoldable pub statsAmong : List LutNode → List LutNode → ℕ → Stats
@@ -31,13 +33,14 @@ statsAmong all ns n =
       longest = largest tableLength ns;
       norm = largest (nodeNorm all) ns;
       outputs = n;
+      depth = largestDepth ns;
     }
 
 unfoldable pub statsOf : List LutNode → ℕ → Stats
 statsOf ns n = statsAmong ns ns n
 
 unfoldable pub noStats : ℕ → Stats
-noStats n = record { inputs = 0; sums = 0; boots = 0; sources = 0; longest = 0; norm = 0; outputs = n }
+noStats n = record { inputs = 0; sums = 0; boots = 0; sources = 0; longest = 0; norm = 0; outputs = n; depth = 0 }
 
 -- Counts that one more still fits.
 pub record Room (s : Stats) : Type 0 where
@@ -48,11 +51,11 @@ pub record Room (s : Stats) : Type 0 where
 
 abbrev pub withInput : Stats → ℕ → Stats
 withInput s n =
-    record { inputs = s .inputs + 1; sums = s .sums; boots = s .boots; sources = s .sources; longest = s .longest; norm = max (s .norm) n; outputs = s .outputs }
+    record { inputs = s .inputs + 1; sums = s .sums; boots = s .boots; sources = s .sources; longest = s .longest; norm = max (s .norm) n; outputs = s .outputs; depth = s .depth }
 
 abbrev pub withSum : Stats → ℕ → Stats
 withSum s n =
-    record { inputs = s .inputs; sums = s .sums + 1; boots = s .boots; sources = s .sources; longest = s .longest; norm = max (s .norm) n; outputs = s .outputs }
+    record { inputs = s .inputs; sums = s .sums + 1; boots = s .boots; sources = s .sources; longest = s .longest; norm = max (s .norm) n; outputs = s .outputs; depth = s .depth }
 
 -- A source that was taken before is not counted again.
 abbrev pub withBoot : Stats → ℕ → Bool → ℕ → Stats
@@ -65,9 +68,23 @@ withBoot s n taken len =
       longest = max (s .longest) len;
       norm = max (s .norm) n;
       outputs = s .outputs;
+      depth = s .depth;
     }
 
--- One node more, with its norm.
+abbrev pub withDepth : Stats → ℕ → Stats
+withDepth s d =
+    record {
+      inputs = s .inputs;
+      sums = s .sums;
+      boots = s .boots;
+      sources = s .sources;
+      longest = s .longest;
+      norm = s .norm;
+      outputs = s .outputs;
+      depth = max (s .depth) d;
+    }
+
+-- One node more, with its norm; its depth comes after it.
 unfoldable pub nodeStats : Stats → ℕ → List Bool → LutNode → Stats
 nodeStats s norm taken (Input g) = withInput s norm
 nodeStats s norm taken (Linear c ts) = withSum s norm
@@ -79,11 +96,6 @@ takenWith taken (Linear c ts) = taken
 takenWith taken (Bootstrap i table) = set taken i true
 
 -- ---- laws: one node more
-
-largest-more : (f : LutNode → ℕ) (ns : List LutNode) (n : LutNode) → largest f (ns ++ (n ∷ [])) ≡ max (largest f ns) (f n)
-unfolding largest
-largest-more f [] n = omega arith
-largest-more f (m ∷ ns) n = let h = largest-more f ns n in omega arith
 
 sources-append : (ns ms : List LutNode) → bootSources (ns ++ ms) ≡ bootSources ns ++ bootSources ms
 unfolding bootSources
@@ -142,34 +154,35 @@ taken-more is i h = ext-getD false (set (takenOf is) i true) (takenOf (is ++ (i 
         (λ (n : j ≡ i → ⊥). rw (getD-set-other (takenOf is) i j true false n, taken-at is j l, taken-at (is ++ (i ∷ [])) j l, member-more j i is, ne-eqb j i n) (sym (or-false (member j is))))
         (eq-or-ne j i)
 
-records : {a b : ℕ} {c d : ℕ} {e f : ℕ} {g h : ℕ} {i j : ℕ} {k l : ℕ} {n : ℕ} → a ≡ b → c ≡ d → e ≡ f → g ≡ h → i ≡ j → k ≡ l
-    → _≡_ {A = Stats} (record { inputs = a; sums = c; boots = e; sources = g; longest = i; norm = k; outputs = n })
-    (record { inputs = b; sums = d; boots = f; sources = h; longest = j; norm = l; outputs = n })
-records p q r s t u = rw (p, q, r, s, t, u)
+records : {a b : ℕ} {c d : ℕ} {e f : ℕ} {g h : ℕ} {i j : ℕ} {k l : ℕ} {n : ℕ} {x y : ℕ} → a ≡ b → c ≡ d → e ≡ f → g ≡ h → i ≡ j → k ≡ l → x ≡ y
+    → _≡_ {A = Stats} (record { inputs = a; sums = c; boots = e; sources = g; longest = i; norm = k; outputs = n; depth = x })
+    (record { inputs = b; sums = d; boots = f; sources = h; longest = j; norm = l; outputs = n; depth = y })
+records p q r s t u v = rw (p, q, r, s, t, u, v)
 
 -- its sources are among the 672
 abbrev Takes : LutNode → Type 0
 Takes n = (k : ℕ) → k < length (needs n) → getD (needs n) k 0 < 672
 
 module _ (all ns : List LutNode) (k : ℕ) where
-  stats-more : (n : LutNode) → Takes n → nodeStats (statsAmong all ns k) (nodeNorm all n) (takenOf (bootSources ns)) n ≡ statsAmong all (ns ++ (n ∷ [])) k
+  stats-more : (n : LutNode) (d : ℕ) → Takes n → d ≡ nodeDepth (depth ns) n
+      → withDepth (nodeStats (statsAmong all ns k) (nodeNorm all n) (takenOf (bootSources ns)) n) d ≡ statsAmong all (ns ++ (n ∷ [])) k
   unfolding nodeStats statsAmong isInput isLinear isBootstrap tableLength bootSources needs
-  stats-more (Input g) f =
+  stats-more (Input g) d f q =
       let m = Input g in
       let e = sources-append ns (m ∷ []) ∙ append-nil (bootSources ns) in
       records (omega (arith, count-snoc isInput ns m)) (omega (arith, count-snoc isLinear ns m)) (omega (arith, count-snoc isBootstrap ns m)) (sym (ap different e))
-      (omega (arith, largest-more tableLength ns m)) (sym (largest-more (nodeNorm all) ns m))
-  stats-more (Linear c ts) f =
+      (omega (arith, largest-more tableLength ns m)) (sym (largest-more (nodeNorm all) ns m)) (ap (max (largestDepth ns)) q ∙ sym (largest-depth-more ns m))
+  stats-more (Linear c ts) d f q =
       let m = Linear c ts in
       let e = sources-append ns (m ∷ []) ∙ append-nil (bootSources ns) in
       records (omega (arith, count-snoc isInput ns m)) (omega (arith, count-snoc isLinear ns m)) (omega (arith, count-snoc isBootstrap ns m)) (sym (ap different e))
-      (omega (arith, largest-more tableLength ns m)) (sym (largest-more (nodeNorm all) ns m))
-  stats-more (Bootstrap i table) f =
+      (omega (arith, largest-more tableLength ns m)) (sym (largest-more (nodeNorm all) ns m)) (ap (max (largestDepth ns)) q ∙ sym (largest-depth-more ns m))
+  stats-more (Bootstrap i table) d f q =
       let m = Bootstrap i table in
       let e = sources-append ns (m ∷ []) in
       records (omega (arith, count-snoc isInput ns m)) (omega (arith, count-snoc isLinear ns m)) (omega (arith, count-snoc isBootstrap ns m))
       (rw (taken-at (bootSources ns) i (f 0 (omega arith)), e, different-more i (bootSources ns)) (by (member i (bootSources ns)) (different (bootSources ns))))
-      (omega (arith, largest-more tableLength ns m)) (sym (largest-more (nodeNorm all) ns m))
+      (omega (arith, largest-more tableLength ns m)) (sym (largest-more (nodeNorm all) ns m)) (ap (max (largestDepth ns)) q ∙ sym (largest-depth-more ns m))
     where
       by : (b : Bool) (d : ℕ) → (if b then d else (d + 1)) ≡ d + (if b then 0 else 1)
       by true d = omega arith
@@ -209,7 +222,7 @@ pub record Counting (bytes : List ℕ) (count outputs : ℕ) (marks : List Bool)
   pub taken : marks ≡ takenOf (bootSources (storeOf bytes i))
 
 pub counting-start : (bytes : List ℕ) (n outputs : ℕ) (s : Stats) → s ≡ noStats outputs → Counting bytes n outputs (replicate 672 false) s 0
-unfolding noStats statsAmong count different bootSources largest takenOf memberOf member storeOf tabulate
+unfolding noStats statsAmong count different bootSources largest depthsFrom depths largestDepth takenOf memberOf member storeOf tabulate
 counting-start bytes n outputs s e = record { stats = e; taken = refl }
 
 module _ {bytes : List ℕ} {count outputs : ℕ} {taken : List Bool} {s : Stats} {i : ℕ} (c : Counting bytes count outputs taken s i) where
@@ -223,16 +236,18 @@ module _ {bytes : List ℕ} {count outputs : ℕ} {taken : List Bool} {s : Stats
   unfolding storeOf
   store-more = ap (λ n. tabulate n (nodeOf bytes)) (add-one i) ∙ tabulate-snoc i (nodeOf bytes)
 
-  pub counting-next : {after : List Bool} {r : Stats} → IsStore bytes count → i < count → r ≡ nodeStats s (nodeNorm (storeOf bytes i) (nodeOf bytes i)) taken (nodeOf bytes i) → after ≡ takenWith taken (nodeOf bytes i)
-      → Counting bytes count outputs after r (i + 1)
-  counting-next {r = r} store h e g =
+  pub counting-next : {after : List Bool} {v r : Stats} {d : ℕ} → IsStore bytes count → i < count → v ≡ nodeStats s (nodeNorm (storeOf bytes i) (nodeOf bytes i)) taken (nodeOf bytes i)
+      → after ≡ takenWith taken (nodeOf bytes i) → d ≡ depthIn bytes i → r ≡ withDepth v d → Counting bytes count outputs after r (i + 1)
+  counting-next {v = v} {d = d} store h e g own x =
       let n = nodeOf bytes i in
       let all = storeOf bytes count in
       let f = store .fine i h in
       let w : Takes n = λ k l. omega (arith, source-before i n f k l, store .most) in
       let q : nodeStats s (nodeNorm (storeOf bytes i) n) taken n ≡ nodeStats s (nodeNorm all n) taken n = ap (λ k. nodeStats s k taken n) (norm-among bytes i count n f (omega arith)) in
       record {
-        stats = e ∙ q ∙ ap₂ (λ t l. nodeStats t (nodeNorm all n) l n) (c .stats) (c .taken) ∙ stats-more all (storeOf bytes i) outputs n w ∙ ap (λ ns. statsAmong all ns outputs) (sym store-more);
+        stats =
+            x ∙ ap {B = Stats} (λ t. withDepth t d) (e ∙ q ∙ ap₂ (λ t l. nodeStats t (nodeNorm all n) l n) (c .stats) (c .taken))
+            ∙ stats-more all (storeOf bytes i) outputs n d w (own ∙ recorded-next bytes count store i h) ∙ ap (λ ns. statsAmong all ns outputs) (sym store-more);
         taken = g ∙ ap (λ l. takenWith l n) (c .taken) ∙ taken-node (storeOf bytes i) n w ∙ ap (λ ns. takenOf (bootSources ns)) (sym store-more);
       }
 
@@ -265,14 +280,18 @@ module _ (s : Stats) (norm : ℕ) (taken : List Bool) where
 -- ---- laws: what the code stores is what the definition has
 
 module _ (s : Stats) where
+  pub depth-is : (d m : ℕ) → m ≡ max (s .depth) d
+      → record { inputs = s .inputs; sums = s .sums; boots = s .boots; sources = s .sources; longest = s .longest; norm = s .norm; outputs = s .outputs; depth = m } ≡ withDepth s d
+  depth-is d m e = rw e
+
   pub input-is : (n m : ℕ) → m ≡ max (s .norm) n
-      → record { inputs = s .inputs + 1; sums = s .sums; boots = s .boots; sources = s .sources; longest = s .longest; norm = m; outputs = s .outputs } ≡ withInput s n
+      → record { inputs = s .inputs + 1; sums = s .sums; boots = s .boots; sources = s .sources; longest = s .longest; norm = m; outputs = s .outputs; depth = s .depth } ≡ withInput s n
   input-is n m e = rw e
 
   pub sum-is : (n m : ℕ) → m ≡ max (s .norm) n
-      → record { inputs = s .inputs; sums = s .sums + 1; boots = s .boots; sources = s .sources; longest = s .longest; norm = m; outputs = s .outputs } ≡ withSum s n
+      → record { inputs = s .inputs; sums = s .sums + 1; boots = s .boots; sources = s .sources; longest = s .longest; norm = m; outputs = s .outputs; depth = s .depth } ≡ withSum s n
   sum-is n m f = rw f
 
   pub boot-is : (n : ℕ) (taken : Bool) (len d l m : ℕ) → d ≡ (if taken then s .sources else (s .sources + 1)) → l ≡ max (s .longest) len → m ≡ max (s .norm) n
-      → record { inputs = s .inputs; sums = s .sums; boots = s .boots + 1; sources = d; longest = l; norm = m; outputs = s .outputs } ≡ withBoot s n taken len
+      → record { inputs = s .inputs; sums = s .sums; boots = s .boots + 1; sources = d; longest = l; norm = m; outputs = s .outputs; depth = s .depth } ≡ withBoot s n taken len
   boot-is n taken len d l m e f g = rw (e, f, g)

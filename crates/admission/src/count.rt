@@ -1,13 +1,15 @@
 // The statistics, counted over the node store.
 ghost use mathlib.Core.Path.{_≡_};
-ghost use Prim.Native.Nat.{_+_, _≤_, max};
+ghost use Prim.Native.Nat.{_+_, _≤_};
 ghost use lib.ListN.{length};
 ghost use Rattle.laws.specs.Test.{if_then_else_};
 ghost use Rattle.rules.specs.Network.{nodeNorm};
 ghost use Rattle.nodes.specs.View.{nodeOf, storeOf, IsStore};
-ghost use Rattle.admission.specs.Count.{statsOf, noStats, withInput, withSum, withBoot, nodeStats, takenWith, Room};
+ghost use Rattle.admission.specs.Count.{statsOf, noStats, withInput, withSum, withBoot, withDepth, nodeStats, takenWith, Room};
+use nodes::depth::larger;
 use nodes::node::INPUT;
 use nodes::node::LINEAR;
+use nodes::node::depth_of;
 use nodes::node::kind_of;
 use nodes::node::source_of;
 use nodes::node::table_of;
@@ -25,13 +27,8 @@ fn no_stats(outputs: usize) -> Stats
         longest: 0,
         norm: 0,
         outputs,
+        depth: 0,
     }
-}
-
-fn larger(a: usize, b: usize) -> usize
-    ensures { λ r. ⌜ r ≡ max a b ⌝ }
-{
-    if a < b { b } else { a }
 }
 
 fn count_input(s: Stats, norm: usize) -> Stats
@@ -75,7 +72,7 @@ fn count_boot(s: Stats, norm: usize, taken: bool, len: usize) -> Stats
 }
 
 // Node i counted; `taken` says which nodes a boot before it takes.
-fn count_node(s: Stats, nodes: &[u8; 25536], i: usize, taken: &mut [bool; 672]) -> Stats
+fn count_node(s: Stats, nodes: &[u8; 26880], i: usize, taken: &mut [bool; 672]) -> Stats
     requires { ⌜ IsStore (now nodes) (i + 1) × Room s × (length (now taken) ≡ 672) ⌝ }
     ensures stats { λ r. ⌜ r ≡ nodeStats s (nodeNorm (storeOf (now (nodes .entry)) i) (nodeOf (now (nodes .entry)) i)) (now (taken .entry)) (nodeOf (now (nodes .entry)) i) ⌝ }
     ensures taken { λ _. ⌜ now (taken .exit) ≡ takenWith (now (taken .entry)) (nodeOf (now (nodes .entry)) i) ⌝ }
@@ -95,8 +92,16 @@ fn count_node(s: Stats, nodes: &[u8; 25536], i: usize, taken: &mut [bool; 672]) 
     r
 }
 
+fn count_depth(s: Stats, depth: usize) -> Stats
+    ensures { λ r. ⌜ r ≡ withDepth s depth ⌝ }
+{
+    let mut r = s;
+    r.depth = larger(s.depth, depth);
+    r
+}
+
 // The statistics of a network with these nodes and so many outputs.
-pub fn stats_of(nodes: &[u8; 25536], count: usize, outputs: usize) -> Stats
+pub fn stats_of(nodes: &[u8; 26880], count: usize, outputs: usize) -> Stats
     requires { ⌜ IsStore (now nodes) count ⌝ }
     ensures { λ r. ⌜ r ≡ statsOf (storeOf (now (nodes .entry)) count) outputs ⌝ }
 {
@@ -104,7 +109,8 @@ pub fn stats_of(nodes: &[u8; 25536], count: usize, outputs: usize) -> Stats
     let mut s = no_stats(outputs);
     let mut i = 0;
     while i < count {
-        s = count_node(s, nodes, i, &mut taken);
+        let counted = count_node(s, nodes, i, &mut taken);
+        s = count_depth(counted, depth_of(nodes, i));
         i += 1;
     }
     s

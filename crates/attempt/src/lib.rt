@@ -95,7 +95,7 @@ fn find_among(
     second: usize,
     basis: Basis,
     m: Moments,
-    nodes: &[u8; 25536],
+    nodes: &[u8; 26880],
     count: usize,
     n: usize,
     xs: &[i32],
@@ -126,7 +126,7 @@ fn best_pair(
     left: Cone,
     right: Cone,
     basis: Basis,
-    nodes: &[u8; 25536],
+    nodes: &[u8; 26880],
     count: usize,
     rows: usize,
     xs: &mut [i32; 2048],
@@ -165,7 +165,7 @@ fn merged(basis: Basis, best: Score) -> Cone
 }
 
 // A cone that may stand, or the number of the refusal.
-fn validated(s: Settings, nodes: &[u8; 25536], cone: Cone) -> Tried
+fn validated(s: Settings, nodes: &[u8; 26880], cone: Cone) -> Tried
     requires { ⌜ IsCone cone × AreNodes (now nodes) (coneOf cone .support) ⌝ }
     ensures is { λ r. ⌜ ((count : ℕ) → Below count (coneOf cone) → triedOf r ≡ some (validateCone s (storeOf (now (nodes .entry)) count) (coneOf cone))) ⌝ }
     ensures same { λ r. ⌜ r .cone ≡ cone ⌝ }
@@ -179,7 +179,7 @@ fn validated(s: Settings, nodes: &[u8; 25536], cone: Cone) -> Tried
 }
 
 // The merged cone of the best pair, if there is one.
-fn judged(s: Settings, nodes: &[u8; 25536], left: Cone, basis: Basis, best: Score) -> Tried
+fn judged(s: Settings, nodes: &[u8; 26880], left: Cone, basis: Basis, best: Score) -> Tried
     requires { ⌜ (best .found ≡ true → Mergeable basis best) × AreNodes (now nodes) (simplifyCone (coneOf (mergedOf basis best)) .support) ⌝ }
     ensures is { λ r. ⌜ ((count : ℕ) → Below count (simplifyCone (coneOf (mergedOf basis best))) → triedOf r ≡ judgedBy s (storeOf (now (nodes .entry)) count) basis best) ⌝ }
     ensures cone { λ r. ⌜ (r .state ≡ 1 → Judges basis best (r .cone)) ⌝ }
@@ -197,7 +197,7 @@ fn judged(s: Settings, nodes: &[u8; 25536], left: Cone, basis: Basis, best: Scor
 // The constant, the merged cone, or no composition, where the sources are not too many.
 fn composed(
     s: Settings,
-    nodes: &[u8; 25536],
+    nodes: &[u8; 26880],
     count: usize,
     left: Cone,
     right: Cone,
@@ -237,7 +237,7 @@ fn composed(
 // One attempt: the constant, the merged cone, or no composition.
 pub fn attempt(
     s: Settings,
-    nodes: &[u8; 25536],
+    nodes: &[u8; 26880],
     count: usize,
     left: Cone,
     right: Cone,

@@ -39,7 +39,7 @@ fn sum_of(d: Cone) -> Terms
 }
 
 // The cone's sum and its bootstrap go into the store; without a table it has no valid encoding.
-fn materialize(s: Settings, nodes: &mut [u8; 25536], count: usize, d: Cone) -> Booted
+fn materialize(s: Settings, nodes: &mut [u8; 26880], count: usize, d: Cone) -> Booted
     requires { ⌜ IsStore (now nodes) count × ((count + 2 ≤ 672) × Stands count d) ⌝ }
     ensures is { λ r. ⌜ bootedOf (now (nodes .exit)) r ≡ bootstrapped s (storeOf (now (nodes .entry)) count) (coneOf d) (bootstrapTable (s .p) (coneOf d)) ⌝ }
     ensures stands { λ r. ⌜ Boots count (now (nodes .exit)) r ⌝ }
@@ -72,7 +72,7 @@ fn materialize(s: Settings, nodes: &mut [u8; 25536], count: usize, d: Cone) -> B
 }
 
 // bootstrap_cone: a cone of no source or one source stays as it was.
-pub fn bootstrap_cone(s: Settings, nodes: &mut [u8; 25536], count: usize, c: Cone) -> Booted
+pub fn bootstrap_cone(s: Settings, nodes: &mut [u8; 26880], count: usize, c: Cone) -> Booted
     requires { ⌜ (inLimits s ≡ true) × (IsStore (now nodes) count × ((count + 2 ≤ 672) × Stands count c)) ⌝ }
     ensures is { λ r. ⌜ bootedOf (now (nodes .exit)) r ≡ bootstrapCone s (storeOf (now (nodes .entry)) count) (coneOf c) ⌝ }
     ensures stands { λ r. ⌜ Boots count (now (nodes .exit)) r ⌝ }

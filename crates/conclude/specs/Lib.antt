@@ -2,3 +2,4 @@
 pub mod Live
 pub mod Norm
 pub mod Conclude
+pub mod Recorded

@@ -30,6 +30,7 @@ ghost use Rattle.writer.specs.Whole.{networkOf};
 ghost use Rattle.conclude.specs.Live.{Keeps};
 ghost use Rattle.conclude.specs.Norm.{largestNorm};
 ghost use Rattle.conclude.specs.Conclude.{concluded, Finishable};
+ghost use Rattle.conclude.specs.Recorded.{Recorded};
 
 // The network's text, or 11 where the buffer is too short for it. Its length comes first, of a text that goes into no byte.
 fn answer(
@@ -37,7 +38,7 @@ fn answer(
     s: &[u8],
     n: Network,
     ports: &[usize; 192],
-    nodes: &[u8; 25536],
+    nodes: &[u8; 26880],
     live: &[u16; 672],
 ) -> MapReply
     requires { ⌜ Sourced (now live) (now nodes) (n .count) × (Ported (now live) (now ports) (length (now s)) (n .outs) × Room 0 (networkText (networkOf n (now s) (now ports) (now nodes) (now live)))) ⌝ }
@@ -52,7 +53,7 @@ fn answer(
 }
 
 // Basic's last check is on the largest norm.
-fn is_over_norm(s: Settings, nodes: &[u8; 25536], live: &[u16; 672], count: usize) -> bool
+fn is_over_norm(s: Settings, nodes: &[u8; 26880], live: &[u16; 672], count: usize) -> bool
     requires { ⌜ IsStore (now nodes) count × (length (now live) ≡ 672) ⌝ }
     ensures { λ r. ⌜ ((kept : List ℕ) → Keeps kept count (now (live .entry)) → Closed kept (now (nodes .entry)) count → r ≡ (isBasic (s .policy) && not (withinNorm s (largestNorm (keptFrom kept 0 (storeOf (now (nodes .entry)) count)))))) ⌝ }
 {
@@ -65,18 +66,19 @@ fn is_over_norm(s: Settings, nodes: &[u8; 25536], live: &[u16; 672], count: usiz
     is_over(limit, norm)
 }
 
-// Asks that the outputs' wires are nodes or constants, and that the text is short.
+// Asks that the outputs' wires are nodes or constants, and that the text is short. The depth in each kept node's record is what the text recounts.
 pub fn conclude(
     out: &mut [u8],
     s: &[u8],
     settings: Settings,
     ports: &[usize; 192],
     outs: usize,
-    nodes: &[u8; 25536],
+    nodes: &[u8; 26880],
     count: usize,
 ) -> MapReply
     requires { ⌜ Finishable settings (now s) (now ports) outs (now nodes) count ⌝ }
-    ensures { λ r. ⌜ outcome (mapReply r) (now (out .exit)) ≡ answerWith (now (out .entry)) (concluded settings (now (s .entry)) (now (ports .entry)) outs (now (nodes .entry)) count) ⌝ }
+    ensures is { λ r. ⌜ outcome (mapReply r) (now (out .exit)) ≡ answerWith (now (out .entry)) (concluded settings (now (s .entry)) (now (ports .entry)) outs (now (nodes .entry)) count) ⌝ }
+    ensures recorded { λ _. ⌜ Recorded settings (now (s .entry)) (now (ports .entry)) outs (now (nodes .entry)) count ⌝ }
 {
     let mut live = [0u16; 672];
     keep(nodes, count, ports, outs, &mut live);

@@ -30,7 +30,7 @@ numbered o = ran (Numbered (runNumbers (o .answer))) (o .buffer)
 
 -- A refusal has no statistics: 0 in each of their places.
 unfoldable pub statistics : Option Stats → Stats
-statistics none = record { inputs = 0; sums = 0; boots = 0; sources = 0; longest = 0; norm = 0; outputs = 0 }
+statistics none = record { inputs = 0; sums = 0; boots = 0; sources = 0; longest = 0; norm = 0; outputs = 0; depth = 0 }
 statistics (some s) = s
 
 unfoldable pub admissionNumbers : Admission → FbsAdmission
@@ -46,6 +46,7 @@ admissionNumbers a =
       longest = s .longest;
       norm = s .norm;
       outputs = s .outputs;
+      depth = s .depth;
     }
 
 -- A wanted sum that no bits give: 103, a number of ours, line 0.

@@ -39,6 +39,8 @@ pub struct FbsAdmission {
     pub longest: usize,
     pub norm: usize,
     pub outputs: usize,
+    // the largest depth of a node
+    pub depth: usize,
 }
 
 // 0 and the count of bits, or the number and the line; the bits of the terms in their order, 0 in each place that is none of theirs.

@@ -104,6 +104,7 @@ pub fn admission_numbers(reply: AdmitReply) -> FbsAdmission
             longest: stats.longest,
             norm: stats.norm,
             outputs: stats.outputs,
+            depth: stats.depth,
         },
         AdmitReply::Refused(number, line) => FbsAdmission {
             number,
@@ -115,6 +116,7 @@ pub fn admission_numbers(reply: AdmitReply) -> FbsAdmission
             longest: 0,
             norm: 0,
             outputs: 0,
+            depth: 0,
         },
     }
 }

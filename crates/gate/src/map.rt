@@ -89,7 +89,7 @@ fn refused(number: usize, c: Cone) -> Mapped
 // map_unary_gate
 pub fn map_unary(
     s: Settings,
-    nodes: &[u8; 25536],
+    nodes: &[u8; 26880],
     count: usize,
     c: Cone,
     zero: u8,
@@ -142,7 +142,7 @@ fn concluded(count: usize, w: Sides, t: Tried) -> Mapped
 }
 
 // One of map_binary_gate's three attempts.
-fn attempt_sides(s: Settings, nodes: &[u8; 25536], count: usize, w: Sides) -> Tried
+fn attempt_sides(s: Settings, nodes: &[u8; 26880], count: usize, w: Sides) -> Tried
     requires { ⌜ (inLimits s ≡ true) × Ready (now nodes) count w ⌝ }
     ensures is { λ r. ⌜ triedOf r ≡ attempted s (sidesOf (storeOf (now (nodes .entry)) count) w) ⌝ }
     ensures stands { λ r. ⌜ (r .state ≡ 1 → Stands count (r .cone)) ⌝ }
@@ -156,7 +156,7 @@ fn attempt_sides(s: Settings, nodes: &[u8; 25536], count: usize, w: Sides) -> Tr
 }
 
 // The third attempt, after the right side is bootstrapped too.
-fn third_attempt(s: Settings, nodes: &mut [u8; 25536], count: usize, w: Sides) -> Mapped
+fn third_attempt(s: Settings, nodes: &mut [u8; 26880], count: usize, w: Sides) -> Mapped
     requires { ⌜ (inLimits s ≡ true) × Ready (now nodes) count w ⌝ }
     ensures is { λ r. ⌜ mappedOf (now (nodes .exit)) r ≡ thirdAttempt s (sidesOf (storeOf (now (nodes .entry)) count) w) ⌝ }
     ensures stands { λ r. ⌜ Maps count (roomOf w) (now (nodes .exit)) r ⌝ }
@@ -176,7 +176,7 @@ fn third_attempt(s: Settings, nodes: &mut [u8; 25536], count: usize, w: Sides) -
 }
 
 // The second attempt, after the left side is bootstrapped.
-fn second_attempt(s: Settings, nodes: &mut [u8; 25536], count: usize, w: Sides) -> Mapped
+fn second_attempt(s: Settings, nodes: &mut [u8; 26880], count: usize, w: Sides) -> Mapped
     requires { ⌜ (inLimits s ≡ true) × Ready (now nodes) count w ⌝ }
     ensures is { λ r. ⌜ mappedOf (now (nodes .exit)) r ≡ secondAttempt s (sidesOf (storeOf (now (nodes .entry)) count) w) ⌝ }
     ensures stands { λ r. ⌜ Maps count (roomOf w) (now (nodes .exit)) r ⌝ }
@@ -198,7 +198,7 @@ fn second_attempt(s: Settings, nodes: &mut [u8; 25536], count: usize, w: Sides) 
 // map_binary_gate
 pub fn map_binary(
     s: Settings,
-    nodes: &mut [u8; 25536],
+    nodes: &mut [u8; 26880],
     count: usize,
     left: Cone,
     right: Cone,
@@ -224,7 +224,7 @@ pub fn map_binary(
 // map_gate of two wires: a constant side makes it unary.
 pub fn map_two(
     s: Settings,
-    nodes: &mut [u8; 25536],
+    nodes: &mut [u8; 26880],
     count: usize,
     left: Cone,
     right: Cone,

@@ -29,7 +29,7 @@ ghost use Rattle.gate.specs.View.{limitedOf};
 ghost use Rattle.gate.specs.Gate.{room, Spends, Ready, Steps, Same};
 
 // Both sides of a gate, the larger one left.
-pub fn sides_of(nodes: &[u8; 25536], left: Cone, right: Cone, gate: [u8; 4]) -> Sides
+pub fn sides_of(nodes: &[u8; 26880], left: Cone, right: Cone, gate: [u8; 4]) -> Sides
     requires { ⌜ (IsCone left × AreNodes (now nodes) (coneOf left .support)) × (IsCone right × AreNodes (now nodes) (coneOf right .support)) ⌝ }
     ensures is { λ r. ⌜ ((count : ℕ) → Below count (coneOf left) → Below count (coneOf right) → sidesOf (storeOf (now (nodes .entry)) count) r ≡ largerFirst (sides (storeOf (now (nodes .entry)) count) (coneOf left) (coneOf right) gate)) ⌝ }
     ensures same { λ r. ⌜ Same left right gate r ⌝ }
@@ -79,7 +79,7 @@ fn over_limit(s: Settings, w: Sides) -> bool
 }
 
 // bootstrap_cone where a cone that stays as it was asks for no room in the store.
-fn bootstrap_in(s: Settings, nodes: &mut [u8; 25536], count: usize, c: Cone) -> Booted
+fn bootstrap_in(s: Settings, nodes: &mut [u8; 26880], count: usize, c: Cone) -> Booted
     requires { ⌜ (inLimits s ≡ true) × (IsStore (now nodes) count × ((count + room (coneOf c) ≤ 672) × Stands count c)) ⌝ }
     ensures is { λ r. ⌜ bootedOf (now (nodes .exit)) r ≡ bootstrapCone s (storeOf (now (nodes .entry)) count) (coneOf c) ⌝ }
     ensures spends { λ r. ⌜ Spends count c (now (nodes .exit)) r ⌝ }
@@ -95,7 +95,7 @@ fn bootstrap_in(s: Settings, nodes: &mut [u8; 25536], count: usize, c: Cone) -> 
 }
 
 // The left side bootstrapped.
-pub fn bootstrap_left(s: Settings, nodes: &mut [u8; 25536], count: usize, w: Sides) -> Limited
+pub fn bootstrap_left(s: Settings, nodes: &mut [u8; 26880], count: usize, w: Sides) -> Limited
     requires { ⌜ (inLimits s ≡ true) × Ready (now nodes) count w ⌝ }
     ensures is { λ r. ⌜ limitedOf (now (nodes .exit)) r ≡ bootstrapLeft s (sidesOf (storeOf (now (nodes .entry)) count) w) ⌝ }
     ensures steps { λ r. ⌜ Steps count w (now (nodes .exit)) r ⌝ }
@@ -120,7 +120,7 @@ pub fn bootstrap_left(s: Settings, nodes: &mut [u8; 25536], count: usize, w: Sid
 }
 
 // The right side bootstrapped.
-pub fn bootstrap_right(s: Settings, nodes: &mut [u8; 25536], count: usize, w: Sides) -> Limited
+pub fn bootstrap_right(s: Settings, nodes: &mut [u8; 26880], count: usize, w: Sides) -> Limited
     requires { ⌜ (inLimits s ≡ true) × Ready (now nodes) count w ⌝ }
     ensures is { λ r. ⌜ limitedOf (now (nodes .exit)) r ≡ bootstrapRight s (sidesOf (storeOf (now (nodes .entry)) count) w) ⌝ }
     ensures steps { λ r. ⌜ Steps count w (now (nodes .exit)) r ⌝ }
@@ -145,7 +145,7 @@ pub fn bootstrap_right(s: Settings, nodes: &mut [u8; 25536], count: usize, w: Si
 }
 
 // The left side bootstrapped if the sources are too many.
-fn limit_second(s: Settings, nodes: &mut [u8; 25536], count: usize, w: Sides) -> Limited
+fn limit_second(s: Settings, nodes: &mut [u8; 26880], count: usize, w: Sides) -> Limited
     requires { ⌜ (inLimits s ≡ true) × Ready (now nodes) count w ⌝ }
     ensures is { λ r. ⌜ limitedOf (now (nodes .exit)) r ≡ limitSecond s (sidesOf (storeOf (now (nodes .entry)) count) w) ⌝ }
     ensures steps { λ r. ⌜ Steps count w (now (nodes .exit)) r ⌝ }
@@ -161,7 +161,7 @@ fn limit_second(s: Settings, nodes: &mut [u8; 25536], count: usize, w: Sides) ->
 }
 
 // The inputs limit: the left side bootstrapped, and then the other one too if they are still too many.
-pub fn limit_sources(s: Settings, nodes: &mut [u8; 25536], count: usize, w: Sides) -> Limited
+pub fn limit_sources(s: Settings, nodes: &mut [u8; 26880], count: usize, w: Sides) -> Limited
     requires { ⌜ (inLimits s ≡ true) × Ready (now nodes) count w ⌝ }
     ensures is { λ r. ⌜ limitedOf (now (nodes .exit)) r ≡ limitSources s (sidesOf (storeOf (now (nodes .entry)) count) w) ⌝ }
     ensures steps { λ r. ⌜ Steps count w (now (nodes .exit)) r ⌝ }

@@ -19,7 +19,7 @@ use Rattle.circuit.specs.Fits.{NameFits}
 use Rattle.cone.specs.declared.Cone.{Cone}
 use Rattle.cone.specs.View.{coneOf, IsCone}
 use Rattle.cone_wires.specs.Wires.{coneIn, IsPut}
-use Rattle.nodes.specs.View.{given, storeOf, IsStore}
+use Rattle.nodes.specs.View.{given, storeOf, IsStore, no-nodes}
 use Rattle.cone.specs.Sources.{Stands, constant-stands, identity-stands}
 use Rattle.gates.specs.View.{conesIn}
 use Rattle.gates.specs.Wired.{SlotIn, Wired, stateOf, wired-more, wired-put, cones-own, ConstantsIn}
@@ -60,13 +60,13 @@ module _ (wires between after : List ℕ) (off on : Cone) (p : IsPut wires 128 o
 
 -- ---- laws: the inputs
 
-pub started-none : (s ps nodes wires : List ℕ) → length nodes ≡ 25536 → Constants wires → Started s ps 0 nodes wires
+pub started-none : (s ps nodes wires : List ℕ) → length nodes ≡ 26880 → Constants wires → Started s ps 0 nodes wires
 unfolding stateOf storeOf conesIn inputsIn tabulate
 started-none s ps nodes wires long c =
     record {
       wired =
           record {
-            store = record { long = long; most = omega arith; fine = λ i h. absurd (not-suc-le-zero h); kept = λ i h. absurd (not-suc-le-zero h) };
+            store = no-nodes nodes long;
             long = c .long;
             at = at;
             constants = c .seen;

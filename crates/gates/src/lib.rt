@@ -128,7 +128,7 @@ fn answers_of(gates: &[u8; 576], i: usize) -> [u8; 4]
 // map_gate: gate i, whose number among the nodes is id.
 fn map_gate(
     s: Settings,
-    nodes: &mut [u8; 25536],
+    nodes: &mut [u8; 26880],
     count: usize,
     wires: &[u8; 8580],
     gates: &[u8; 576],
@@ -151,7 +151,7 @@ fn map_gate(
 }
 
 // The gate's own cone, bootstrapped where the policy or an output asks for it.
-fn forced(s: Settings, nodes: &mut [u8; 25536], count: usize, c: Cone, force: bool) -> Booted
+fn forced(s: Settings, nodes: &mut [u8; 26880], count: usize, c: Cone, force: bool) -> Booted
     requires { ⌜ (inLimits s ≡ true) × (IsStore (now nodes) count × ((count + 2 ≤ 672) × Stands count c)) ⌝ }
     ensures is { λ r. ⌜ bootedOf (now (nodes .exit)) r ≡ forcedCone force s (storeOf (now (nodes .entry)) count) (coneOf c) ⌝ }
     ensures stands { λ r. ⌜ Boots count (now (nodes .exit)) r ⌝ }
@@ -230,7 +230,7 @@ fn refused(number: usize, line: usize, count: usize) -> Work
 // One gate: gate i is node id.
 fn map_one(
     s: Settings,
-    nodes: &mut [u8; 25536],
+    nodes: &mut [u8; 26880],
     count: usize,
     wires: &mut [u8; 8580],
     gates: &[u8; 576],
@@ -265,7 +265,7 @@ fn map_one(
 // The loop of map_once over the gates. Asks that the inputs are the first nodes, each in its slot.
 pub fn map_gates(
     s: Settings,
-    nodes: &mut [u8; 25536],
+    nodes: &mut [u8; 26880],
     wires: &mut [u8; 8580],
     gates: &[u8; 576],
     ports: &[usize; 192],

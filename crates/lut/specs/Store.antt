@@ -12,7 +12,7 @@ use lib.ListN.{length, drop, List·getD-eq-default}
 use Rattle.laws.specs.Test.{if_then_else_, lt-or-le}
 use Rattle.rules.specs.Builder.{Entries, completion}
 use Rattle.rules.specs.CircuitText.{sameName}
-use Rattle.rules.specs.Network.{LutNode, Linear, Bootstrap, nodeAt}
+use Rattle.rules.specs.Network.{LutNode, Linear, Bootstrap, nodeAt, nodeDepth}
 use Rattle.rules.specs.Store.{sameNode, numberOf, intern, linearTerms}
 use Rattle.theorems.specs.Interned.{number-here, number-on, number-end, number-new}
 use Rattle.theorems.specs.Completions.{completion-is}
@@ -20,14 +20,20 @@ use Rattle.lut.specs.declared.Linked.{Linked}
 use Rattle.lut.specs.declared.Signal.the-variants as Signals
 use Rattle.nodes.specs.declared.record.Terms.{Terms}
 use Rattle.lut.specs.Order.{Arranged}
+use Rattle.nodes.specs.Depth.{put-still, put-is-node, put-store, put-is-store}
 use Rattle.nodes.specs.Sums.{in-length, fine-linear, fine-more}
-use Rattle.nodes.specs.View.{GoodTerms, FineTerms, termsIn, Fine, IsStore, nodeIn, nodeOf, recordOf, recordAt, storeOf, putAt, record-length, node-back, same-record, at-store, store-length, put-store, put-is-store}
+use Rattle.nodes.specs.View.{GoodTerms, FineTerms, termsIn, Fine, IsStore, nodeIn, nodeOf, recordOf, recordAt, storeOf, putAt, depthIn, putDepth, IsNode, record-length, node-back, same-record, at-store, store-length}
 
 -- 38 bytes that are the record of a node that may stand at a place
 pub record IsRecord (i : ℕ) (r : List ℕ) : Type 0 where
   pub size : length r ≡ 38
   pub fine : Fine i (nodeIn r)
   pub kept : r ≡ recordOf (nodeIn r)
+
+-- One node more, with its depth.
+pub record Adds (n : LutNode) (bytes : List ℕ) (count : ℕ) (after : List ℕ) : Type 0 where
+  pub store : storeOf after (count + 1) ≡ storeOf bytes count ++ (n ∷ [])
+  pub still : IsStore after (count + 1)
 
 -- The node is among the nodes or was appended, and its number is told.
 pub record Interns (n : LutNode) (bytes : List ℕ) (count : ℕ) (after : List ℕ) (r : Linked) : Type 0 where
@@ -80,23 +86,30 @@ module _ (bytes : List ℕ) (count : ℕ) (r : List ℕ) (s : IsStore bytes coun
         let i = intern-old (nodeIn r) (storeOf bytes count) l in
         record { store = sym i; signal = ap Signals.Node (rw i e); still = s }
 
-    pub interns-new : count ≤ at → count < 672 → (after : List ℕ) → after ≡ putAt bytes count r
+    pub interns-new : count ≤ at → (after : List ℕ) → Adds (nodeIn r) bytes count after
         → Interns (nodeIn r) bytes count after (record { count = count + 1; signal = Signals.Node count })
-    interns-new h k after f =
+    interns-new h after a =
         let l : length (storeOf bytes count) ≤ numberOf (nodeIn r) (storeOf bytes count) = rw (store-length bytes count, ← e) h in
         let i = intern-new (nodeIn r) (storeOf bytes count) l in
         record {
-          store = rw (f, i) (put-store bytes count r s k (q .size));
+          store = rw i (a .store);
           signal = ap Signals.Node (rw i (sym (number-new (nodeIn r) (storeOf bytes count) l ∙ store-length bytes count)));
-          still = rw f (put-is-store bytes count r s k (q .size) (q .fine) (q .kept));
+          still = a .still;
         }
 
--- a node that is put at the end without a look
-pub put-new : (bytes : List ℕ) (count : ℕ) (n : LutNode) (r after : List ℕ) → IsStore bytes count → count < 672 → Fine count n → r ≡ recordOf n → after ≡ putAt bytes count r
-    → (storeOf after (count + 1) ≡ storeOf bytes count ++ (n ∷ [])) × IsStore after (count + 1)
-put-new bytes count n r after s h f e g =
-    let q = is-record count n r f e in
-    (rw g (put-store bytes count r s h (q .0 .size) ∙ ap {B = List LutNode} (λ m. storeOf bytes count ++ (m ∷ [])) (q .1)), rw g (put-is-store bytes count r s h (q .0 .size) (q .0 .fine) (q .0 .kept)))
+  -- its record put behind the others, then its depth
+  pub adds-node : count < 672 → (put after : List ℕ) → put ≡ putAt bytes count r → after ≡ putDepth put count (nodeDepth (depthIn put) (nodeOf put count))
+      → Adds (nodeIn r) bytes count after
+  adds-node h put after e f =
+      let g = subst (λ b. after ≡ putDepth b count (nodeDepth (depthIn b) (nodeOf b count))) e f in
+      record { store = put-store bytes count r s h (q .size) after g; still = put-is-store bytes count r s h (q .size) after g (q .fine) (q .kept) }
+
+  pub put-ready : count < 672 → (put : List ℕ) → put ≡ putAt bytes count r → IsStore put count × IsNode put count
+  put-ready h put e = rw e (put-still bytes count r s h (q .size), put-is-node bytes count r s h (q .size) (q .fine) (q .kept))
+
+-- a node that is added, by its record
+pub adds-record : (bytes : List ℕ) (count : ℕ) (n : LutNode) (r after : List ℕ) → Fine count n → r ≡ recordOf n → Adds (nodeIn r) bytes count after → Adds n bytes count after
+adds-record bytes count n r after f e a = subst (λ m. Adds m bytes count after) (is-record count n r f e .1) a
 
 -- ---- laws: a sum, a bootstrap
 

@@ -28,7 +28,7 @@ pub struct Linked {
 }
 
 // LutCircuit::linear
-pub fn linear(nodes: &mut [u8; 25536], count: usize, many: bool, t: Terms) -> Linked
+pub fn linear(nodes: &mut [u8; 26880], count: usize, many: bool, t: Terms) -> Linked
     requires { ⌜ IsStore (now nodes) count × (count < 672) × GoodTerms count t ⌝ }
     ensures { λ r. ⌜ Interns (Linear (t .constant) (linearTerms many (termsIn t))) (now (nodes .entry)) count (now (nodes .exit)) r ⌝ }
 {
@@ -38,7 +38,7 @@ pub fn linear(nodes: &mut [u8; 25536], count: usize, many: bool, t: Terms) -> Li
 }
 
 // A bootstrap with this table.
-fn put_bootstrap(nodes: &mut [u8; 25536], count: usize, source: usize, table: &[u8]) -> Linked
+fn put_bootstrap(nodes: &mut [u8; 26880], count: usize, source: usize, table: &[u8]) -> Linked
     requires { ⌜ IsStore (now nodes) count × (count < 672) × Fine count (Bootstrap source (now table)) ⌝ }
     ensures { λ r. ⌜ Interns (Bootstrap source (now (table .entry))) (now (nodes .entry)) count (now (nodes .exit)) r ⌝ }
 {
@@ -48,7 +48,7 @@ fn put_bootstrap(nodes: &mut [u8; 25536], count: usize, source: usize, table: &[
 
 // The bootstrap whose table completes the known entries; `table` is to work in.
 fn complete_bootstrap(
-    nodes: &mut [u8; 25536],
+    nodes: &mut [u8; 26880],
     count: usize,
     source: usize,
     known: &[u8],
@@ -70,7 +70,7 @@ fn complete_bootstrap(
 
 // LutCircuit::bootstrap of a table with unknown entries: refused where no completion is a rotation's.
 pub fn bootstrap(
-    nodes: &mut [u8; 25536],
+    nodes: &mut [u8; 26880],
     count: usize,
     source: usize,
     known: &[u8],

@@ -12,6 +12,7 @@ pub mod ConeUnary
 pub mod ConeRefusals
 pub mod SingleSources
 pub mod Store
+pub mod SharedDepths
 pub mod StoreValues
 pub mod StoreTerms
 pub mod StoreSum
@@ -30,6 +31,7 @@ pub mod PrunedNodes
 pub mod PrunedPasses
 pub mod PrunedRuns
 pub mod Pruned
+pub mod PrunedDepths
 pub mod TextLines
 pub mod TextReadBack
 pub mod TextLength

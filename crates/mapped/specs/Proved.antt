@@ -13,15 +13,23 @@ use Rattle.rules.specs.declared.Policy.the-variants.{Basic}
 use Rattle.rules.specs.declared.Settings.{Settings}
 use Rattle.rules.specs.Form.{Reading, Good, Refused}
 use Rattle.rules.specs.CircuitText.{readCircuit}
-use Rattle.rules.specs.Mapper.{isBasic, usedSettings, andThen, mapCircuit, answerWith, mapper}
-use Rattle.rules.specs.Network.{Network}
+use Rattle.rules.specs.Mapper.{isBasic, usedSettings, andThen, pruned, mapCircuit, answerWith, mapper}
+use Rattle.rules.specs.Network.{LutNode, Network, depth, stats}
+use Rattle.rules.specs.NetworkText.{admissionOf, admission}
 use Rattle.rules.specs.Outcome.{Answer, Outcome, outcome, written, refused}
 use Rattle.rules.specs.Service.{answerText, mapperAnswer}
+use Rattle.rules.specs.Store.{live, renumbered}
 use Rattle.rules.specs.Writing.{networkText}
+use Rattle.theorems.specs.AdmittedSafe.{admitted-read}
+use Rattle.theorems.specs.Depths.{depth-stays}
+use Rattle.theorems.specs.EarlierNodes.{Ordered, pass-ordered}
 use Rattle.theorems.specs.SoundCircuits.{read-sound}
 use Rattle.mapped.specs.Agrees.{Delivered, delivered, text-agrees}
-use Rattle.mapped.specs.Statements.{MapsTo, MappedAgrees, MapperAgrees, MappedFits, RefusedKeeps, LaterKept, EarlierBytes, ServiceAnswer, Whole, is-written, is-unreadable, is-refused, is-over, is-too-long, MapperWhole, CapUnmet, TwoSourcesRefused}
-use Rattle.mapped.specs.Whole.{used-span, comes, whole}
+use Rattle.mapped.specs.Statements.{MapsTo, MappedAgrees, MapperAgrees, MappedFits, DepthKept, MappedDepth, MapperDepth, RefusedKeeps, LaterKept, EarlierBytes, ServiceAnswer, Whole, is-written, is-unreadable, is-refused, is-over, is-too-long, MapperWhole, CapUnmet, TwoSourcesRefused}
+use Rattle.mapped.specs.Whole.{used-span, Comes, comes, whole}
+use Rattle.mapped.specs.PrunedDepths.{pruning-keeps-depth}
+use Rattle.mapped.specs.SharedDepths.{sharing-keeps-depth}
+use Rattle.mapped.specs.Store.{netFor}
 use Rattle.mapped.specs.Cap.{attempts, mapper-same}
 use Rattle.mapped.specs.TwoSources.{refuses}
 
@@ -50,13 +58,19 @@ mapped-delivered text w m =
     let c = comes text w m in
     subst (Delivered text (c .circuit)) (c .is) (delivered text (c .circuit) (c .done) (read-sound text (c .circuit) (c .read)) (c .finished))
 
-pub mapped-agrees : MapperAgrees
-mapped-agrees text buffer n e =
+-- what is written is the text of a network that the circuit is mapped to
+written-text : (text buffer : List ℕ) (n : ℕ) → mapper text buffer .answer ≡ written n → (w : Network) × MapsTo text w × (networkText w ≡ take n (mapper text buffer .buffer))
+written-text text buffer n e =
     let a = answered text buffer (ap (λ (x : Answer). x .number) e) in
     let w = a .0 in
     let long : length (networkText w) ≡ n = sym (ap count (a .3)) ∙ ap (λ (x : Answer). x .count) e in
-    let bytes : networkText w ≡ take n (mapper text buffer .buffer) = sym (ap (λ (o : Outcome). take n (o .buffer)) (a .3) ∙ take-over (networkText w) buffer n long) in
-    subst (MappedAgrees text) bytes (text-agrees text (comes text w (a .1) .circuit) w (comes text w (a .1) .read) (mapped-delivered text w (a .1)))
+    (w, a .1, sym (ap (λ (o : Outcome). take n (o .buffer)) (a .3) ∙ take-over (networkText w) buffer n long))
+
+pub mapped-agrees : MapperAgrees
+mapped-agrees text buffer n e =
+    let t = written-text text buffer n e in
+    let c = comes text (t .0) (t .1) in
+    subst (MappedAgrees text) (t .2) (text-agrees text (c .circuit) (t .0) (c .read) (mapped-delivered text (t .0) (t .1)))
 
 -- 11 is a network's text that is longer than the buffer
 eleven : (text buffer : List ℕ) → number (mapper text buffer) ≡ 11 → (w : Network) × MapsTo text w × (length buffer < length (networkText w))
@@ -76,6 +90,42 @@ mapped-fits text =
       short = λ w m. mapped-delivered text w m .short;
       never-11 = λ buffer l e. let z = eleven text buffer e in let k = z .2 in let s = mapped-delivered text (z .0) (z .1) .short in omega arith;
     }
+
+pub depth-kept : (nodes : List LutNode) → Ordered nodes → DepthKept nodes
+depth-kept nodes o = record { built = depth-stays nodes; shared = sharing-keeps-depth nodes o; pruned = λ outputs. pruning-keeps-depth nodes outputs o }
+
+network-depth : (text : List ℕ) (w : Network) → MapsTo text w → MappedDepth text (networkText w)
+unfolding admission admissionOf pruned stats
+network-depth text w m =
+    record {
+      circuit = c .circuit;
+      read = c .read;
+      state = c .state;
+      gates = c .gates;
+      done = c .done;
+      outputs = c .outputs;
+      ordered = ordered;
+      network = w;
+      readBack = admitted-read (networkText w) w (d .readBack);
+      recounted = λ i l h.
+          ap (λ (v : Network). depth (v .nodes) (renumbered (live (c .done .nodes) (c .done .outputs)) i)) (sym (c .is))
+          ∙ pruning-keeps-depth (c .done .nodes) (c .done .outputs) ordered i l h;
+      stats = stats w;
+      admits = ap admissionOf (d .readBack);
+      shown = refl;
+    }
+  where
+    c : Comes text w
+    c = comes text w m
+
+    d : Delivered text (c .circuit) w
+    d = mapped-delivered text w m
+
+    ordered : Ordered (c .done .nodes)
+    ordered = pass-ordered (netFor (usedSettings (c .circuit .settings))) (c .done .nodes) (c .finished .store .passes)
+
+pub mapped-depth : MapperDepth
+mapped-depth text buffer n e = let t = written-text text buffer n e in subst (MappedDepth text) (t .2) (network-depth text (t .0) (t .1))
 
 pub cap-unmet : (text : List ℕ) → CapUnmet text
 cap-unmet text = record { attempts = attempts text; idle = mapper-same text }

@@ -135,7 +135,7 @@ module _ (c : Circuit) (sound : Sound c) where
 
 -- ---- A circuit that is mapped.
 
-checked-same : (s : Settings) (v w : Network) → checked s v ≡ Good w → v ≡ w
+pub checked-same : (s : Settings) (v w : Network) → checked s v ≡ Good w → v ≡ w
 unfolding checked
 checked-same s v w = by (isBasic (s .policy) && not (withinNorm s (largest (nodeNorm (v .nodes)) (v .nodes))))
   where
@@ -147,7 +147,10 @@ checked-same s v w = by (isBasic (s .policy) && not (withinNorm s (largest (node
 pub record Comes (text : List ℕ) (w : Network) : Type 0 where
   pub circuit : Circuit
   pub read : readCircuit text ≡ Good circuit
+  pub state : State
+  pub gates : mapGates (usedSettings (circuit .settings)) (circuit .outputs) (start circuit) (circuit .gates) ≡ Good state
   pub done : Outputs
+  pub outputs : mapOutputs (usedSettings (circuit .settings)) (state .cones) (record { nodes = state .nodes; outputs = [] }) (circuit .outputs) ≡ ok done
   pub is : pruned (usedSettings (circuit .settings)) done ≡ w
   pub finished : Finished (usedSettings (circuit .settings)) circuit done
 
@@ -164,7 +167,10 @@ comes text w e =
     record {
       circuit = c;
       read = r .1;
+      state = st;
+      gates = p .1;
       done = q .0;
+      outputs = q .1;
       is = checked-same s (pruned s (q .0)) w (q .2);
       finished = done-known c sound st (q .0) (p .1) (q .1);
     }

@@ -17,7 +17,7 @@ ghost use Rattle.mapper.specs.Once.{mapOnce, doneRead};
 // Asks that the inputs are the first nodes, each in its slot.
 pub fn map_once(
     s: Settings,
-    nodes: &mut [u8; 25536],
+    nodes: &mut [u8; 26880],
     wires: &mut [u8; 8580],
     gates: &[u8; 576],
     ports: &mut [usize; 192],

@@ -21,6 +21,7 @@ use Rattle.rules.specs.NetworkText.{Net, NetworkLine, NetLine, NodeLine, OutLin
 use Rattle.text.specs.Name.{Named}
 use Rattle.theorems.specs.LineBits.{WireBit, LineBits, line-bits}
 use Rattle.lut.specs.Ports.{portOutput}
+use Rattle.lut.specs.Store.{Adds}
 use Rattle.nodes.specs.View.{storeOf, store-length}
 use Rattle.network_text.specs.Lines.{lineIn, lineOf, goodLine, Within, LineRead}
 use Rattle.network_text.specs.Terms.{termsOf}
@@ -29,7 +30,7 @@ use Rattle.network_text.specs.declared.line.Line.the-variants.{Bad, Net as NetR
 use Rattle.network_text.specs.declared.line.Read.{Read}
 use Rattle.network_text.specs.declared.sum.Lin.{Lin}
 use Rattle.network.specs.Numbers.{Says}
-use Rattle.network.specs.Put.{Adds, signalOf, withPort, withNet, withNode, withInput, withOutput, Follows}
+use Rattle.network.specs.Put.{signalOf, withPort, withNet, withNode, withInput, withOutput, Follows}
 use Rattle.network_bounds.specs.Table.{table-length}
 use Rattle.network.specs.Verdict.{refusal, good-same, net-limits, inputs-only, sum-sound, out-known}
 use Rattle.network.specs.View.{outputsOf, netOf, prefixOf, Sound, Holds}

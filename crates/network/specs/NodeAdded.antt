@@ -13,7 +13,8 @@ use Rattle.rules.specs.Network.{LutNode, isInput, nodeAt}
 use Rattle.theorems.specs.Counts.{count-snoc, count-most}
 use Rattle.theorems.specs.NodesAt.{node-before, node-next}
 use Rattle.nodes.specs.View.{nodeOf, storeOf, at-store, store-length}
-use Rattle.network.specs.Put.{Adds, withNode, withInput}
+use Rattle.lut.specs.Store.{Adds}
+use Rattle.network.specs.Put.{withNode, withInput}
 use Rattle.network.specs.View.{Sound, IsSignal, Holds}
 use Rattle.network_judge.specs.declared.Header.{Header}
 

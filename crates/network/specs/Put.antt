@@ -1,6 +1,6 @@
 -- What putting a line changes: the header, the store, the ports.
 use mathlib.Core.Path.{_≡_, refl, sym, ap, subst, _∙_}
-use mathlib.Core.List.{List, [], _∷_, _++_, zipWith}
+use mathlib.Core.List.{List, _∷_, zipWith}
 use Prim.Native.Nat.{ℕ, zero, suc, _+_, _*_, _-_, _<_, _≤_, _^_}
 use native.Mathlib.Numerals.{add-one}
 use native.Mathlib.Omega.{arith}
@@ -11,13 +11,13 @@ use Rattle.rules.specs.declared.Limit.{Limit}
 use Rattle.rules.specs.declared.Wire.{Wire}
 use Rattle.rules.specs.declared.Wire.the-variants.{Const, Node}
 use Rattle.rules.specs.Form.{bitsFrom}
-use Rattle.rules.specs.Network.{Term, LutNode, Input, Linear, Bootstrap}
+use Rattle.rules.specs.Network.{Term, Input, Linear, Bootstrap}
 use Rattle.nodes.specs.declared.record.Terms.{Terms}
 use Rattle.text.specs.Name.{Named}
 use Rattle.theorems.specs.Bits.{bit-at}
-use Rattle.lut.specs.Store.{put-new}
+use Rattle.lut.specs.Store.{IsRecord, Adds, is-record, adds-record}
 use Rattle.nodes.specs.Sums.{in-length, fine-more}
-use Rattle.nodes.specs.View.{given, recordOf, storeOf, putAt, term, termsOver, termsIn, FineTerms, Fine, GoodTerms, IsStore}
+use Rattle.nodes.specs.View.{given, recordOf, nodeIn, term, termsOver, termsIn, FineTerms, Fine, GoodTerms, IsStore}
 use Rattle.theorems.specs.Weights.{GoodWeight}
 use Rattle.network_text.specs.Lines.{TablePlace, Within, givenAt}
 use Rattle.network_text.specs.Terms.{termsFrom, termsAt, termsOf, Small}
@@ -26,11 +26,6 @@ use Rattle.network_text.specs.declared.line.Line.the-variants.{Bad, Net as NetR
 use Rattle.network_text.specs.declared.sum.Lin.{Lin}
 use Rattle.network_bounds.specs.Table.{TableIs, table-length, lent}
 use Rattle.network_judge.specs.declared.Header.{Header}
-
--- The store with one node more.
-pub record Adds (n : LutNode) (nodes : List ℕ) (count : ℕ) (after : List ℕ) : Type 0 where
-  pub store : storeOf after (count + 1) ≡ storeOf nodes count ++ (n ∷ [])
-  pub still : IsStore after (count + 1)
 
 -- A sum's terms as the store takes them.
 unfoldable pub sumTerms : Lin → Terms
@@ -106,34 +101,44 @@ module _ (v : Lin) (s : Small v) (e : length (v .coefs) ≡ 11) (f : length (v .
   unfolding sumTerms
   same-node = ap (Linear (v .constant)) same-terms
 
-  module _ (t : Terms) (d : t ≡ sumTerms v) (nodes : List ℕ) (count : ℕ) (i : IsStore nodes count) (h : count < 672) (g : FineTerms count (termsOf v)) where
+  module _ (t : Terms) (d : t ≡ sumTerms v) (count : ℕ) (h : count < 672) (g : FineTerms count (termsOf v)) where
     pub sum-good : GoodTerms 672 t
     sum-good = subst (GoodTerms 672) (sym d) (good count h g)
 
-    pub sum-added : (r after : List ℕ) → r ≡ recordOf (Linear (t .constant) (termsIn t)) → after ≡ putAt nodes count r → Adds (Linear (v .constant) (termsOf v)) nodes count after
-    unfolding Fine
-    sum-added r after q p =
-        let e = q ∙ ap (λ (x : Terms). recordOf (Linear (x .constant) (termsIn x))) d ∙ ap recordOf same-node in
-        let n = put-new nodes count (Linear (v .constant) (termsOf v)) r after i h (few-terms, s .constant, g) e p in
-        record { store = n .0; still = n .1 }
+    module _ (r : List ℕ) (q : r ≡ recordOf (Linear (t .constant) (termsIn t))) where
+      sum-fine : Fine count (Linear (v .constant) (termsOf v))
+      unfolding Fine
+      sum-fine = (few-terms, s .constant, g)
+
+      sum-is : r ≡ recordOf (Linear (v .constant) (termsOf v))
+      sum-is = q ∙ ap (λ (x : Terms). recordOf (Linear (x .constant) (termsIn x))) d ∙ ap recordOf same-node
+
+      pub sum-record : IsRecord count r
+      sum-record = is-record count (Linear (v .constant) (termsOf v)) r sum-fine sum-is .0
+
+      pub sum-added : (nodes after : List ℕ) → Adds (nodeIn r) nodes count after → Adds (Linear (v .constant) (termsOf v)) nodes count after
+      sum-added nodes after a = adds-record nodes count (Linear (v .constant) (termsOf v)) r after sum-fine sum-is a
 
 -- ---- A boot's table.
 
-module _ (nodes : List ℕ) (count i : ℕ) (l : List ℕ) (a e : ℕ) (p : TablePlace l a e) where
-  pub boot-added : (r after t : List ℕ) → IsStore nodes count → count < 672 → i < count → TableIs l a e t → r ≡ recordOf (Bootstrap i (take (e - a - 0) t)) → after ≡ putAt nodes count r
-      → Adds (Bootstrap i (bitsFrom (take (e - a) (drop a l)))) nodes count after
+module _ (count i : ℕ) (l : List ℕ) (a e : ℕ) (p : TablePlace l a e) (k : i < count) (r t : List ℕ) (q : TableIs l a e t) (f : r ≡ recordOf (Bootstrap i (take (e - a - 0) t))) where
+  boot-fine : Fine count (Bootstrap i (bitsFrom (take (e - a) (drop a l))))
   unfolding Fine
-  boot-added r after t s h k q f g =
-      let n = put-new nodes count (Bootstrap i (bitsFrom (take (e - a) (drop a l)))) r after s h
-      (k, rw (table-length p) (p .short), λ j. bit-at (bitsFrom (take (e - a) (drop a l))) j (p .bits))
-      (f ∙ ap (λ b. recordOf (Bootstrap i b)) (lent q)) g in
-      record { store = n .0; still = n .1 }
+  boot-fine = (k, rw (table-length p) (p .short), λ j. bit-at (bitsFrom (take (e - a) (drop a l))) j (p .bits))
+
+  boot-is : r ≡ recordOf (Bootstrap i (bitsFrom (take (e - a) (drop a l))))
+  boot-is = f ∙ ap (λ b. recordOf (Bootstrap i b)) (lent q)
+
+  pub boot-record : IsRecord count r
+  boot-record = is-record count (Bootstrap i (bitsFrom (take (e - a) (drop a l)))) r boot-fine boot-is .0
+
+  pub boot-added : (nodes after : List ℕ) → Adds (nodeIn r) nodes count after → Adds (Bootstrap i (bitsFrom (take (e - a) (drop a l)))) nodes count after
+  boot-added nodes after x = adds-record nodes count (Bootstrap i (bitsFrom (take (e - a) (drop a l)))) r after boot-fine boot-is x
 
 -- ---- An input's weight.
 
-pub input-added : {nodes after name : List ℕ} {count v w : ℕ} → v ≡ w → storeOf after (count + 1) ≡ storeOf nodes count ++ (Input (given name v) ∷ []) → IsStore after (count + 1)
-    → Adds (Input (given name w)) nodes count after
-input-added e f s = record { store = rw (← e) f; still = s }
+pub input-added : {nodes after name : List ℕ} {count v w : ℕ} → v ≡ w → Adds (Input (given name v)) nodes count after → Adds (Input (given name w)) nodes count after
+input-added {nodes = nodes} {after = after} {name = name} {count = count} e a = subst (λ w. Adds (Input (given name w)) nodes count after) e a
 
 -- ---- A wire's signal.
 

@@ -72,4 +72,4 @@ pub record Holds (text nodes ports : List ℕ) (h : Header) : Type 0 where
 -- A good reading has its `net` line.
 abbrev pub Held : List ℕ → List ℕ → List ℕ → Reading → Type 0
 Held text nodes ports (Good h) = Holds text nodes ports h × (tableLimits (h .p) (h .m) ≡ true)
-Held text nodes ports (Refused k i) = (length nodes ≡ 25536) × (length ports ≡ 160)
+Held text nodes ports (Refused k i) = (length nodes ≡ 26880) × (length ports ≡ 160)

@@ -11,7 +11,8 @@ ghost use Rattle.theorems.specs.Weights.{GoodWeight};
 ghost use Rattle.network_text.specs.Lines.{TablePlace, givenAt};
 ghost use Rattle.network_text.specs.Terms.{Small, termsOf};
 ghost use Rattle.network.specs.View.{Holds};
-ghost use Rattle.network.specs.Put.{Adds, sumTerms, signalOf, withPort, withNode, withInput, withOutput, Ready, Follows};
+ghost use Rattle.lut.specs.Store.{Adds};
+ghost use Rattle.network.specs.Put.{sumTerms, signalOf, withPort, withNode, withInput, withOutput, Ready, Follows};
 ghost use Rattle.network.specs.Step.{Stepped};
 use network_judge::Header;
 use network_text::Lin;
@@ -64,22 +65,22 @@ fn terms_of(lin: Lin) -> nodes::record::Terms
     }
 }
 
-fn put_sum(nodes: &mut [u8; 25536], count: usize, lin: Lin)
+fn put_sum(nodes: &mut [u8; 26880], count: usize, lin: Lin)
     requires { ⌜ IsStore (now nodes) count × (count < 672) × Small lin × FineTerms count (termsOf lin) ⌝ }
     ensures { λ _. ⌜ Adds (Linear (lin .constant) (termsOf lin)) (now (nodes .entry)) count (now (nodes .exit)) ⌝ }
 {
     let bytes = nodes::record::sum(terms_of(lin));
-    lut::store::put_record(nodes, count, &bytes);
+    lut::store::put_node(nodes, count, &bytes);
 }
 
-fn put_boot(nodes: &mut [u8; 25536], count: usize, source: usize, l: &[u8], a: usize, e: usize)
+fn put_boot(nodes: &mut [u8; 26880], count: usize, source: usize, l: &[u8], a: usize, e: usize)
     requires { ⌜ IsStore (now nodes) count × (count < 672) × (source < count) × TablePlace (now l) a e ⌝ }
     ensures { λ _. ⌜ Adds (Bootstrap source (bitsFrom (take (e - a) (drop a (now (l .entry)))))) (now (nodes .entry)) count (now (nodes .exit)) ⌝ }
 {
     let table = network_bounds::table::table_of(l, a, e);
     let t = &table[..];
     let bytes = nodes::record::boot(source, &t[0..e - a]);
-    lut::store::put_record(nodes, count, &bytes);
+    lut::store::put_node(nodes, count, &bytes);
 }
 
 fn wide(b: u8) -> usize
@@ -88,7 +89,7 @@ fn wide(b: u8) -> usize
     b as usize
 }
 
-fn put_in(nodes: &mut [u8; 25536], count: usize, l: &[u8], a: usize, e: usize, weight: u8)
+fn put_in(nodes: &mut [u8; 26880], count: usize, l: &[u8], a: usize, e: usize, weight: u8)
     requires { ⌜ IsStore (now nodes) count × (count < 672) × Named (length (now l)) a e × GoodWeight weight ⌝ }
     ensures { λ _. ⌜ Adds (Input (givenAt (now (l .entry)) a e weight)) (now (nodes .entry)) count (now (nodes .exit)) ⌝ }
 {
@@ -121,7 +122,7 @@ fn put_line(
     at: usize,
     l: &[u8],
     r: Read,
-    nodes: &mut [u8; 25536],
+    nodes: &mut [u8; 26880],
     ports: &mut [usize; 160],
 ) -> Header
     requires { ⌜ Ready h at (now l) (r .line) (r .lin) (now nodes) (now ports) ⌝ }
@@ -171,7 +172,7 @@ pub fn take_line(
     text: &[u8],
     at: usize,
     end: usize,
-    nodes: &mut [u8; 25536],
+    nodes: &mut [u8; 26880],
     ports: &mut [usize; 160],
 ) -> Step
     requires { ⌜ Holds (now text) (now nodes) (now ports) h × LineEnd (now text) at end ⌝ }

@@ -5,3 +5,4 @@ pub mod Records
 pub mod Nodes
 pub mod Kinds
 pub mod Norm
+pub mod Depth

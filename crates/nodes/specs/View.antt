@@ -9,15 +9,15 @@ use native.Mathlib.Numerals.{add-one}
 use native.Mathlib.Omega.{arith}
 use lib.Dec.{eqb}
 use lib.IntN.{ℤ, pos, natAbs, _+ℤ_, _-ℤ_}
-use lib.ListN.{length, getD, take, drop, replicate}
+use lib.ListN.{length, getD, take, drop, set, replicate}
 use lib.Seq.{paste, take-at, length-paste, take-all, take-nil, take-take, take-append-le, length-take-le, drop-at, getD-take, getD-drop}
 use Rattle.laws.specs.Integer.{ints, plus, minus, abs-parts, one-part-zero, add-parts, sub-parts}
 use Rattle.laws.specs.Over.{over, over-length}
-use Rattle.laws.specs.Tabulate.{tabulate, tabulate-length, tabulate-at, tabulate-same, tabulate-snoc}
-use Rattle.laws.specs.Test.{if_then_else_, lt-or-le, decide, zero≢one}
+use Rattle.laws.specs.Tabulate.{tabulate, tabulate-length, tabulate-at}
+use Rattle.laws.specs.Test.{if_then_else_, decide, zero≢one}
 use Rattle.rules.specs.Circuit.{Given}
 use Rattle.rules.specs.CircuitText.{sameName}
-use Rattle.rules.specs.Network.{Term, LutNode, Input, Linear, Bootstrap, nodeAt}
+use Rattle.rules.specs.Network.{Term, LutNode, Input, Linear, Bootstrap, nodeAt, nodeDepth}
 use Rattle.rules.specs.Store.{sameNode}
 use Rattle.theorems.specs.Interned.{node-self, node-is}
 use Rattle.theorems.specs.Names.{name-self, name-is}
@@ -25,7 +25,7 @@ use Rattle.theorems.specs.NodesAt.{noInput, drop-node}
 use Rattle.theorems.specs.Weights.{GoodWeight}
 use Rattle.nodes.specs.declared.record.Terms.{Terms}
 
--- ---- A record of 38 bytes.
+-- ---- The 38 bytes of a record before its depth.
 
 -- a coefficient or a constant as a byte
 unfoldable pub biased : ℤ → ℕ
@@ -69,16 +69,19 @@ nodeIn r =
     else if eqb (getD r 0 0) 1 then Linear (unbiased (getD r 2 0)) (termsFrom (getD r 1 0) (drop 3 r))
     else Bootstrap (256 * getD r 4 0 + getD r 5 0) (take (getD r 2 0) (drop 6 r))
 
--- ---- The store.
+-- ---- The store: 40 bytes a node.
 
 unfoldable pub recordAt : List ℕ → ℕ → List ℕ
-recordAt bytes i = take 38 (drop (38 * i) bytes)
+recordAt bytes i = take 38 (drop (40 * i) bytes)
 
 unfoldable pub nodeOf : List ℕ → ℕ → LutNode
 nodeOf bytes i = nodeIn (recordAt bytes i)
 
 unfoldable pub storeOf : List ℕ → ℕ → List LutNode
 storeOf bytes count = tabulate count (nodeOf bytes)
+
+unfoldable pub depthIn : List ℕ → ℕ → ℕ
+depthIn bytes i = 256 * getD bytes (40 * i + 38) 0 + getD bytes (40 * i + 39) 0
 
 -- ---- What may stand at a place: sources come before it, numbers fit their bytes.
 
@@ -93,16 +96,18 @@ Fine i (Bootstrap j table) = (j < i) × (length table ≤ 32) × ((k : ℕ) → 
 
 -- one node: its record is what the node is written as
 pub record IsNode (bytes : List ℕ) (i : ℕ) : Type 0 where
-  pub long : length bytes ≡ 25536
+  pub long : length bytes ≡ 26880
   pub inside : i < 672
   pub fine : Fine i (nodeOf bytes i)
   pub kept : recordAt bytes i ≡ recordOf (nodeOf bytes i)
 
+-- these nodes: each with the depth that its sources give (`recorded-depth`: which the definition gives them)
 pub record IsStore (bytes : List ℕ) (count : ℕ) : Type 0 where
-  pub long : length bytes ≡ 25536
+  pub long : length bytes ≡ 26880
   pub most : count ≤ 672
   pub fine : (i : ℕ) → i < count → Fine i (nodeOf bytes i)
   pub kept : (i : ℕ) → i < count → recordAt bytes i ≡ recordOf (nodeOf bytes i)
+  pub deep : (i : ℕ) → i < count → depthIn bytes i ≡ nodeDepth (depthIn bytes) (nodeOf bytes i)
 
 -- ---- The terms that the code is handed.
 
@@ -193,9 +198,9 @@ same-record i j n m f g = ⊎-elim (λ e. yes e) (λ e. no e) (decide (sameName 
 -- ---- laws: what stands at a place
 
 module _ (bytes : List ℕ) (i : ℕ) where
-  pub byte-at : (k : ℕ) → k < 38 → getD (recordAt bytes i) k 0 ≡ getD bytes (38 * i + k) 0
+  pub byte-at : (k : ℕ) → k < 38 → getD (recordAt bytes i) k 0 ≡ getD bytes (40 * i + k) 0
   unfolding recordAt
-  byte-at k h = getD-take 38 (drop (38 * i) bytes) k 0 h ∙ getD-drop (38 * i) bytes k 0
+  byte-at k h = getD-take 38 (drop (40 * i) bytes) k 0 h ∙ getD-drop (40 * i) bytes k 0
 
   pub at-store : (count : ℕ) → i < count → nodeAt (storeOf bytes count) i ≡ nodeOf bytes i
   unfolding nodeAt storeOf
@@ -215,6 +220,9 @@ store-from bytes count i h =
 pub is-node : (bytes : List ℕ) (count i : ℕ) → IsStore bytes count → i < count → IsNode bytes i
 is-node bytes count i s h = record { long = s .long; inside = omega (arith, s .most); fine = s .fine i h; kept = s .kept i h }
 
+pub no-nodes : (bytes : List ℕ) → length bytes ≡ 26880 → IsStore bytes 0
+no-nodes bytes e = record { long = e; most = omega arith; fine = λ i l. absurd (omega arith); kept = λ i l. absurd (omega arith); deep = λ i l. absurd (omega arith) }
+
 pub store-below : (bytes : List ℕ) (count k : ℕ) → IsStore bytes count → k ≤ count → IsStore bytes k
 store-below bytes count k s h =
     record {
@@ -222,6 +230,7 @@ store-below bytes count k s h =
       most = omega (arith, s .most);
       fine = λ i l. s .fine i (omega arith);
       kept = λ i l. s .kept i (omega arith);
+      deep = λ i l. s .deep i (omega arith);
     }
 
 -- ---- laws: a record put at a place
@@ -232,46 +241,28 @@ part-drop m (suc a) [] = rw (take-nil m, take-nil (suc a + m))
 part-drop m (suc a) (x ∷ l) = rw (suc-add a m) (part-drop m a l)
 
 unfoldable pub putAt : List ℕ → ℕ → List ℕ → List ℕ
-putAt bytes i r = paste bytes (38 * i) r 38
+putAt bytes i r = paste bytes (40 * i) r 38
 
-module _ (bytes : List ℕ) (i : ℕ) (r : List ℕ) (e : length bytes ≡ 25536) (h : i < 672) (l : length r ≡ 38) where
-  pub put-length : length (putAt bytes i r) ≡ 25536
+unfoldable pub putDepth : List ℕ → ℕ → ℕ → List ℕ
+putDepth bytes i d = set (set bytes (40 * i + 38) (d / 256)) (40 * i + 39) (d % 256)
+
+module _ (bytes : List ℕ) (i : ℕ) (r : List ℕ) (e : length bytes ≡ 26880) (h : i < 672) (l : length r ≡ 38) where
+  pub put-length : length (putAt bytes i r) ≡ 26880
   unfolding putAt
-  put-length = length-paste bytes (38 * i) r 38 (omega arith) (omega arith) ∙ e
+  put-length = length-paste bytes (40 * i) r 38 (omega arith) (omega arith) ∙ e
 
   pub put-same : recordAt (putAt bytes i r) i ≡ r
   unfolding putAt recordAt
   put-same =
-      let a : length (take (38 * i) bytes) ≡ 38 * i = length-take-le (38 * i) bytes (omega arith) in
-      rw (append-assoc, drop-at (take (38 * i) bytes) (take 38 r ++ drop (38 * i + 38) bytes) (38 * i) a, take-all 38 r (omega arith)) (take-at r _ 38 l)
+      let a : length (take (40 * i) bytes) ≡ 40 * i = length-take-le (40 * i) bytes (omega arith) in
+      rw (append-assoc, drop-at (take (40 * i) bytes) (take 38 r ++ drop (40 * i + 38) bytes) (40 * i) a, take-all 38 r (omega arith)) (take-at r _ 38 l)
 
   -- at an earlier place
   pub put-before : (j : ℕ) → j < i → recordAt (putAt bytes i r) j ≡ recordAt bytes j
   unfolding putAt recordAt
   put-before j k =
-      let a : 38 * j + 38 ≤ length (take (38 * i) bytes) = rw (length-take-le (38 * i) bytes (omega arith)) (omega arith) in
-      let t : take (38 * j + 38) (take (38 * i) bytes ++ take 38 r ++ drop (38 * i + 38) bytes) ≡ take (38 * j + 38) bytes
+      let a : 40 * j + 38 ≤ length (take (40 * i) bytes) = rw (length-take-le (40 * i) bytes (omega arith)) (omega arith) in
+      let t : take (40 * j + 38) (take (40 * i) bytes ++ take 38 r ++ drop (40 * i + 38) bytes) ≡ take (40 * j + 38) bytes
       = rw append-assoc
-      (take-append-le (38 * j + 38) (take (38 * i) bytes) _ a ∙ take-take (38 * j + 38) (38 * i) bytes (omega arith)) in
-      part-drop 38 (38 * j) _ ∙ ap (λ (x : List ℕ). drop (38 * j) x) t ∙ sym (part-drop 38 (38 * j) bytes)
-
--- the nodes before stay, and the new one stands after them
-module _ (bytes : List ℕ) (count : ℕ) (r : List ℕ) (s : IsStore bytes count) (h : count < 672) (l : length r ≡ 38) where
-  put-node : (i : ℕ) → i < count → nodeOf (putAt bytes count r) i ≡ nodeOf bytes i
-  unfolding nodeOf
-  put-node i k = ap nodeIn (put-before bytes count r (s .long) h l i k)
-
-  pub put-store : storeOf (putAt bytes count r) (count + 1) ≡ storeOf bytes count ++ (nodeIn r ∷ [])
-  unfolding storeOf nodeOf
-  put-store =
-      rw (add-one, tabulate-snoc count (nodeOf (putAt bytes count r)), tabulate-same count (nodeOf (putAt bytes count r)) (nodeOf bytes) put-node, put-same bytes count r (s .long) h l)
-
-  pub put-is-store : Fine count (nodeIn r) → r ≡ recordOf (nodeIn r) → IsStore (putAt bytes count r) (count + 1)
-  unfolding nodeOf
-  put-is-store f e =
-      record {
-        long = put-length bytes count r (s .long) h l;
-        most = omega arith;
-        fine = λ i k. ⊎-elim (λ (q : i < count). rw (put-node i q) (s .fine i q)) (λ (q : count ≤ i). let c : i ≡ count = omega arith in rw (c, put-same bytes count r (s .long) h l) f) (lt-or-le i count);
-        kept = λ i k. ⊎-elim (λ (q : i < count). rw (put-node i q, put-before bytes count r (s .long) h l i q) (s .kept i q)) (λ (q : count ≤ i). let c : i ≡ count = omega arith in rw (c, put-same bytes count r (s .long) h l) e) (lt-or-le i count);
-      }
+      (take-append-le (40 * j + 38) (take (40 * i) bytes) _ a ∙ take-take (40 * j + 38) (40 * i) bytes (omega arith)) in
+      part-drop 38 (40 * j) _ ∙ ap (λ (x : List ℕ). drop (40 * j) x) t ∙ sym (part-drop 38 (40 * j) bytes)

@@ -48,7 +48,7 @@ fn negated(node: usize) -> Terms
 }
 
 // 1 less the node.
-fn negation(nodes: &mut [u8; 25536], count: usize, node: usize, many: bool) -> Finished
+fn negation(nodes: &mut [u8; 26880], count: usize, node: usize, many: bool) -> Finished
     requires { ⌜ IsStore (now nodes) count × ((count < 672) × (node < count)) ⌝ }
     ensures is { λ r. ⌜ signalRead (now (nodes .exit)) r ≡ rules.ok (signalOf (Linear (pos 1) (term (negsuc 0) node ∷ [])) (storeOf (now (nodes .entry)) count)) ⌝ }
     ensures finishes { λ r. ⌜ Finishes count 1 (now (nodes .exit)) r ⌝ }
@@ -70,7 +70,7 @@ fn negation(nodes: &mut [u8; 25536], count: usize, node: usize, many: bool) -> F
 }
 
 // A cone of no source or one source as a wire.
-fn wire_of(nodes: &mut [u8; 25536], count: usize, c: Cone, many: bool) -> Finished
+fn wire_of(nodes: &mut [u8; 26880], count: usize, c: Cone, many: bool) -> Finished
     requires { ⌜ IsStore (now nodes) count × ((count < 672) × (Stands count c × (c .n ≤ 1))) ⌝ }
     ensures is { λ r. ⌜ signalRead (now (nodes .exit)) r ≡ rules.ok (wireOf (storeOf (now (nodes .entry)) count) (coneOf c .support) (coneOf c .truth)) ⌝ }
     ensures finishes { λ r. ⌜ Finishes count 1 (now (nodes .exit)) r ⌝ }
@@ -95,7 +95,7 @@ fn wire_of(nodes: &mut [u8; 25536], count: usize, c: Cone, many: bool) -> Finish
 }
 
 // output_signal: a cone of more sources is bootstrapped, and what comes of that is a node's own cone.
-fn output_signal(s: Settings, nodes: &mut [u8; 25536], count: usize, c: Cone) -> Finished
+fn output_signal(s: Settings, nodes: &mut [u8; 26880], count: usize, c: Cone) -> Finished
     requires { ⌜ (inLimits s ≡ true) × (IsStore (now nodes) count × ((count + 2 ≤ 672) × Stands count c)) ⌝ }
     ensures is { λ r. ⌜ signalRead (now (nodes .exit)) r ≡ outputSignal s (storeOf (now (nodes .entry)) count) (coneOf c) ⌝ }
     ensures finishes { λ r. ⌜ Finishes count 2 (now (nodes .exit)) r ⌝ }
@@ -127,7 +127,7 @@ fn slot_of(wire: usize) -> usize
 // One output.
 fn map_output(
     s: Settings,
-    nodes: &mut [u8; 25536],
+    nodes: &mut [u8; 26880],
     count: usize,
     wires: &[u8; 8580],
     n: usize,
@@ -144,7 +144,7 @@ fn map_output(
 // The outputs in turn. Asks that their wires are nodes below n or constants.
 pub fn map_outputs(
     s: Settings,
-    nodes: &mut [u8; 25536],
+    nodes: &mut [u8; 26880],
     count: usize,
     ports: &mut [usize; 192],
     wires: &[u8; 8580],

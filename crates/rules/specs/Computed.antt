@@ -12,3 +12,4 @@ pub mod Weights
 pub mod Buffers
 pub mod Sessions
 pub mod NineCases
+pub mod Depths

@@ -67,7 +67,7 @@ greatestOf (Input n) = pos 1
 greatestOf (Linear c ts) = greatestSum c ts
 greatestOf (Bootstrap i table) = pos 1
 
--- ---- Norms and statistics.
+-- ---- Norms, depths and statistics.
 
 -- The weight of a source (document 02, S-6): an `in` its own, a `boot` 1.
 unfoldable pub weightOf : LutNode → ℕ
@@ -111,8 +111,8 @@ unfoldable pub count : (LutNode → Bool) → List LutNode → ℕ
 count f [] = 0
 count f (n ∷ ns) = (if f n then 1 else 0) + count f ns
 
--- The largest measure of a node, 0 where there is none.
-unfoldable pub largest : (LutNode → ℕ) → List LutNode → ℕ
+-- The largest measure of these, 0 where there is none.
+unfoldable pub largest : {A : Type 0} → (A → ℕ) → List A → ℕ
 largest f [] = 0
 largest f (n ∷ ns) = max (f n) (largest f ns)
 
@@ -132,6 +132,29 @@ unfoldable pub different : List ℕ → ℕ
 different [] = 0
 different (i ∷ is) = (if member i is then 0 else 1) + different is
 
+-- The depth of a node (document 02, S-7), by the depths of those before it: 0 for an input, the largest of its sources for a `lin`, one more than its
+-- source for a `boot`.
+unfoldable pub nodeDepth : (ℕ → ℕ) → LutNode → ℕ
+nodeDepth before (Input n) = 0
+nodeDepth before (Linear c ts) = largest (λ (t : Term). before (t .node)) ts
+nodeDepth before (Bootstrap i table) = before i + 1
+
+-- The nodes in turn, after the depths of those before them.
+unfoldable pub depthsFrom : List ℕ → List LutNode → List ℕ
+depthsFrom before [] = before
+depthsFrom before (n ∷ ns) = depthsFrom (before ++ (nodeDepth (λ i. getD before i 0) n ∷ [])) ns
+
+-- One depth a node, in the order of the nodes.
+unfoldable pub depths : List LutNode → List ℕ
+depths nodes = depthsFrom [] nodes
+
+unfoldable pub depth : List LutNode → ℕ → ℕ
+depth nodes i = getD (depths nodes) i 0
+
+-- The largest of all nodes, those that no output needs too.
+unfoldable pub largestDepth : List LutNode → ℕ
+largestDepth nodes = largest (λ d. d) (depths nodes)
+
 unfoldable pub stats : Network → Stats
 stats w =
     record {
@@ -142,6 +165,7 @@ stats w =
       longest = largest tableLength (w .nodes);
       norm = largest (nodeNorm (w .nodes)) (w .nodes);
       outputs = length (w .outputs);
+      depth = largestDepth (w .nodes);
     }
 
 -- ---- The network run: nodes in order, each to a whole number; none where a `boot` breaks off.

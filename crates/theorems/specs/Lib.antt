@@ -25,8 +25,11 @@ pub mod Terms
 pub mod Bounds
 pub mod Admissible
 pub mod AdmissibleLines
+pub mod EarlierNodes
+pub mod Depths
 pub mod AdmissionExact
 pub mod AdmittedSafe
+pub mod LongestChains
 pub mod SoundCircuits
 pub mod Normalised
 pub mod Unions

@@ -9,6 +9,7 @@ use lib.ListN.{length}
 use Rattle.laws.specs.Test.{if_then_else_, if-both, lt-or-le}
 use Rattle.rules.specs.Network.{LutNode, member, nodeAt}
 use Rattle.rules.specs.Store.{needs, wantedBelow}
+use Rattle.theorems.specs.EarlierNodes.{Ordered}
 use Rattle.theorems.specs.Members.{member-right, member-left, member-either}
 
 pub wanted-stays : (nodes : List LutNode) (n : ℕ) (w : List ℕ) (j : ℕ) → member j w ≡ true → member j (wantedBelow n nodes w) ≡ true
@@ -17,7 +18,7 @@ wanted-stays nodes zero w j h = h
 wanted-stays nodes (suc i) w j h =
     wanted-stays nodes i _ j (if-both (λ v. member j v ≡ true) (member i w) (member-right j (needs (nodeAt nodes i)) w h) h)
 
-module _ (nodes : List LutNode) (earlier : (i : ℕ) → i < length nodes → (j : ℕ) → member j (needs (nodeAt nodes i)) ≡ true → j < i) where
+module _ (nodes : List LutNode) (earlier : Ordered nodes) where
   -- only what is below n is added below n
   wanted-above : (n : ℕ) (w : List ℕ) (j : ℕ) → n ≤ length nodes → n ≤ j → member j (wantedBelow n nodes w) ≡ true → member j w ≡ true
   unfolding wantedBelow

@@ -1,5 +1,5 @@
 -- Document 01's ★ cases ("Reckoned by hand") under document 02's order of ties, one whose answer that order moved, cases at the
--- bounds of the data sheet (S-2) and of weights (S-6): one table, one proof over it.
+-- bounds of the data sheet (S-2), of weights (S-6) and of depths (S-7): one table, one proof over it.
 use mathlib.Core.Path.{_≡_, refl}
 use mathlib.Core.Bool.{false}
 use mathlib.Core.List.{List, [], _∷_, map}
@@ -51,10 +51,10 @@ bytes b = answers (outcome (written (length b)) (over b buffer))
 abbrev refusal : ℕ → ℕ → Reply
 refusal k line = answers (outcome (refused k line) buffer)
 
--- Admitted, with the statistics: inputs, sums, tables, different sources, longest table, largest norm, outputs.
-abbrev counts : ℕ → ℕ → ℕ → ℕ → ℕ → ℕ → ℕ → Reply
-counts inputs sums boots sources longest norm outputs =
-    judges (admitted (record { inputs = inputs; sums = sums; boots = boots; sources = sources; longest = longest; norm = norm; outputs = outputs }))
+-- Admitted, with the statistics: inputs, sums, tables, different sources, longest table, largest norm, outputs, largest depth.
+abbrev counts : ℕ → ℕ → ℕ → ℕ → ℕ → ℕ → ℕ → ℕ → Reply
+counts inputs sums boots sources longest norm outputs depth =
+    judges (admitted (record { inputs = inputs; sums = sums; boots = boots; sources = sources; longest = longest; norm = norm; outputs = outputs; depth = depth }))
 
 unfoldable pub scoresOf : ℕ → ℕ → Cone → Cone → List ℕ → Scales → List (List ℤ)
 scoresOf P M left right gate p =
@@ -138,15 +138,18 @@ cases =
     ∷ (mapping "(fbs 4 8 10 2 basic one)\n(in a 3)\n(in b)\n(out y (n 1))\n" ⇒ bytes (bytesOf "(net 2 4 2)\n(in b)\n(out y (n 0))\n"))
     -- in a network, each squared coefficient times its source's weight
     ∷ (admitting "(net 4 8 none)\n(in a 1)\n" ⇒ judges (rejected 21 2))
-    ∷ (admitting "(net 4 8 13)\n(in a 3)\n(in b)\n(lin 0 (2 0) (1 1))\n(boot 2 0010)\n(out y (n 3))\n" ⇒ counts 2 1 1 1 4 13 1)
+    ∷ (admitting "(net 4 8 13)\n(in a 3)\n(in b)\n(lin 0 (2 0) (1 1))\n(boot 2 0010)\n(out y (n 3))\n" ⇒ counts 2 1 1 1 4 13 1 1)
     ∷ (admitting "(net 4 8 12)\n(in a 3)\n(in b)\n(lin 0 (2 0) (1 1))\n(boot 2 0010)\n(out y (n 3))\n" ⇒ judges (rejected 25 4))
     -- a table counts 1, whatever its source weighs; the largest norm counts the input too, and may be over NORM
-    ∷ (admitting "(net 4 8 1)\n(in a 3)\n(boot 0 10)\n(lin 0 (1 1))\n(out y (n 2))\n" ⇒ counts 1 1 1 1 2 3 1)
+    ∷ (admitting "(net 4 8 1)\n(in a 3)\n(boot 0 10)\n(lin 0 (1 1))\n(out y (n 2))\n" ⇒ counts 1 1 1 1 2 3 1 1)
+    -- depths: a table on an input, on a table, and on a sum whose deepest source stands in the middle, which no output needs; no node
+    ∷ (admitting "(net 4 8 none)\n(in a)\n(in b)\n(boot 0 10)\n(boot 2 10)\n(lin 0 (1 1) (1 3) (1 2))\n(boot 4 0001)\n(out y (n 2))\n" ⇒ counts 2 1 3 3 4 3 1 3)
+    ∷ (admitting "(net 4 8 none)\n" ⇒ counts 0 0 0 0 0 0 0 0)
     ∷ []
 
 -- from a network's text to its statistics
 unfoldable pub judging : Unit {0}
-unfolding Form.below Form.signed NetworkText.netLine NetworkText.term NetworkText.linLine NetworkText.bootLine NetworkText.networkLine NetworkText.small NetworkText.goodTerms NetworkText.allDifferent NetworkText.goodSum NetworkText.names NetworkText.allInputs NetworkText.unknown NetworkText.anyBadSource NetworkText.started NetworkText.ending NetworkText.textConditions NetworkText.settingsOf NetworkText.fitsTable NetworkText.isBit NetworkText.noBit NetworkText.safetyConditions NetworkText.admissionConditions NetworkText.withNetworkLine NetworkText.withNet NetworkText.networkEnded NetworkText.noNetwork NetworkText.readAdmitted NetworkText.admissionOf NetworkText.admission Network.below0 Network.above0 Network.leastSum Network.greatestSum Network.leastOf Network.greatestOf Network.isInput Network.isLinear Network.isBootstrap Network.tableLength Network.count Network.different Network.stats
+unfolding Form.below Form.signed NetworkText.netLine NetworkText.term NetworkText.linLine NetworkText.bootLine NetworkText.networkLine NetworkText.small NetworkText.goodTerms NetworkText.allDifferent NetworkText.goodSum NetworkText.names NetworkText.allInputs NetworkText.unknown NetworkText.anyBadSource NetworkText.started NetworkText.ending NetworkText.textConditions NetworkText.settingsOf NetworkText.fitsTable NetworkText.isBit NetworkText.noBit NetworkText.safetyConditions NetworkText.admissionConditions NetworkText.withNetworkLine NetworkText.withNet NetworkText.networkEnded NetworkText.noNetwork NetworkText.readAdmitted NetworkText.admissionOf NetworkText.admission Network.below0 Network.above0 Network.leastSum Network.greatestSum Network.leastOf Network.greatestOf Network.isInput Network.isLinear Network.isBootstrap Network.tableLength Network.count Network.different Network.nodeDepth Network.depthsFrom Network.depths Network.largestDepth Network.stats
 judging = tt
 
 pub worked : map (λ c. reply (c .asks)) cases ≡ map (λ c. c .gives) cases

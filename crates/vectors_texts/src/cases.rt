@@ -88,7 +88,8 @@ fn put_stats(out: &mut [u8], s: Stats) -> usize {
     let e = put_next(out, d, s.sources);
     let f = put_next(out, e, s.longest);
     let g = put_next(out, f, s.norm);
-    put_next(out, g, s.outputs)
+    let h = put_next(out, g, s.outputs);
+    put_next(out, h, s.depth)
 }
 
 fn put_admission(out: &mut [u8], r: AdmitReply) -> usize {

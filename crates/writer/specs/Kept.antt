@@ -15,7 +15,7 @@ use Rattle.rules.specs.NetworkText.{sources}
 use Rattle.rules.specs.Store.{needs, wantedBelow, renumbered, renumberedTerm, renumberedNode, keptFrom}
 use Rattle.theorems.specs.Members.{member-head, member-tail}
 use Rattle.theorems.specs.Wanted.{wanted-closed}
-use Rattle.nodes.specs.Nodes.{fine-needs}
+use Rattle.nodes.specs.Nodes.{fine-needs, store-ordered}
 use Rattle.nodes.specs.View.{nodeOf, storeOf, IsStore, at-store, store-length}
 use Rattle.writer.specs.Live.{newNumber, newTerm, newNode, liveFrom, liveNodes, Ready, Sourced, member-at}
 
@@ -29,15 +29,11 @@ pub record Closed (kept bytes : List ℕ) (count : ℕ) : Type 0 where
 
 -- what pruning keeps is closed
 pub closed : (bytes : List ℕ) (count : ℕ) (wanted : List ℕ) → IsStore bytes count → Closed (wantedBelow count (storeOf bytes count) wanted) bytes count
-closed bytes count wanted s = record { needed = λ i h m j k. wanted-closed (storeOf bytes count) earlier count wanted (rw l (omega arith)) i h m j (rw (at-store bytes i count h) k) }
-  where
-    l : length (storeOf bytes count) ≡ count
-    l = store-length bytes count
-
-    earlier : (i : ℕ) → i < length (storeOf bytes count) → (j : ℕ) → member j (needs (nodeAt (storeOf bytes count) i)) ≡ true → j < i
-    earlier i h j k =
-        let g : i < count = rw l at h in
-        fine-needs i (nodeOf bytes i) (s .fine i g) j (rw (at-store bytes i count g) at k)
+closed bytes count wanted s =
+    record {
+      needed = λ i h m j k.
+          wanted-closed (storeOf bytes count) (store-ordered bytes count s) count wanted (omega (arith, store-length bytes count)) i h m j (rw (at-store bytes i count h) k);
+    }
 
 -- ---- laws: the numbers
 

@@ -31,7 +31,7 @@ same-length c = search needs
 
 -- src/lib.rt:25:1
 returns-2 : tie.Need-returns-2
-returns-2 c = c .before .before .conclude .ensures ∙ ap (answerWith _) (steps-done _ _ _ _ _ (c .before .before .before .before .before .before .before .before .before .before .before .before .before .before .before .before .used .ensures) _ _ _ _ _ (c .before .before .before .before .before .before .before .before .before .before .before .before .start .ensures) (c .before .before .before .before .before .before .before .before .map-once .ensures .0 _) (c .before .before .before .before .before .before .if1 .left))
+returns-2 c = c .before .before .conclude .ensures .0 ∙ ap (answerWith _) (steps-done _ _ _ _ _ (c .before .before .before .before .before .before .before .before .before .before .before .before .before .before .before .before .used .ensures) _ _ _ _ _ (c .before .before .before .before .before .before .before .before .before .before .before .before .start .ensures) (c .before .before .before .before .before .before .before .before .map-once .ensures .0 _) (c .before .before .before .before .before .before .if1 .left))
 
 pub map-circuit-spec : {M : Type 1} → statement M
 map-circuit-spec =

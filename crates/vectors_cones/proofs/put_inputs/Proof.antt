@@ -1,18 +1,12 @@
 -- `vectors_cones::put_inputs` meets its contract: after i turns there are i inputs.
 use mathlib.Core.Path.{_≡_, subst}
-use mathlib.Core.List.{List}
 use Prim.Native.Nat.{ℕ, _-_, _≤_}
-use native.Mathlib.Nat.{not-suc-le-zero}
 use native.Mathlib.Omega.{arith}
 use borrow.Author.Needs.{needs}
-use lib.ListN.{length}
 use Rattle.theorems.specs.Weights.{GoodWeight}
-use Rattle.nodes.specs.View.{IsStore}
+use Rattle.nodes.specs.View.{IsStore, no-nodes}
 use Rattle.vectors_cones.proofs.put_inputs.Statement.{statement}
 use Rattle.vectors_cones.proofs.put_inputs.Tie as tie
-
-none-yet : (bytes : List ℕ) → length bytes ≡ 25536 → IsStore bytes 0
-none-yet bytes e = record { long = e; most = omega arith; fine = λ i h. absurd (not-suc-le-zero h); kept = λ i h. absurd (not-suc-le-zero h) }
 
 weighs-1 : GoodWeight 1
 unfolding GoodWeight
@@ -25,7 +19,7 @@ abbrev μ-loop : tie.MeasureT-loop
 μ-loop nodes₀ i₀ name nodes i = 672 - i
 
 loop-holds : tie.Need-loop-holds Inv-loop μ-loop
-loop-holds c = (omega arith, none-yet _ (c .pre))
+loop-holds c = (omega arith, no-nodes _ (c .pre))
 
 slice-aggregate-put-input : tie.Need-slice-aggregate-put-input Inv-loop μ-loop
 slice-aggregate-put-input c = search needs
@@ -40,7 +34,7 @@ loop-less : tie.Need-loop-less Inv-loop μ-loop
 loop-less c = search needs
 
 loop-again : tie.Need-loop-again Inv-loop μ-loop
-loop-again c = (omega arith, c .put-input .ensures .1)
+loop-again c = (omega arith, c .put-input .ensures .still)
 
 returns : tie.Need-returns Inv-loop μ-loop
 returns c = let o = c .before .loop in let e : o .i ≡ 672 = omega (arith, o .inv .0) in subst (λ (n : ℕ). IsStore (o .nodes) n) e (o .inv .1)

@@ -63,7 +63,7 @@ returns c =
     let s = c .before .before .before .before .before .before .before .before .before .before in
     let p = c .before .before .before .put-input .ensures in
     let own = c .before .before .identity .ensures in
-    started-next _ _ _ _ _ (s .pre .1) (omega (arith, s .pre .0 .few)) _ _ _ (p .1) (c .put-cone .ensures) (own .0) (own .1) (p .0)
+    started-next _ _ _ _ _ (s .pre .1) (omega (arith, s .pre .0 .few)) _ _ _ (p .still) (c .put-cone .ensures) (own .0) (own .1) (p .store)
 
 pub put-next-spec : {M : Type 1} → statement M
 put-next-spec =

@@ -15,8 +15,8 @@ returns c =
     interns-old (s .args .nodes .now) (s .args .count) (s .args .bytes .now) (s .pre .0) (s .pre .1) _ (c .before .find .ensures) (c .if1 .taken)
 
 -- src/store.rt:60:5
-put-record-requires : tie.Need-put-record-requires
-put-record-requires c κs = search needs
+put-node-requires : tie.Need-put-node-requires
+put-node-requires c κs = search needs
 
 -- src/store.rt:62:16
 add-t10 : tie.Need-add-t10
@@ -26,7 +26,7 @@ add-t10 c = search needs
 returns-2 : tie.Need-returns-2
 returns-2 c =
     let s = c .before .before .before .before .before in
-    interns-new (s .args .nodes .now) (s .args .count) (s .args .bytes .now) (s .pre .0) (s .pre .1) _ (c .before .before .before .find .ensures) (c .before .before .if1 .left) (s .pre .2) _ (c .put-record .ensures)
+    interns-new (s .args .nodes .now) (s .args .count) (s .args .bytes .now) (s .pre .0) (s .pre .1) _ (c .before .before .before .find .ensures) (c .before .before .if1 .left) _ (c .put-node .ensures)
 
 pub intern-spec : {M : Type 1} → statement M
-intern-spec = tie.close (tie.spec find-requires returns put-record-requires add-t10 returns-2)
+intern-spec = tie.close (tie.spec find-requires returns put-node-requires add-t10 returns-2)

@@ -1,4 +1,4 @@
-use Rattle.network.specs.Put.{boot-added}
+use Rattle.network.specs.Put.{boot-record, boot-added}
 use borrow.Author.Needs.{needs}
 use Rattle.network.proofs.put.put_boot.Statement.{statement}
 use Rattle.network.proofs.put.put_boot.Tie as tie
@@ -32,14 +32,16 @@ boot-requires : tie.Need-boot-requires
 boot-requires c κs = search needs
 
 -- src/put.rt:82:5
-put-record-requires : tie.Need-put-record-requires
-put-record-requires c κs = search needs
+put-node-requires : tie.Need-put-node-requires
+put-node-requires c κs =
+    let p = c .before .before .before .before .before .before .before .pre in
+    (p .0, boot-record _ _ _ _ _ (p .3) (p .2) _ _ (c .before .before .before .before .before .table-of .ensures) (c .before .before .boot .ensures), p .1)
 
 -- src/put.rt:75:1
 returns : tie.Need-returns
 returns c =
     let p = c .before .before .before .before .before .before .before .before .pre in
-    boot-added _ _ _ _ _ _ (p .3) _ _ _ (p .0) (p .1) (p .2) (c .before .before .before .before .before .before .table-of .ensures) (c .before .before .before .boot .ensures) (c .put-record .ensures)
+    boot-added _ _ _ _ _ (p .3) (p .2) _ _ (c .before .before .before .before .before .before .table-of .ensures) (c .before .before .before .boot .ensures) _ _ (c .put-node .ensures)
 
 pub put-boot-spec : {M : Type 1} → statement M
 put-boot-spec =
@@ -52,5 +54,5 @@ put-boot-spec =
     part-boot-start
     part-boot-end
     boot-requires
-    put-record-requires
+    put-node-requires
     returns)

@@ -28,7 +28,7 @@ put-input-requires c κs = (search needs, search needs, search needs, subst Good
 
 -- src/put.rt:91:1
 returns : tie.Need-returns
-returns c = input-added (c .before .wide .ensures .0) (c .put-input .ensures .0) (c .put-input .ensures .1)
+returns c = input-added (c .before .wide .ensures .0) (c .put-input .ensures)
 
 pub put-in-spec : {M : Type 1} → statement M
 put-in-spec = tie.close (tie.spec sub-put-input part-put-input-start part-put-input-end wide-requires put-input-requires returns)
