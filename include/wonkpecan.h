@@ -140,8 +140,9 @@ fbs_reply fbs_run_network(const uint8_t *text, size_t text_length, const uint8_t
 fbs_sum fbs_sum_reading(const uint8_t *text, size_t text_length, size_t node, int32_t value);
 
 /* Trial mode: where a value with an error is found on a circle of 2^32. For P of 2, 4, 8 or 16 the step is 2^31 / P, value v stands at
- * v steps, the error is added, phases wrap at 2^32, and the nearest slot of 2P is answered, halves going up. It is v exactly for errors from
- * minus half a step up to but not including plus half. 36 for another P, then 37 for a value below 0 or above 2P - 1. */
+ * v steps, the error is added, phases wrap at 2^32, and the nearest slot of 2P is answered, exactly between two the even one (between
+ * 2P - 1 and 0 it is 0). It is v exactly for errors from minus half a step to plus half, inclusive for an even v, strictly inside for an
+ * odd one. 36 for another P, then 37 for a value below 0 or above 2P - 1. */
 fbs_slot fbs_find_slot(size_t p, int32_t value, int32_t error);
 
 /* The number in words. */

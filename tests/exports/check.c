@@ -373,12 +373,18 @@ static const struct {
     size_t number, slot;
 } phases[] = {
     {"no error", 4, 5, 0, 0, 5},
-    {"minus half", 4, 5, -HALF4, 0, 5},
-    {"below minus half", 4, 5, -HALF4 - 1, 0, 4},
-    {"below plus half", 4, 5, HALF4 - 1, 0, 5},
-    {"plus half goes up", 4, 5, HALF4, 0, 6},
+    {"odd, minus half", 4, 5, -HALF4, 0, 4},
+    {"odd, above minus half", 4, 5, -HALF4 + 1, 0, 5},
+    {"odd, below plus half", 4, 5, HALF4 - 1, 0, 5},
+    {"odd, plus half", 4, 5, HALF4, 0, 6},
+    {"even, below minus half", 4, 6, -HALF4 - 1, 0, 5},
+    {"even, minus half", 4, 6, -HALF4, 0, 6},
+    {"even, plus half", 4, 6, HALF4, 0, 6},
+    {"even, above plus half", 4, 6, HALF4 + 1, 0, 7},
     {"slot 0, minus half", 2, 0, -HALF2, 0, 0},
     {"slot 0, below minus half", 2, 0, -HALF2 - 1, 0, 3},
+    {"slot 0, plus half", 2, 0, HALF2, 0, 0},
+    {"the last slot, minus half", 2, 3, -HALF2, 0, 2},
     {"the last slot, plus half", 2, 3, HALF2, 0, 0},
     {"the last slot of 32", 16, 31, HALF16 - 1, 0, 31},
     {"the last slot of 32, plus half", 16, 31, HALF16, 0, 0},
@@ -451,7 +457,7 @@ static void *job(void *given) {
         fbs_sum sum = fbs_sum_reading(bytes(summed), strlen(summed), 3, 3);
         j->wrong += sum.number != 0 || sum.count != 3 || sum.bits[2] != 1;
         fbs_slot slot = fbs_find_slot(4, 5, -HALF4);
-        j->wrong += slot.number != 0 || slot.slot != 5;
+        j->wrong += slot.number != 0 || slot.slot != 4;
     }
     return NULL;
 }

@@ -154,8 +154,10 @@ fn check_sums() {
 fn check_slots() {
     let found = |slot| Slot { number: 0, line: 0, slot };
     let no = |number| Slot { number, line: 0, slot: 0 };
-    same("minus half a step", find_slot(16, 1, -67108864), found(1));
-    same("plus half a step", find_slot(16, 1, 67108864), found(2));
+    same("odd, minus half a step", find_slot(16, 1, -67108864), found(0));
+    same("odd, plus half a step", find_slot(16, 1, 67108864), found(2));
+    same("even, minus half a step", find_slot(16, 2, -67108864), found(2));
+    same("even, plus half a step", find_slot(16, 2, 67108864), found(2));
     same("round the circle", find_slot(2, 3, 536870912), found(0));
     same("half of the way round", find_slot(8, 3, i32::MIN), found(11));
     same("36", find_slot(32, -1, 0), no(36));

@@ -19,10 +19,6 @@ round-div n s x hc hs =
     split : x ≡ x / (n * s) * n * s + x % (n * s)
     split = sym (ap (λ y. y + x % (n * s)) (N.mul-assoc (x / (n * s)) n s) ∙ N.div-add-mod' x (n * s))
 
-pub round-add : (n s x h : ℕ) → 0 < n * s → 0 < s → (x % (n * s) + h) / s % n ≡ (x + h) / s % n
-round-add n s x h hc hs =
-    sym (round-div n s (x % (n * s) + h) hc hs) ∙ ap (λ y. y / s) (N.mod-add-mod x (n * s) h) ∙ round-div n s (x + h) hc hs
-
 -- k slots on from v one is at v again after none and after all, and only then
 pub none-on : (n v k : ℕ) → v < n → k ≡ 0 → (v + k) % n ≡ v
 none-on n v k h e = rw (e, N.add-zero) (N.mod-eq-of-lt h)

@@ -1,5 +1,5 @@
 -- The definitions of phases as the machine reckons them: what the proofs of the functions cite.
-use mathlib.Core.Path.{_≡_, refl, sym, ap, _∙_}
+use mathlib.Core.Path.{_≡_, refl, sym}
 use mathlib.Core.Bool.{true, false}
 use Prim.Native.Nat.{ℕ, _+_, _*_, _/_, _%_, _<_, _^_}
 use native.Mathlib.Nat as N
@@ -8,12 +8,11 @@ use borrow.Author.Tests.{le-leb}
 use lib.Dec.{T, ltb}
 use lib.IntN.{ℤ, pos, negsuc, natAbs, _+ℤ_}
 use lib.Signed.{mag, nonNeg, leZ, ltZ}
-use Rattle.laws.specs.Circle.{round-div}
 use Rattle.laws.specs.Integer.{plus, minus, ints, add-parts, ltZ-true}
 use Rattle.laws.specs.Modulo.{modulo, modulo-above, modulo-below, modulo-sum}
 use Rattle.laws.specs.Test.{is-T, both-left, both-right}
-use Rattle.rules.specs.Phase.{isPeriod, isValue, step, half, phase, nearest}
-use Rattle.theorems.specs.Widths.{Widths, widths, period-divides}
+use Rattle.rules.specs.Phase.{isPeriod, isValue, step, half, phase, nearer, nearest}
+use Rattle.theorems.specs.Widths.{Widths, some-step, widths, period-divides}
 
 -- ---- A signed number: not below 0, or below 0; its pattern.
 
@@ -37,9 +36,6 @@ pattern-below (negsuc a) e f =
 module _ (P : ℕ) (p : isPeriod P ≡ true) where
   pub circle : Widths P
   circle = widths P (period-divides P p)
-
-  pub step-some : 0 < step P
-  step-some = let w = circle in omega (arith, w .half-some, w .two-halves)
 
   pub step-small : step P < 2 ^ 32
   step-small = let w = circle in omega (arith, w .half-most, w .two-halves)
@@ -75,18 +71,15 @@ module _ (P : ℕ) (p : isPeriod P ≡ true) where
 
     -- where v stands is still on the circle
     pub stands : (a s : ℕ) → a ≡ natAbs v → s ≡ step P → a * s < 2 ^ 32
-    stands a s e f = rw (e, f) (omega (arith, N.mul-lt-mul-of-pos-right in-circle step-some, circle .around))
+    stands a s e f = rw (e, f) (omega (arith, N.mul-lt-mul-of-pos-right in-circle (some-step circle), circle .around))
 
     pub phase-is : (e : ℤ) → mag e < 2 ^ 31 → (a s b : ℕ) → a ≡ natAbs v → s ≡ step P → b ≡ modulo e (2 ^ 32)
         → (a * s + b) % 2 ^ 32 ≡ phase P (natAbs v) e
     unfolding phase
     phase-is e l a s b f g h = rw (f, g, h) (sym (modulo-sum (natAbs v * step P) (2 ^ 32) e (omega arith)))
 
-  -- ---- The slots.
+-- ---- The slots.
 
-  pub nearest-is : (x s : ℕ) → s ≡ step P → (x + s / 2) % 2 ^ 32 / s ≡ nearest P x
-  unfolding nearest half
-  nearest-is x s e =
-      rw e
-      (ap (λ c. (x + step P / 2) % c / step P) (sym (circle .around))
-      ∙ round-div (2 * P) (step P) (x + step P / 2) (omega (arith, circle .around)) step-some)
+pub nearest-is : (P x s k n : ℕ) → s ≡ step P → k ≡ x / s → n ≡ nearer (s / 2) k (x % s) → n % (2 * P) ≡ nearest P x
+unfolding nearest half
+nearest-is P x s k n e f g = rw (g, f, e)

@@ -1,4 +1,5 @@
-// Phases on the 32-bit circle (document 02, S-5): a value stands at a phase, an error is added, and the nearest slot is found.
+// Phases on the 32-bit circle (document 02, S-5 and S-8): a value stands at a phase, an error is added, and the nearest slot is found.
+// It leans on no other code.
 ghost use mathlib.Core.Path.{_≡_};
 ghost use mathlib.Core.Bool.{true};
 ghost use Prim.Native.Nat.{_+_, _%_, _^_, _<_};
@@ -6,7 +7,7 @@ ghost use lib.Dec.{T};
 ghost use lib.IntN.{natAbs};
 ghost use lib.Signed.{nonNeg};
 ghost use Rattle.laws.specs.Modulo.{modulo};
-ghost use Rattle.rules.specs.Phase.{isPeriod, isValue, step, phase, nearest as nearestSlot, slotAnswer, slotReply};
+ghost use Rattle.rules.specs.Phase.{isPeriod, isValue, step, phase, nearer as nearerSlot, nearest as nearestSlot, slotAnswer, slotReply};
 use rules::SlotReply;
 
 fn wide(x: u32) -> usize
@@ -83,14 +84,31 @@ fn phase_of(p: usize, v: i32, e: i32) -> u32
     moved(value_of(v) * step_of(p), pattern(e))
 }
 
-// The nearest slot: a phase halfway to the next slot belongs to that one.
+// The nearer of slots k and k + 1 for a phase that is so far past slot k; exactly between the two the even one.
+fn nearer(half: u32, k: usize, past: u32) -> usize
+    requires { ⌜ k < 2 ^ 32 ⌝ }
+    ensures { λ r. ⌜ r ≡ nearerSlot half k past ⌝ }
+{
+    if past < half {
+        return k;
+    }
+    if half < past {
+        return k + 1;
+    }
+    if k % 2 == 0 {
+        return k;
+    }
+    k + 1
+}
+
+// The nearest slot; behind slot 2P - 1 comes slot 0.
 fn nearest(p: usize, phase: u32) -> usize
     requires { ⌜ isPeriod p ≡ true ⌝ }
     ensures { λ r. ⌜ r ≡ nearestSlot p phase ⌝ }
 {
     let step = step_of(p);
-    let half_on = moved(phase, step / 2);
-    wide(half_on / step)
+    let k = wide(phase / step);
+    nearer(step / 2, k, phase % step) % (2 * p)
 }
 
 // The slot of value v with error e, for P of 2, 4, 8 or 16.

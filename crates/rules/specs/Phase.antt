@@ -1,7 +1,7 @@
--- Phases on the 32-bit circle (document 02, S-5): where a value with an error stands, and the slot that is nearest.
+-- Phases on the 32-bit circle (document 02, S-5 and S-8): where a value with an error stands, and the slot that is nearest.
 use mathlib.Core.Bool.{Bool, not, _&&_, _||_}
 use Prim.Native.Nat.{ℕ, _+_, _*_, _/_, _%_, _^_}
-use lib.Dec.{eqb}
+use lib.Dec.{eqb, ltb}
 use lib.IntN.{ℤ, pos, natAbs, _+ℤ_}
 use lib.Signed.{leZ, ltZ}
 use Rattle.laws.specs.Modulo.{modulo}
@@ -28,9 +28,17 @@ half P = step P / 2
 unfoldable pub phase : ℕ → ℕ → ℤ → ℕ
 phase P v e = modulo (pos (v * step P) +ℤ e) (2 ^ 32)
 
--- The rounding: the nearest of the slots 0 to 2P - 1. Slot k stands at k times the step; a phase halfway to the next slot belongs to that one.
+-- The nearer of slots k and k + 1 for a phase that is so far past slot k, h being half a step; exactly between the two the even one.
+unfoldable pub nearer : ℕ → ℕ → ℕ → ℕ
+nearer h k past =
+    if ltb past h then k
+    else if ltb h past then k + 1
+    else if eqb (k % 2) 0 then k
+    else k + 1
+
+-- The rounding: the nearest of the slots 0 to 2P - 1. Slot k stands at k times the step, and behind slot 2P - 1 comes slot 0.
 unfoldable pub nearest : ℕ → ℕ → ℕ
-nearest P x = (x + half P) / step P % (2 * P)
+nearest P x = nearer (half P) (x / step P) (x % step P) % (2 * P)
 
 unfoldable pub slot : ℕ → ℕ → ℤ → ℕ
 slot P v e = nearest P (phase P v e)

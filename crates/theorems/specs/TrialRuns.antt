@@ -1,5 +1,5 @@
--- Trial runs of an admitted network on phases (document 02, S-5): for each error from minus half a step up to but not including plus half the
--- boot rule at the slot found gives the network's bit.
+-- Trial runs of an admitted network on phases (document 02, S-5 and S-8): for each error under which a value is found the boot rule at the
+-- slot found gives the network's bit.
 use mathlib.Core.Path.{_≡_, sym, ap, _∙_}
 use mathlib.Core.Bool.{true}
 use mathlib.Core.List.{List, []}
@@ -34,16 +34,17 @@ pub record TrialRuns (text : List ℕ) : Type 0 where
   pub read : readNetwork text ≡ Good network
   -- each table, each v within its length: bit v
   pub table-bit : isPeriod (network .p) ≡ true → (k i : ℕ) (table : List ℕ) → nodeAt (network .nodes) k ≡ Bootstrap i table
-      → (v : ℕ) → v < length table → (e : ℤ) → Signed32 e → Within (network .p) e → Tried (network .p) table v e (pos (getD table v 0))
+      → (v : ℕ) → v < length table → (e : ℤ) → Signed32 e → Within (network .p) v e → Tried (network .p) table v e (pos (getD table v 0))
   -- in a run each `boot`, its node being v: what the `boot` is
   pub run-bit : isPeriod (network .p) ≡ true → (bits : List ℕ) → T (bitsFor (count isInput (network .nodes)) bits)
       → (values : List ℤ) → nodeValues (network .p) bits [] (network .nodes) ≡ some values
-      → (k i : ℕ) (table : List ℕ) → nodeAt (network .nodes) k ≡ Bootstrap i table → (e : ℤ) → Signed32 e → Within (network .p) e
-      → (v : ℕ) × (getD values i (pos 0) ≡ pos v) × Tried (network .p) table v e (getD values k (pos 0))
+      → (k i : ℕ) (table : List ℕ) → nodeAt (network .nodes) k ≡ Bootstrap i table
+      → (v : ℕ) × (getD values i (pos 0) ≡ pos v)
+      × ((e : ℤ) → Signed32 e → Within (network .p) v e → Tried (network .p) table v e (getD values k (pos 0)))
 
 -- ---- A table that a rotation gives.
 
-tried : (P : ℕ) (table : List ℕ) → isPeriod P ≡ true → Rotatable P table → (v : ℕ) → v < length table → (e : ℤ) → Signed32 e → Within P e
+tried : (P : ℕ) (table : List ℕ) → isPeriod P ≡ true → Rotatable P table → (v : ℕ) → v < length table → (e : ℤ) → Signed32 e → Within P v e
     → Tried P table v e (pos (getD table v 0))
 tried P table p t v l e f w =
     let x = slot-exact P v e p (omega (arith, t .short)) f in
@@ -68,21 +69,22 @@ trial-runs text s a = record { network = w; read = admitted-safe text s a .read;
     safe = admitted-safe text s a .safe
 
     in-table : isPeriod (w .p) ≡ true → (k i : ℕ) (table : List ℕ) → nodeAt (w .nodes) k ≡ Bootstrap i table
-        → (v : ℕ) → v < length table → (e : ℤ) → Signed32 e → Within (w .p) e → Tried (w .p) table v e (pos (getD table v 0))
+        → (v : ℕ) → v < length table → (e : ℤ) → Signed32 e → Within (w .p) v e → Tried (w .p) table v e (pos (getD table v 0))
     in-table p k i table h = tried (w .p) table p (safe _ (zeros-for (count isInput (w .nodes))) .boots k i table h .1 .turns)
 
     in-run : isPeriod (w .p) ≡ true → (bits : List ℕ) → T (bitsFor (count isInput (w .nodes)) bits)
         → (values : List ℤ) → nodeValues (w .p) bits [] (w .nodes) ≡ some values
-        → (k i : ℕ) (table : List ℕ) → nodeAt (w .nodes) k ≡ Bootstrap i table → (e : ℤ) → Signed32 e → Within (w .p) e
-        → (v : ℕ) × (getD values i (pos 0) ≡ pos v) × Tried (w .p) table v e (getD values k (pos 0))
-    in-run p bits b values r k i table h e f n =
+        → (k i : ℕ) (table : List ℕ) → nodeAt (w .nodes) k ≡ Bootstrap i table
+        → (v : ℕ) × (getD values i (pos 0) ≡ pos v)
+        × ((e : ℤ) → Signed32 e → Within (w .p) v e → Tried (w .p) table v e (getD values k (pos 0)))
+    in-run p bits b values r k i table h =
         let same : safe bits b .values ≡ values = Option·some-injective _ _ (sym (safe bits b .run) ∙ r) in
-        let look = safe bits b .boots k i table h .1 in
-        let is = tried (w .p) table p (look .turns) (look .v) (look .inside) e f n in (
+        let look = safe bits b .boots k i table h .1 in (
           look .v,
           ap (λ vs. getD vs i (pos 0)) (sym same) ∙ look .reads,
-          record {
-            answers = is .answers;
-            gives = is .gives ∙ ap {B = Option ℤ} some (sym (look .gives) ∙ ap (λ vs. getD vs k (pos 0)) same);
-          },
+          λ e f n. let is = tried (w .p) table p (look .turns) (look .v) (look .inside) e f n in
+              record {
+                answers = is .answers;
+                gives = is .gives ∙ ap {B = Option ℤ} some (sym (look .gives) ∙ ap (λ vs. getD vs k (pos 0)) same);
+              },
         )

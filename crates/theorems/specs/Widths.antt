@@ -17,6 +17,9 @@ pub record Widths (P : ℕ) : Type 0 where
   pub around : 2 * P * step P ≡ 2 ^ 32
   pub some-slots : 0 < P
 
+pub some-step : {P : ℕ} → Widths P → 0 < step P
+some-step w = omega (arith, w .half-some, w .two-halves)
+
 pub widths : (P : ℕ) → P ∣ 2 ^ 30 → Widths P
 unfolding step half
 widths P d =
