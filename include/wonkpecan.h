@@ -48,7 +48,6 @@ enum fbs_number {
     /* mapping it: fbs_map */
     FBS_NORM_LIMIT = 8,       /* limit 0, a NOT */
     FBS_NO_COMPOSITION = 9,   /* P = M = 2, AND */
-    FBS_BAD_ENCODING = 10,    /* none known */
     FBS_SHORT_ANSWER = 11,    /* buffer of 0 bytes */
     /* a network's text: fbs_admit, fbs_sum_reading; fbs_run_network has 21 and 22 alone */
     FBS_NET_TEXT = 21,        /* (lin 0 (0 0)); empty text, line 1 */
@@ -158,7 +157,6 @@ static inline const char *fbs_phrase(size_t number) {
     case FBS_WIRES_OR_BITS: return "a gate has not 1 or 2 wires, or not 2 or 4 bits to match";
     case FBS_NORM_LIMIT: return "a unary gate or Basic's network is over the norm limit";
     case FBS_NO_COMPOSITION: return "a gate has no composition, even with both sides bootstrapped";
-    case FBS_BAD_ENCODING: return "a gate's cone is an invalid encoding";
     case FBS_SHORT_ANSWER: return "the answer buffer is too short for the network";
     case FBS_NET_TEXT: return "the network text breaks a form, order, count, setting or unique name";
     case FBS_NET_NODE: return "a line names no earlier node, or a sum stands on a sum";

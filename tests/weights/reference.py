@@ -132,8 +132,7 @@ class Mapper:
         return not self.is_over(self.size(cone)[1]) and self.table(cone.coefs, cone.truth) is not None
 
     def validated(self, cone):
-        if self.table(cone.coefs, cone.truth) is None:
-            raise Refused(10)
+        assert self.table(cone.coefs, cone.truth) is not None  # so never 10
         if self.is_over(self.size(cone)[1]):
             raise Refused(8)
         return cone

@@ -14,7 +14,7 @@ use Rattle.laws.specs.Test.{if_then_else_, decide}
 use Rattle.rules.specs.declared.Settings.{Settings}
 use Rattle.rules.specs.Builder.{knownEntries}
 use Rattle.rules.specs.Cone as C
-use Rattle.rules.specs.Cone.{Result, Candidate, values, coneSpan, linearTable, validateCone}
+use Rattle.rules.specs.Cone.{Candidate, values, coneSpan, linearTable}
 use Rattle.rules.specs.Composition.{scales, unionSupport, mergedCoefficients, findCandidate, simplifyCone, mergeCones}
 use Rattle.rules.specs.Network.{LutNode}
 use Rattle.rules.specs.NetworkText.{allDifferent}
@@ -52,21 +52,12 @@ pub record Mergeable (basis : Basis) (best : Score) : Type 0 where
   pub cone : IsCone (mergedOf basis best)
 
 -- What is made of the pair, if there is one.
-unfoldable pub judgedBy : Settings → List LutNode → Basis → Score → Option (Result C.Cone)
-judgedBy s nodes basis best = if best .found then some (validateCone s nodes (simplifyCone (coneOf (mergedOf basis best)))) else none
+unfoldable pub mergedBy : Basis → Score → Option C.Cone
+mergedBy basis best = if best .found then some (simplifyCone (coneOf (mergedOf basis best))) else none
 
-pub record Judges (basis : Basis) (best : Score) (c : Cone) : Type 0 where
+pub record MergedTo (basis : Basis) (best : Score) (c : Cone) : Type 0 where
   pub cone : IsCone c
   pub is : coneOf c ≡ simplifyCone (coneOf (mergedOf basis best))
-
-pub judged-none : (s : Settings) (nodes : List LutNode) (basis : Basis) (best : Score) → best .found ≡ false → none ≡ judgedBy s nodes basis best
-unfolding judgedBy
-judged-none s nodes basis best e = sym (ap (λ t. if t then some (validateCone s nodes (simplifyCone (coneOf (mergedOf basis best)))) else none) e)
-
-pub judged-found : (s : Settings) (nodes : List LutNode) (basis : Basis) (best : Score) → best .found ≡ true
-    → some (validateCone s nodes (simplifyCone (coneOf (mergedOf basis best)))) ≡ judgedBy s nodes basis best
-unfolding judgedBy
-judged-found s nodes basis best e = sym (ap (λ t. if t then some (validateCone s nodes (simplifyCone (coneOf (mergedOf basis best)))) else none) e)
 
 -- ---- the same cone in other arrays
 same-cone : (c d : Cone) → c .n ≡ d .n → c .known ≡ d .known → coneOf c ≡ coneOf d → IsCone d → IsCone c
@@ -199,23 +190,22 @@ module _ (left right : C.Cone) (truth : List ℕ) (basis : Basis) (best : Score)
           ∙ ap (λ k. some (take k (best .known))) (found .span-is ∙ ap coneSpan (sym merged-is))
           ∙ ap (λ l. some (take (coneSpan (coneOf (mergedOf basis best))) l)) (known-is basis best)
 
--- the judgement is the definition's
+-- it is the definition's
 module _ (s : Settings) (nodes : List LutNode) (left right : C.Cone) (truth : List ℕ) (basis : Basis) (best : Score) (is : IsBasis left right basis)
     (rows : Rows (take (basis .n) (basis .left)) (take (basis .n) (basis .right))) (t-long : length truth ≡ 2 ^ basis .n) (finds : Finds s nodes left right truth best) where
-  pub judged-is : judgedBy s nodes basis best
-      ≡ Option·map (mergeCones s nodes) (findCandidate s nodes (unionSupport (left .support) (right .support)) left right truth)
-  unfolding judgedBy candidateOf mergeCones
-  judged-is =
+  pub merged-by : mergedBy basis best ≡ Option·map mergeCones (findCandidate s nodes (unionSupport (left .support) (right .support)) left right truth)
+  unfolding mergedBy candidateOf mergeCones
+  merged-by =
       ⊎-elim
       (λ (e : best .found ≡ true).
-      ap (λ t. if t then some (validateCone s nodes (simplifyCone (coneOf (mergedOf basis best)))) else none) e
-      ∙ ap (λ c. some (validateCone s nodes (simplifyCone c))) (merged-is left right truth basis best s is rows t-long (finds .found e))
-      ∙ ap (λ t. Option·map (mergeCones s nodes) (if t then some one else none)) (sym e))
+      ap (λ t. if t then some (simplifyCone (coneOf (mergedOf basis best))) else none) e
+      ∙ ap (λ c. some (simplifyCone c)) (merged-is left right truth basis best s is rows t-long (finds .found e))
+      ∙ ap (λ t. Option·map mergeCones (if t then some one else none)) (sym e))
       (λ (e : best .found ≡ false).
-      ap (λ t. if t then some (validateCone s nodes (simplifyCone (coneOf (mergedOf basis best)))) else none) e
-      ∙ ap (λ t. Option·map (mergeCones s nodes) (if t then some one else none)) (sym e))
+      ap (λ t. if t then some (simplifyCone (coneOf (mergedOf basis best))) else none) e
+      ∙ ap (λ t. Option·map mergeCones (if t then some one else none)) (sym e))
       (decide (best .found))
-      ∙ ap (Option·map (mergeCones s nodes)) (finds .candidate)
+      ∙ ap (Option·map mergeCones) (finds .candidate)
     where
       one : Candidate
       one = record { score = scoreList best; cone = mergedCone (unionSupport (left .support) (right .support)) left right truth (best .a) (best .b) }

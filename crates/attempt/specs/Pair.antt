@@ -11,7 +11,7 @@ use Rattle.laws.specs.Test.{if_then_else_}
 use Rattle.rules.specs.declared.Settings.{Settings}
 use Rattle.rules.specs.CircuitText.{inLimits}
 use Rattle.rules.specs.Cone as C
-use Rattle.rules.specs.Cone.{Result, ok, constant, linearTable}
+use Rattle.rules.specs.Cone.{constant, linearTable}
 use Rattle.rules.specs.Composition.{unionSupport, gateTruth, allEqual, mergeCones, findCandidate, compose}
 use Rattle.rules.specs.Network.{LutNode}
 use Rattle.rules.specs.Span.{least, span}
@@ -48,12 +48,12 @@ pub record Trial (s : Settings) (bytes : List ℕ) (count : ℕ) (left right : C
   pub over : IsBasis (coneOf left) (coneOf right) basis
 
 -- What a gate on two cones is where the sources are not too many.
-unfoldable pub gated : Settings → List LutNode → C.Cone → C.Cone → List ℕ → Option (Result C.Cone)
+unfoldable pub gated : Settings → List LutNode → C.Cone → C.Cone → List ℕ → Option C.Cone
 gated s nodes left right gate =
     let support = unionSupport (left .support) (right .support) in
     let truth = gateTruth support left right gate in
-    let merged = Option·map (mergeCones s nodes) (findCandidate s nodes support left right truth) in
-    if allEqual truth then some (ok (constant (getD truth 0 0))) else merged
+    let merged = Option·map mergeCones (findCandidate s nodes support left right truth) in
+    if allEqual truth then some (constant (getD truth 0 0)) else merged
 
 -- ---- laws: too many sources, or not
 module _ (s : Settings) (nodes : List LutNode) (left right : C.Cone) (gate : List ℕ) where
@@ -66,12 +66,12 @@ module _ (s : Settings) (nodes : List LutNode) (left right : C.Cone) (gate : Lis
   compose-within h = rw (le-ltb (s .t + 1) (length (unionSupport (left .support) (right .support))) h)
 
   pub gated-constant : allEqual (gateTruth (unionSupport (left .support) (right .support)) left right gate) ≡ true
-      → some (ok (constant (getD (gateTruth (unionSupport (left .support) (right .support)) left right gate) 0 0))) ≡ gated s nodes left right gate
+      → some (constant (getD (gateTruth (unionSupport (left .support) (right .support)) left right gate) 0 0)) ≡ gated s nodes left right gate
   unfolding gated
   gated-constant e = rw e
 
   pub gated-merged : allEqual (gateTruth (unionSupport (left .support) (right .support)) left right gate) ≡ false
-      → Option·map (mergeCones s nodes) (findCandidate s nodes (unionSupport (left .support) (right .support)) left right (gateTruth (unionSupport (left .support) (right .support)) left right gate))
+      → Option·map mergeCones (findCandidate s nodes (unionSupport (left .support) (right .support)) left right (gateTruth (unionSupport (left .support) (right .support)) left right gate))
       ≡ gated s nodes left right gate
   unfolding gated
   gated-merged e = rw e

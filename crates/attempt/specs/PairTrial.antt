@@ -42,7 +42,7 @@ use Rattle.search.specs.Reuse.{Stored}
 use Rattle.merged_rows.specs.RowsCompacted.{sumOver, Compacted}
 use Rattle.merged_rows.specs.RowsFrame.{InFrame, Framed, Moved, tables-framed}
 use Rattle.search.specs.Search.{Ready}
-use Rattle.attempt.specs.Merged.{mergedOf, Mergeable, judgedBy, Judges, merged-support, merged-coefs-long, found-mergeable, judged-is}
+use Rattle.attempt.specs.Merged.{mergedOf, Mergeable, mergedBy, MergedTo, merged-support, merged-coefs-long, found-mergeable, merged-by}
 use Rattle.cone.specs.Sources.{Near, Below, Stands}
 use Rattle.attempt.specs.Pair.{FrameOf, Tabled, Trial}
 use Rattle.theorems.specs.SettingLimits.{limits-m}
@@ -148,8 +148,8 @@ module _ (s : Settings) (bytes : List ℕ) (count : ℕ) (left right : Cone) (ba
       trial-mergeable e =
           found-mergeable (coneOf left) (coneOf right) (take rows ts) basis best s (t .over) trial-rows truth-rows (finds .found e) trial-small trial-different trial-near
 
-      pub trial-judged : judgedBy s nodes basis best ≡ Option·map (mergeCones s nodes) (findCandidate s nodes U (coneOf left) (coneOf right) (take rows ts))
-      trial-judged = judged-is s nodes (coneOf left) (coneOf right) (take rows ts) basis best (t .over) trial-rows truth-rows finds
+      pub trial-merged : mergedBy basis best ≡ Option·map mergeCones (findCandidate s nodes U (coneOf left) (coneOf right) (take rows ts))
+      trial-merged = merged-by s nodes (coneOf left) (coneOf right) (take rows ts) basis best (t .over) trial-rows truth-rows finds
 
     -- the rows that stand for all rows
     module _ (n : ℕ) (xs′ ys′ : List ℤ) (ts′ counts : List ℕ)
@@ -258,7 +258,7 @@ module _ (s : Settings) (bytes : List ℕ) (count : ℕ) (left right : Cone) (ba
       )
 
   -- without the sources that a pair cancels
-  pub trial-below : (best : Score) → Below count (simplifyCone (coneOf (mergedOf basis best)))
+  trial-below : (best : Score) → Below count (simplifyCone (coneOf (mergedOf basis best)))
   trial-below best = simplified-below count (coneOf (mergedOf basis best)) long (rw sup trial-sources)
     where
       sup : coneOf (mergedOf basis best) .support ≡ U
@@ -267,5 +267,5 @@ module _ (s : Settings) (bytes : List ℕ) (count : ℕ) (left right : Cone) (ba
       long : length (coneOf (mergedOf basis best) .coefficients) ≡ length (coneOf (mergedOf basis best) .support)
       long = merged-coefs-long basis best trial-rows lefts-long ∙ t .over .count ∙ ap length (sym sup)
 
-  pub trial-stands : (best : Score) (c : Cone) → Judges basis best c → Stands count c
+  pub trial-stands : (best : Score) (c : Cone) → MergedTo basis best c → Stands count c
   trial-stands best c j = record { cone = j .cone; below = rw (j .is) (trial-below best) }

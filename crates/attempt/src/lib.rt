@@ -1,12 +1,10 @@
-// One attempt to merge two cones under a gate, without a bootstrap: both tables, the search, the merged cone and its check.
+// One attempt to merge two cones under a gate, without a bootstrap: both tables, the search and the merged cone.
 // It leans on `compose`, `search` and `cone`.
 use compose::Basis;
 use compose::basis_of;
 use compose::cone_composition_tables;
 use compose::simplify::simplify_cone;
 use cone::Cone;
-use cone::valid::Validity;
-use cone::valid::validate_cone;
 use linear::linear_least;
 use linear::linear_span;
 use linear::rows_of;
@@ -22,11 +20,10 @@ use support::union_support_size;
 ghost use mathlib.Core.Path.{_≡_};
 ghost use mathlib.Core.Bool.{true, false};
 ghost use mathlib.Core.List.{List};
-ghost use mathlib.Core.Option.{some};
 ghost use Prim.Native.Nat.{ℕ, _≤_};
 ghost use lib.ListN.{length, take};
 ghost use Rattle.rules.specs.CircuitText.{inLimits};
-ghost use Rattle.rules.specs.Cone.{linearTable, validateCone};
+ghost use Rattle.rules.specs.Cone.{linearTable};
 ghost use Rattle.rules.specs.Composition.{allEqual, compose, simplifyCone, unionSupport};
 ghost use Rattle.rules.specs.Runs.{allBits};
 ghost use Rattle.scale.specs.Limits.{Within};
@@ -36,14 +33,14 @@ ghost use Rattle.rules.specs.Cone as C;
 ghost use Rattle.search.specs.Policies.{Attempted, Finds};
 ghost use Rattle.search.specs.Reuse.{Stored};
 ghost use Rattle.search.specs.Search.{Ready};
-ghost use Rattle.attempt.specs.Merged.{mergedOf, Mergeable, judgedBy, Judges};
+ghost use Rattle.attempt.specs.Merged.{mergedOf, Mergeable, mergedBy, MergedTo};
 ghost use Rattle.attempt.specs.Pair.{FrameOf, Tabled, Trial, gated};
-ghost use Rattle.cone.specs.Sources.{Below, Stands, AreNodes};
+ghost use Rattle.cone.specs.Sources.{Stands};
 ghost use Rattle.attempt.specs.Tried.{triedOf};
 
-// state: 0 no composition, 1 a cone, else the refusal's number.
+// The cone, if the two sides are composed.
 pub struct Tried {
-    pub state: usize,
+    pub found: bool,
     pub cone: Cone,
 }
 
@@ -145,7 +142,7 @@ fn best_pair(
     find_among(s, first, second, basis, m, nodes, count, n, xs, ys, truth)
 }
 
-// merge_cones, before the judgement: the cone of a scale pair, without the sources that it cancels.
+// merge_cones: the cone of a scale pair, without the sources that it cancels.
 fn merged(basis: Basis, best: Score) -> Cone
     requires { ⌜ Mergeable basis best ⌝ }
     ensures { λ r. ⌜ IsCone r × (coneOf r ≡ simplifyCone (coneOf (mergedOf basis best))) ⌝ }
@@ -164,34 +161,20 @@ fn merged(basis: Basis, best: Score) -> Cone
     })
 }
 
-// A cone that may stand, or the number of the refusal.
-fn validated(s: Settings, nodes: &[u8; 26880], cone: Cone) -> Tried
-    requires { ⌜ IsCone cone × AreNodes (now nodes) (coneOf cone .support) ⌝ }
-    ensures is { λ r. ⌜ ((count : ℕ) → Below count (coneOf cone) → triedOf r ≡ some (validateCone s (storeOf (now (nodes .entry)) count) (coneOf cone))) ⌝ }
-    ensures same { λ r. ⌜ r .cone ≡ cone ⌝ }
-{
-    let state = match validate_cone(s, nodes, cone) {
-        Validity::Valid => 1,
-        Validity::OverNorm => 8,
-        Validity::Invalid => 10,
-    };
-    Tried { state, cone }
-}
-
 // The merged cone of the best pair, if there is one.
-fn judged(s: Settings, nodes: &[u8; 26880], left: Cone, basis: Basis, best: Score) -> Tried
-    requires { ⌜ (best .found ≡ true → Mergeable basis best) × AreNodes (now nodes) (simplifyCone (coneOf (mergedOf basis best)) .support) ⌝ }
-    ensures is { λ r. ⌜ ((count : ℕ) → Below count (simplifyCone (coneOf (mergedOf basis best))) → triedOf r ≡ judgedBy s (storeOf (now (nodes .entry)) count) basis best) ⌝ }
-    ensures cone { λ r. ⌜ (r .state ≡ 1 → Judges basis best (r .cone)) ⌝ }
+fn best_merged(left: Cone, basis: Basis, best: Score) -> Tried
+    requires { ⌜ (best .found ≡ true → Mergeable basis best) ⌝ }
+    ensures is { λ r. ⌜ triedOf r ≡ mergedBy basis best ⌝ }
+    ensures cone { λ r. ⌜ (r .found ≡ true → MergedTo basis best (r .cone)) ⌝ }
 {
     if !best.found {
         return Tried {
-            state: 0,
+            found: false,
             cone: left,
         };
     }
     let cone = merged(basis, best);
-    validated(s, nodes, cone)
+    Tried { found: true, cone }
 }
 
 // The constant, the merged cone, or no composition, where the sources are not too many.
@@ -206,7 +189,7 @@ fn composed(
 ) -> Tried
     requires { ⌜ Trial s (now nodes) count left right basis × (allBits gate ≡ true) ⌝ }
     ensures is { λ r. ⌜ triedOf r ≡ gated s (storeOf (now (nodes .entry)) count) (coneOf left) (coneOf right) gate ⌝ }
-    ensures stands { λ r. ⌜ (r .state ≡ 1 → Stands count (r .cone)) ⌝ }
+    ensures stands { λ r. ⌜ (r .found ≡ true → Stands count (r .cone)) ⌝ }
 {
     let mut xs = [0i32; 2048];
     let mut ys = [0i32; 2048];
@@ -215,7 +198,7 @@ fn composed(
     let rows = rows_of(basis.n);
     if all_equal(&truth[..rows]) {
         return Tried {
-            state: 1,
+            found: true,
             cone: Cone::constant(truth[0]),
         };
     }
@@ -231,7 +214,7 @@ fn composed(
         &mut ys,
         &mut truth,
     );
-    judged(s, nodes, left, basis, best)
+    best_merged(left, basis, best)
 }
 
 // One attempt: the constant, the merged cone, or no composition.
@@ -245,11 +228,11 @@ pub fn attempt(
 ) -> Tried
     requires { ⌜ (inLimits s ≡ true) × (IsStore (now nodes) count × (Stands count left × (Stands count right × (allBits gate ≡ true)))) ⌝ }
     ensures is { λ r. ⌜ triedOf r ≡ compose s (storeOf (now (nodes .entry)) count) (coneOf left) (coneOf right) gate ⌝ }
-    ensures stands { λ r. ⌜ (r .state ≡ 1 → Stands count (r .cone)) ⌝ }
+    ensures stands { λ r. ⌜ (r .found ≡ true → Stands count (r .cone)) ⌝ }
 {
     if s.t + 1 < union_size(left, right) {
         return Tried {
-            state: 0,
+            found: false,
             cone: left,
         };
     }

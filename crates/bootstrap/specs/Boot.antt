@@ -2,7 +2,7 @@
 use mathlib.Core.Path.{_≡_, sym, ap, ap₂, _∙_}
 use mathlib.Core.List.{List, [], _∷_, _++_}
 use mathlib.Core.Logic.{⊎-elim}
-use mathlib.Core.Option.{Option, none, some}
+use mathlib.Core.Option.{Option·getD}
 use Prim.Native.Nat.{ℕ, _+_, _≤_, _<_}
 use native.Mathlib.Omega.{arith}
 use lib.IntN.{negℤ}
@@ -10,9 +10,9 @@ use lib.ListN.{length, take, length-append}
 use Rattle.laws.specs.Integer.{abs-neg}
 use Rattle.laws.specs.Test.{zero≢one}
 use Rattle.rules.specs.declared.Settings.{Settings}
-use Rattle.rules.specs.Builder.{completion}
+use Rattle.rules.specs.Builder.{lastTried}
 use Rattle.rules.specs.Cone as C
-use Rattle.rules.specs.Cone.{Result, ok, err, identity, values, coneSpan, completed, bootstrapTable, terms}
+use Rattle.rules.specs.Cone.{identity, values, coneSpan, bootstrapTable, terms}
 use Rattle.rules.specs.Network.{LutNode, Linear, Bootstrap}
 use Rattle.rules.specs.Span.{least}
 use Rattle.rules.specs.Store.{Stored, linearOf, linearTerms, intern, numberOf, bootstrapped}
@@ -24,7 +24,7 @@ use Rattle.cone.specs.View.{coneOf, IsCone, small, low-small}
 use Rattle.lut.specs.declared.Linked.{Linked}
 use Rattle.lut.specs.declared.Signal.the-variants as Signals
 use Rattle.nodes.specs.declared.record.Terms.{Terms}
-use Rattle.lut.specs.Store.{Interns, Bootstraps}
+use Rattle.lut.specs.Store.{Interns}
 use Rattle.nodes.specs.View.{term, termsIn, FineTerms, GoodTerms, storeOf, store-length}
 use Rattle.cone.specs.Sources.{Below, Stands, identity-stands}
 use Rattle.bootstrap.specs.View.{Boots, bootedOf}
@@ -40,8 +40,8 @@ pub record SumOf (d : Cone) (t : Terms) : Type 0 where
 node-injective : (a b : ℕ) → Signals.Node a ≡ Signals.Node b → a ≡ b
 node-injective a b e = cc
 
-node-refused : (a : ℕ) → Signals.Node a ≡ Signals.Refused → ⊥
-node-refused a e = zero≢one (cc)
+node-constant : (a b : ℕ) → Signals.Node a ≡ Signals.Const b → ⊥
+node-constant a b e = zero≢one (cc)
 
 -- ---- laws: the sum
 
@@ -89,73 +89,48 @@ module _ (n : LutNode) (bytes : List ℕ) (count : ℕ) (after : List ℕ) (r : 
   pub told-inside : (k : ℕ) → r .signal ≡ Signals.Node k → k < r .count
   told-inside k e = rw (number-told k e) number-inside
 
-  pub not-refused : r .signal ≡ Signals.Refused → ⊥
-  not-refused e = node-refused _ (sym (i .signal) ∙ e)
+  pub not-constant : (b : ℕ) → r .signal ≡ Signals.Const b → ⊥
+  not-constant b e = node-constant _ b (sym (i .signal) ∙ e)
 
 -- ---- laws: the cone's bootstrap
 
 built : (s : Settings) (c : C.Cone) (nodes withLinear withBoot : List LutNode) (source node : ℕ) (table : List ℕ) → withLinear ≡ intern (linearOf s c) nodes
     → source ≡ numberOf (linearOf s c) (intern (linearOf s c) nodes) → withBoot ≡ intern (Bootstrap source table) withLinear
     → node ≡ numberOf (Bootstrap source table) (intern (Bootstrap source table) withLinear)
-    → ok (record { nodes = withBoot; cone = identity node }) ≡ bootstrapped s nodes c (some table)
+    → record { nodes = withBoot; cone = identity node } ≡ bootstrapped s nodes c table
 unfolding bootstrapped
 built s c nodes withLinear withBoot source node table e f g h = rw (h, g, e, f)
 
 module _ (s : Settings) (bytes : List ℕ) (count : ℕ) (d : Cone) (h : Stands count d) where
-  table-known : bootstrapTable (s .p) (coneOf d) ≡ completion (s .p) (take (coneSpan (coneOf d)) (d .known))
-  unfolding bootstrapTable completed
-  table-known = ap (completed (s .p)) (h .cone .held)
+  -- the table of the cone's known entries
+  pub table-known : lastTried (s .p) (take (coneSpan (coneOf d)) (d .known)) ≡ bootstrapTable (s .p) (coneOf d)
+  unfolding bootstrapTable
+  table-known = ap (λ o. lastTried (s .p) (Option·getD o [])) (sym (h .cone .held))
 
-  pub boots-not : (after : List ℕ) → Boots count after (record { number = 10; count = count; cone = d })
-  boots-not after = record { grown = λ e. absurd (omega (arith, e)); stands = λ e. absurd (omega (arith, e)) }
+  module _ (middle : List ℕ) (sum : Linked) (i : Interns (linearOf s (coneOf d)) bytes count middle sum) (source : ℕ) (e : sum .signal ≡ Signals.Node source) (after : List ℕ) (made : Linked)
+      (b : Interns (Bootstrap source (bootstrapTable (s .p) (coneOf d))) middle (sum .count) after made) (node : ℕ) (f : made .signal ≡ Signals.Node node) where
+    abbrev table : List ℕ
+    table = bootstrapTable (s .p) (coneOf d)
 
-  module _ (middle : List ℕ) (sum : Linked) (i : Interns (linearOf s (coneOf d)) bytes count middle sum)
-      (source : ℕ) (e : sum .signal ≡ Signals.Node source) (after : List ℕ) (made : Linked)
-      (b : Bootstraps source (completion (s .p) (take (coneSpan (coneOf d)) (d .known))) middle (sum .count) after made) where
-    abbrev answer : Result Stored
-    answer = bootstrapped s (storeOf bytes count) (coneOf d) (bootstrapTable (s .p) (coneOf d))
+    inside : node < made .count
+    inside = told-inside (Bootstrap source table) middle (sum .count) after made b node f
 
-    pub refused-is : made .signal ≡ Signals.Refused → bootedOf after (record { number = 10; count = count; cone = d }) ≡ answer
-    unfolding bootstrapped bootedOf Bootstraps
-    refused-is f = by (completion (s .p) (take (coneSpan (coneOf d)) (d .known))) table-known b
-      where
-        by : (o : Option (List ℕ)) → bootstrapTable (s .p) (coneOf d) ≡ o → Bootstraps source o middle (sum .count) after made → err 10 ≡ answer
-        by none q r = ap (bootstrapped s (storeOf bytes count) (coneOf d)) (sym q)
-        by (some table) q r = absurd (not-refused (Bootstrap source table) middle (sum .count) after made r f)
+    pub node-near : node < 672
+    node-near = omega (arith, inside, b .still .most)
 
-    module _ (node : ℕ) (f : made .signal ≡ Signals.Node node) where
-      tabled : (table : List ℕ) × (bootstrapTable (s .p) (coneOf d) ≡ some table) × Interns (Bootstrap source table) middle (sum .count) after made
-      unfolding Bootstraps
-      tabled = by (completion (s .p) (take (coneSpan (coneOf d)) (d .known))) table-known b
-        where
-          by : (o : Option (List ℕ)) → bootstrapTable (s .p) (coneOf d) ≡ o → Bootstraps source o middle (sum .count) after made
-              → (table : List ℕ) × (bootstrapTable (s .p) (coneOf d) ≡ some table) × Interns (Bootstrap source table) middle (sum .count) after made
-          by none q r = absurd (node-refused node (sym f ∙ ap (λ (l : Linked). l .signal) (r .1)))
-          by (some table) q r = (table, q, r)
+    module _ (c : Cone) (is : IsCone c) (g : coneOf c ≡ identity node) where
+      pub made-is : bootedOf after (record { count = made .count; cone = c }) ≡ bootstrapped s (storeOf bytes count) (coneOf d) table
+      unfolding bootedOf
+      made-is =
+          ap {B = Stored} (λ (x : C.Cone). record { nodes = storeOf after (made .count); cone = x }) g
+          ∙ built s (coneOf d) (storeOf bytes count) (storeOf middle (sum .count)) (storeOf after (made .count)) source node table (i .store)
+          (number-told (linearOf s (coneOf d)) bytes count middle sum i source e) (b .store) (number-told (Bootstrap source table) middle (sum .count) after made b node f)
 
-      number-is : node ≡ numberOf (Bootstrap source (tabled .0)) (intern (Bootstrap source (tabled .0)) (storeOf middle (sum .count)))
-      number-is = number-told (Bootstrap source (tabled .0)) middle (sum .count) after made (tabled .2) node f
-
-      inside : node < made .count
-      inside = told-inside (Bootstrap source (tabled .0)) middle (sum .count) after made (tabled .2) node f
-
-      pub node-near : node < 672
-      node-near = omega (arith, inside, tabled .2 .still .most)
-
-      module _ (c : Cone) (is : IsCone c) (g : coneOf c ≡ identity node) where
-        pub made-is : bootedOf after (record { number = 0; count = made .count; cone = c }) ≡ answer
-        unfolding bootedOf
-        made-is =
-            ap (λ (x : C.Cone). ok (record { nodes = storeOf after (made .count); cone = x })) g
-            ∙ built s (coneOf d) (storeOf bytes count) (storeOf middle (sum .count)) (storeOf after (made .count)) source node (tabled .0) (i .store)
-            (number-told (linearOf s (coneOf d)) bytes count middle sum i source e) (tabled .2 .store) number-is
-            ∙ ap (bootstrapped s (storeOf bytes count) (coneOf d)) (sym (tabled .1))
-
-        pub made-stands : Boots count after (record { number = 0; count = made .count; cone = c })
-        made-stands =
-            let a = grown-by-one (linearOf s (coneOf d)) bytes count middle sum i in
-            let b = grown-by-one (Bootstrap source (tabled .0)) middle (sum .count) after made (tabled .2) in
-            record {
-              grown = λ z. record { store = tabled .2 .still; least = omega (arith, a .0, b .0); most = omega (arith, a .1, b .1) };
-              stands = λ z. identity-stands (made .count) node c inside is g;
-            }
+      pub made-stands : Boots count after (record { count = made .count; cone = c })
+      made-stands =
+          let x = grown-by-one (linearOf s (coneOf d)) bytes count middle sum i in
+          let y = grown-by-one (Bootstrap source table) middle (sum .count) after made b in
+          record {
+            grown = record { store = b .still; least = omega (arith, x .0, y .0); most = omega (arith, x .1, y .1) };
+            stands = identity-stands (made .count) node c inside is g;
+          }

@@ -14,7 +14,7 @@ use Rattle.laws.specs.Test.{if_then_else_, if-both}
 use Rattle.rules.specs.declared.Settings.{Settings}
 use Rattle.rules.specs.Builder.{knownEntries}
 use Rattle.rules.specs.Cone as C
-use Rattle.rules.specs.Cone.{Candidate, linearTable, values, coneSpan, completed, bootstrapTable, isLutValid, withinNorm, norm2, fits, better, best}
+use Rattle.rules.specs.Cone.{Candidate, linearTable, values, coneSpan, completed, encoding, isLutValid, withinNorm, norm2, fits, better, best}
 use Rattle.rules.specs.Network.{Term, LutNode, Input, Linear, Bootstrap}
 use Rattle.rules.specs.Span.{least, span}
 use Rattle.rules.specs.Store.{termsOf, coefficientOf, sameSources, withForm, ranked}
@@ -129,7 +129,7 @@ module _ (s : Settings) (nodes : List LutNode) (v : C.Cone) where
   fits-long h = rw (lt-leb (coneSpan v) (s .m) h) (and-false (withinNorm s (norm2 nodes v)))
 
   pub fits-clash : knownEntries (values v) (v .truth) ≡ none → fits s nodes v ≡ false
-  unfolding fits isLutValid bootstrapTable completed
+  unfolding fits isLutValid encoding completed
   fits-clash e = rw (e, and-false (leb (coneSpan v) (s .m))) (and-false (withinNorm s (norm2 nodes v)))
 
   pub form-not : (c : Cone) → fits s nodes v ≡ false → candidateIn nodes (record { found = false; cone = c }) ≡ fitting s nodes v

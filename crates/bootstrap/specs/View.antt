@@ -1,10 +1,6 @@
 -- What a bootstrap leaves of the store.
-use mathlib.Core.Path.{_≡_}
 use mathlib.Core.List.{List}
 use Prim.Native.Nat.{ℕ, _+_, _≤_}
-use lib.Dec.{eqb}
-use Rattle.laws.specs.Test.{if_then_else_}
-use Rattle.rules.specs.Cone.{Result, ok, err}
 use Rattle.rules.specs.Store.{Stored}
 use Rattle.cone.specs.View.{coneOf}
 use Rattle.cone.specs.Sources.{Stands}
@@ -19,13 +15,9 @@ pub record Grown (before more : ℕ) (bytes : List ℕ) (count : ℕ) : Type 0 w
 
 -- ---- bootstrap_cone
 
-unfoldable pub bootedOf : List ℕ → Booted → Result Stored
-bootedOf bytes b = if eqb (b .number) 0 then ok (record { nodes = storeOf bytes (b .count); cone = coneOf (b .cone) }) else err (b .number)
-
--- The new cone stands, unless it was refused.
-abbrev pub StandsBooted : Booted → Type 0
-StandsBooted b = b .number ≡ 0 → Stands (b .count) (b .cone)
+unfoldable pub bootedOf : List ℕ → Booted → Stored
+bootedOf bytes b = record { nodes = storeOf bytes (b .count); cone = coneOf (b .cone) }
 
 pub record Boots (before : ℕ) (bytes : List ℕ) (b : Booted) : Type 0 where
-  pub grown : b .number ≡ 0 → Grown before 2 bytes (b .count)
-  pub stands : StandsBooted b
+  pub grown : Grown before 2 bytes (b .count)
+  pub stands : Stands (b .count) (b .cone)

@@ -16,9 +16,8 @@ ghost use Rattle.cone.specs.Sources.{Stands};
 ghost use Rattle.bootstrap.specs.View.{Boots, bootedOf};
 ghost use Rattle.bootstrap.specs.Boot.{SumOf};
 
-// The cone that takes the place, and how many nodes there are; or the number of the refusal.
+// The cone that takes the place, and how many nodes there are.
 pub struct Booted {
-    pub number: usize,
     pub count: usize,
     pub cone: Cone,
 }
@@ -38,7 +37,7 @@ fn sum_of(d: Cone) -> Terms
     }
 }
 
-// The cone's sum and its bootstrap go into the store; without a table it has no valid encoding.
+// The cone's sum and its bootstrap go into the store. Both are nodes: neither is a constant.
 fn materialize(s: Settings, nodes: &mut [u8; 26880], count: usize, d: Cone) -> Booted
     requires { ⌜ IsStore (now nodes) count × ((count + 2 ≤ 672) × Stands count d) ⌝ }
     ensures is { λ r. ⌜ bootedOf (now (nodes .exit)) r ≡ bootstrapped s (storeOf (now (nodes .entry)) count) (coneOf d) (bootstrapTable (s .p) (coneOf d)) ⌝ }
@@ -49,23 +48,14 @@ fn materialize(s: Settings, nodes: &mut [u8; 26880], count: usize, d: Cone) -> B
     let sum = lut::linear(nodes, count, s.many, sum_of(d));
     let signal = sum.signal;
     let Signal::Node(source) = signal else {
-        return Booted {
-            number: 10,
-            count,
-            cone: d,
-        };
+        return Booted { count, cone: d };
     };
     let made = lut::bootstrap(nodes, sum.count, source, &known[..span], s.p);
     let answer = made.signal;
     let Signal::Node(node) = answer else {
-        return Booted {
-            number: 10,
-            count,
-            cone: d,
-        };
+        return Booted { count, cone: d };
     };
     Booted {
-        number: 0,
         count: made.count,
         cone: Cone::identity(node),
     }
@@ -78,11 +68,7 @@ pub fn bootstrap_cone(s: Settings, nodes: &mut [u8; 26880], count: usize, c: Con
     ensures stands { λ r. ⌜ Boots count (now (nodes .exit)) r ⌝ }
 {
     if c.n <= 1 {
-        return Booted {
-            number: 0,
-            count,
-            cone: c,
-        };
+        return Booted { count, cone: c };
     }
     let d = realign(s, nodes, count, c);
     materialize(s, nodes, count, d)

@@ -5,7 +5,7 @@ use mathlib.Core.List.{List, [], _∷_}
 use Prim.Native.Nat.{ℕ, zero, suc, _+_, _*_, _≤_, _<_}
 use native.Mathlib.Numerals.{add-one}
 use native.Mathlib.Omega.{arith}
-use borrow.Author.Tests.{eq-eqb, ne-eqb}
+use borrow.Author.Tests.{ne-eqb}
 use lib.ListN.{length, getD, take, drop}
 use Rattle.laws.specs.Test.{if_then_else_, zero≢one, T-is, is-T}
 use Rattle.rules.specs.Cone as C
@@ -35,7 +35,7 @@ use Rattle.gate.specs.Gate.{room, roomOf, roomOf-most, Ready, Steps, Sam
 -- ---- the inputs limit
 
 module _ (s : Settings) (w : M.Sides) where
-  pub second-not : M.overLimit s w ≡ false → ok w ≡ M.limitSecond s w
+  pub second-not : M.overLimit s w ≡ false → w ≡ M.limitSecond s w
   unfolding M.limitSecond
   second-not e = rw e
 
@@ -43,32 +43,19 @@ module _ (s : Settings) (w : M.Sides) where
   unfolding M.limitSecond
   second-over e = rw e
 
-  pub sources-not : M.overLimit s w ≡ false → ok w ≡ M.limitSources s w
+  pub sources-not : M.overLimit s w ≡ false → w ≡ M.limitSources s w
   unfolding M.limitSources
   sources-not e = rw e
 
-  sources-over : M.overLimit s w ≡ true → (M.bootstrapLeft s w >>= (λ v. M.limitSecond s (M.switchInputs v))) ≡ M.limitSources s w
-  unfolding M.limitSources
-  sources-over e = rw e
-
-  pub sources-refused : (bytes : List ℕ) (l : Limited) → M.overLimit s w ≡ true → (l .number ≡ 0 → ⊥) → limitedOf bytes l ≡ M.bootstrapLeft s w → limitedOf bytes l ≡ M.limitSources s w
-  unfolding limitedOf
-  sources-refused bytes l o n e =
-      let t = ne-eqb (l .number) 0 n in
-      let f : err (l .number) ≡ M.bootstrapLeft s w = rw t at e in
-      rw t (ap (λ r. r >>= (λ v. M.limitSecond s (M.switchInputs v))) f ∙ sources-over o)
-
-  pub sources-on : (bytes : List ℕ) (l : Limited) → M.overLimit s w ≡ true → l .number ≡ 0 → limitedOf bytes l ≡ M.bootstrapLeft s w
+  pub sources-on : (bytes : List ℕ) (l : Limited) → M.overLimit s w ≡ true → limitedOf bytes l ≡ M.bootstrapLeft s w
       → M.limitSecond s (M.switchInputs (sidesOf (storeOf bytes (l .count)) (l .sides))) ≡ M.limitSources s w
-  unfolding limitedOf
-  sources-on bytes l o z e =
-      let f : ok (sidesOf (storeOf bytes (l .count)) (l .sides)) ≡ M.bootstrapLeft s w = rw (eq-eqb (l .number) 0 z) at e in
-      ap (λ r. r >>= (λ v. M.limitSecond s (M.switchInputs v))) f ∙ sources-over o
+  unfolding limitedOf M.limitSources
+  sources-on bytes l o e = ap (λ v. M.limitSecond s (M.switchInputs v)) e ∙ rw o refl
 
 -- ---- an attempt, and what comes next
 
-unfoldable pub attempts : Settings → (M.Sides → Result M.Mapped) → Result M.Sides → Result M.Mapped
-attempts s next q = q >>= (λ v. M.orElse v (M.attempt s v) (next v))
+unfoldable pub attempts : Settings → (M.Sides → Result M.Mapped) → M.Sides → Result M.Mapped
+attempts s next v = M.orElse v (M.attempt s v) (next v)
 
 unfoldable pub nine : M.Sides → Result M.Mapped
 nine v = err 9
@@ -86,35 +73,25 @@ pub binary-is : (s : Settings) (nodes : List LutNode) (w : M.Sides) (left right 
 unfolding attempts M.mapBinaryGate
 binary-is s nodes w left right gate e = ap (λ v. attempts s (M.secondAttempt s) (M.limitSources s v)) e
 
-none-tried : (v : M.Sides) (t : Tried) → t .state ≡ 0 → (r : Result M.Mapped) → r ≡ M.orElse v (triedOf t) r
-unfolding triedOf M.orElse
-none-tried v t n r = rw (eq-eqb (t .state) 0 n)
+module _ (s : Settings) (next : M.Sides → Result M.Mapped) (q : M.Sides) (bytes : List ℕ) (b : Limited) (e : limitedOf bytes b ≡ q)
+    (t : Tried) (a : triedOf t ≡ M.attempt s (sidesOf (storeOf bytes (b .count)) (b .sides))) where
+  abbrev v : M.Sides
+  v = sidesOf (storeOf bytes (b .count)) (b .sides)
 
-module _ (s : Settings) (next : M.Sides → Result M.Mapped) (q : Result M.Sides) (bytes : List ℕ) (b : Limited) (e : limitedOf bytes b ≡ q) where
-  pub step-refused : (b .number ≡ 0 → ⊥) → err (b .number) ≡ attempts s next q
-  unfolding attempts limitedOf
-  step-refused n =
-      let f : err (b .number) ≡ q = rw (ne-eqb (b .number) 0 n) at e in
-      ap (attempts s next) f
+  pub step-goes : t .found ≡ true → ok (M.mapped v (coneOf (t .cone))) ≡ attempts s next q
+  unfolding attempts limitedOf triedOf M.orElse
+  step-goes f = ap (λ o. M.orElse v o (next v)) (rw f at a) ∙ ap (attempts s next) e
 
-  pub step-goes : (t : Tried) → b .number ≡ 0 → triedOf t ≡ M.attempt s (sidesOf (storeOf bytes (b .count)) (b .sides))
-      → M.orElse (sidesOf (storeOf bytes (b .count)) (b .sides)) (triedOf t) (next (sidesOf (storeOf bytes (b .count)) (b .sides))) ≡ attempts s next q
-  unfolding attempts limitedOf
-  step-goes t z a =
-      let v = sidesOf (storeOf bytes (b .count)) (b .sides) in
-      let f : ok v ≡ q = rw (eq-eqb (b .number) 0 z) at e in
-      ap (λ x. M.orElse v x (next v)) a ∙ ap (attempts s next) f
-
-  pub step-none : (t : Tried) → b .number ≡ 0 → triedOf t ≡ M.attempt s (sidesOf (storeOf bytes (b .count)) (b .sides)) → t .state ≡ 0
-      → next (sidesOf (storeOf bytes (b .count)) (b .sides)) ≡ attempts s next q
-  step-none t z a n = none-tried (sidesOf (storeOf bytes (b .count)) (b .sides)) t n (next (sidesOf (storeOf bytes (b .count)) (b .sides))) ∙ step-goes t z a
+  pub step-none : t .found ≡ false → next v ≡ attempts s next q
+  unfolding attempts limitedOf triedOf M.orElse
+  step-none f = ap (λ o. M.orElse v o (next v)) (rw f at a) ∙ ap (attempts s next) e
 
 -- ---- the store grows by no more than the sides ask for
 
-pub grows : {count : ℕ} {w : Sides} {bytes : List ℕ} {l : Limited} → Steps count w bytes l → l .number ≡ 0 → Grown count (roomOf w) bytes (l .count)
-grows {count} {w} {bytes} {l} st z =
-    let m = st .most z in
-    record { store = st .ready z .store; least = st .least z; most = omega arith }
+pub grows : {count : ℕ} {w : Sides} {bytes : List ℕ} {l : Limited} → Steps count w bytes l → Grown count (roomOf w) bytes (l .count)
+grows {count} {w} {bytes} {l} st =
+    let m = st .most in
+    record { store = st .ready .store; least = st .least; most = omega arith }
 
 pub maps-wider : {before more count less : ℕ} {bytes : List ℕ} {m : Mapped} → before ≤ count → count + less ≤ before + more → Maps count less bytes m → Maps before more bytes m
 maps-wider h k p =
@@ -130,8 +107,8 @@ grown-wider h p = let u = p .most in record { store = p .store; least = p .least
 
 -- ---- steps of both sides
 
-pub steps-none : {bytes : List ℕ} {count : ℕ} {w : Sides} → Ready bytes count w → Steps count w bytes (record { number = 0; count = count; sides = w })
-steps-none r = record { ready = λ z. r; least = λ z. omega arith; most = λ z. omega arith }
+pub steps-none : {bytes : List ℕ} {count : ℕ} {w : Sides} → Ready bytes count w → Steps count w bytes (record { count = count; sides = w })
+steps-none r = record { ready = r; least = omega arith; most = omega arith }
 
 switched-bits : (gate : List ℕ) → allBits gate ≡ true → allBits (getD gate 0 0 ∷ getD gate 2 0 ∷ getD gate 1 0 ∷ getD gate 3 0 ∷ []) ≡ true
 switched-bits gate e = T-is _ (all-bits-of (getD gate 0 0 ∷ getD gate 2 0 ∷ getD gate 1 0 ∷ getD gate 3 0 ∷ []) at)
@@ -168,8 +145,8 @@ module _ (w v : Sides) (is : (nodes : List LutNode) → sidesOf nodes v ≡ M.sw
   steps-on count more first bytes l h k st =
       record {
         ready = st .ready;
-        least = λ z. let a = st .least z in omega arith;
-        most = λ z. let a = st .most z in let e = switched-room in omega arith;
+        least = let a = st .least in omega arith;
+        most = let a = st .most in let e = switched-room in omega arith;
       }
 
 -- ---- both sides of a gate at first
@@ -214,24 +191,15 @@ kept-maps before more bytes m g c f s = record { grown = λ z. g; stands = λ z.
 pub grown-none : (bytes : List ℕ) (count : ℕ) → IsStore bytes count → Grown count 4 bytes count
 grown-none bytes count st = record { store = st; least = omega arith; most = omega arith }
 
--- an attempt's answer
-module _ (t : Tried) (v : M.Sides) (next : Result M.Mapped) where
-  pub answer-refused : 0 < t .state → (t .state ≡ 1 → ⊥) → err (t .state) ≡ M.orElse v (triedOf t) next
-  unfolding triedOf M.orElse
-  answer-refused h n = rw (ne-eqb (t .state) 0 (λ e. omega arith), ne-eqb (t .state) 1 n)
-
-  pub answer-cone : t .state ≡ 1 → M.mapped v (coneOf (t .cone)) ≡ M.orElse v (triedOf t) next
-  unfolding triedOf M.orElse
-  answer-cone e = rw (ne-eqb (t .state) 0 (λ z. omega arith), eq-eqb (t .state) 1 e)
-
+-- an attempt's cone
 module _ (bytes : List ℕ) (count : ℕ) (w : Sides) (c : Cone) where
   pub mapped-switched : w .switched ≡ true
-      → mappedOf bytes (record { number = 0; count = count; cone = c; first = w .right; second = w .left }) ≡ M.mapped (sidesOf (storeOf bytes count) w) (coneOf c)
+      → mappedOf bytes (record { number = 0; count = count; cone = c; first = w .right; second = w .left }) ≡ ok (M.mapped (sidesOf (storeOf bytes count) w) (coneOf c))
   unfolding mappedOf M.mapped sidesOf
   mapped-switched e = rw e
 
   pub mapped-kept : w .switched ≡ false
-      → mappedOf bytes (record { number = 0; count = count; cone = c; first = w .left; second = w .right }) ≡ M.mapped (sidesOf (storeOf bytes count) w) (coneOf c)
+      → mappedOf bytes (record { number = 0; count = count; cone = c; first = w .left; second = w .right }) ≡ ok (M.mapped (sidesOf (storeOf bytes count) w) (coneOf c))
   unfolding mappedOf M.mapped sidesOf
   mapped-kept e = rw e
 

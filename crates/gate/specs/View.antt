@@ -4,7 +4,6 @@ use mathlib.Core.List.{List}
 use Prim.Native.Nat.{ℕ}
 use lib.Dec.{eqb}
 use Rattle.laws.specs.Test.{if_then_else_}
-use Rattle.rules.specs.Cone as C
 use Rattle.rules.specs.Cone.{Result, ok, err}
 use Rattle.rules.specs.Mapper as M
 use Rattle.cone.specs.declared.order.Sides.{Sides}
@@ -22,12 +21,8 @@ pub record StandsBoth (count : ℕ) (s : Sides) : Type 0 where
 
 -- ---- The two sides of a gate on the way.
 
-unfoldable pub limitedOf : List ℕ → Limited → Result M.Sides
-limitedOf bytes l = if eqb (l .number) 0 then ok (sidesOf (storeOf bytes (l .count)) (l .sides)) else err (l .number)
-
-pub record Limits (before more : ℕ) (bytes : List ℕ) (l : Limited) : Type 0 where
-  pub grown : l .number ≡ 0 → Grown before more bytes (l .count)
-  pub stands : l .number ≡ 0 → StandsBoth (l .count) (l .sides)
+unfoldable pub limitedOf : List ℕ → Limited → M.Sides
+limitedOf bytes l = sidesOf (storeOf bytes (l .count)) (l .sides)
 
 -- ---- A gate.
 

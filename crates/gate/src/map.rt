@@ -20,10 +20,9 @@ ghost use mathlib.Core.Bool.{true};
 ghost use mathlib.Core.List.{List, [], _∷_};
 ghost use Prim.Native.Nat.{ℕ, _+_, _≤_, _<_};
 ghost use Rattle.rules.specs.CircuitText.{inLimits};
-ghost use Rattle.rules.specs.Cone.{Result, err};
+ghost use Rattle.rules.specs.Cone.{ok, err};
 ghost use Rattle.rules.specs.Runs.{allBits};
-ghost use Rattle.rules.specs.Mapper.{unchanged, mapUnaryGate, attempt as attempted, orElse, secondAttempt, thirdAttempt, mapBinaryGate, mapGate};
-ghost use Rattle.rules.specs.Mapper.{Mapped as Gives};
+ghost use Rattle.rules.specs.Mapper.{unchanged, mapUnaryGate, attempt as attempted, mapped, secondAttempt, thirdAttempt, mapBinaryGate, mapGate};
 ghost use Rattle.cone.specs.View.{coneOf};
 ghost use Rattle.cone.specs.Order.{sidesOf};
 ghost use Rattle.nodes.specs.View.{storeOf, IsStore};
@@ -33,7 +32,7 @@ ghost use Rattle.gate.specs.View.{StandsBoth, Maps, mappedOf};
 ghost use Rattle.attempt.specs.Tried.{triedOf};
 ghost use Rattle.gate.specs.Gate.{roomOf, Ready};
 
-// The gate's cone, and both sides, the first input left, with those that were bootstrapped.
+// The gate's cone, and both sides, the first input left, with those that were bootstrapped; or the number of the refusal.
 pub struct Mapped {
     pub number: usize,
     pub count: usize,
@@ -42,9 +41,8 @@ pub struct Mapped {
     pub second: Side,
 }
 
-// Both sides after bootstraps, or the number of the refusal.
+// Both sides after bootstraps.
 pub struct Limited {
-    pub number: usize,
     pub count: usize,
     pub sides: Sides,
 }
@@ -107,22 +105,16 @@ pub fn map_unary(
     match v {
         Validity::Valid => unchanged(count, d),
         Validity::OverNorm => refused(8, d),
-        Validity::Invalid => refused(10, d),
     }
 }
 
-// The attempt's cone or its refusal; the first input's side is first again.
-fn concluded(count: usize, w: Sides, t: Tried) -> Mapped
-    requires { ⌜ 0 < t .state ⌝ }
-    ensures is { λ r. ⌜ ((bytes : List ℕ) (next : Result Gives) → mappedOf bytes r ≡ orElse (sidesOf (storeOf bytes count) w) (triedOf t) next) ⌝ }
-    ensures stands { λ r. ⌜ ((before more : ℕ) (bytes : List ℕ) → Grown before more bytes count → StandsBoth count w → (t .state ≡ 1 → Stands count (t .cone)) → Maps before more bytes r) ⌝ }
+// The attempt's cone; the first input's side is first again.
+fn concluded(count: usize, w: Sides, c: Cone) -> Mapped
+    ensures is { λ r. ⌜ ((bytes : List ℕ) → mappedOf bytes r ≡ ok (mapped (sidesOf (storeOf bytes count) w) (coneOf c))) ⌝ }
+    ensures stands { λ r. ⌜ ((before more : ℕ) (bytes : List ℕ) → Grown before more bytes count → StandsBoth count w → Stands count c → Maps before more bytes r) ⌝ }
 {
     let left = w.left;
     let right = w.right;
-    let c = t.cone;
-    if t.state != 1 {
-        return refused(t.state, c);
-    }
     if w.switched {
         return Mapped {
             number: 0,
@@ -145,7 +137,7 @@ fn concluded(count: usize, w: Sides, t: Tried) -> Mapped
 fn attempt_sides(s: Settings, nodes: &[u8; 26880], count: usize, w: Sides) -> Tried
     requires { ⌜ (inLimits s ≡ true) × Ready (now nodes) count w ⌝ }
     ensures is { λ r. ⌜ triedOf r ≡ attempted s (sidesOf (storeOf (now (nodes .entry)) count) w) ⌝ }
-    ensures stands { λ r. ⌜ (r .state ≡ 1 → Stands count (r .cone)) ⌝ }
+    ensures stands { λ r. ⌜ (r .found ≡ true → Stands count (r .cone)) ⌝ }
 {
     let left = w.left;
     let right = w.right;
@@ -163,16 +155,12 @@ fn third_attempt(s: Settings, nodes: &mut [u8; 26880], count: usize, w: Sides) -
 {
     let b = bootstrap_right(s, nodes, count, w);
     let v = b.sides;
-    let left = v.left;
-    let l = left.cone;
-    if b.number != 0 {
-        return refused(b.number, l);
-    }
     let t = attempt_sides(s, nodes, b.count, v);
-    if t.state == 0 {
-        return refused(9, l);
+    let c = t.cone;
+    if !t.found {
+        return refused(9, c);
     }
-    concluded(b.count, v, t)
+    concluded(b.count, v, c)
 }
 
 // The second attempt, after the left side is bootstrapped.
@@ -183,16 +171,12 @@ fn second_attempt(s: Settings, nodes: &mut [u8; 26880], count: usize, w: Sides) 
 {
     let b = bootstrap_left(s, nodes, count, w);
     let v = b.sides;
-    let left = v.left;
-    let l = left.cone;
-    if b.number != 0 {
-        return refused(b.number, l);
-    }
     let t = attempt_sides(s, nodes, b.count, v);
-    if t.state == 0 {
+    let c = t.cone;
+    if !t.found {
         return third_attempt(s, nodes, b.count, v);
     }
-    concluded(b.count, v, t)
+    concluded(b.count, v, c)
 }
 
 // map_binary_gate
@@ -210,15 +194,13 @@ pub fn map_binary(
 {
     let w = sides_of(nodes, left, right, gate);
     let b = limit_sources(s, nodes, count, w);
-    if b.number != 0 {
-        return refused(b.number, left);
-    }
     let v = b.sides;
     let t = attempt_sides(s, nodes, b.count, v);
-    if t.state == 0 {
+    let c = t.cone;
+    if !t.found {
         return second_attempt(s, nodes, b.count, v);
     }
-    concluded(b.count, v, t)
+    concluded(b.count, v, c)
 }
 
 // map_gate of two wires: a constant side makes it unary.

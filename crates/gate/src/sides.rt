@@ -85,11 +85,7 @@ fn bootstrap_in(s: Settings, nodes: &mut [u8; 26880], count: usize, c: Cone) -> 
     ensures spends { λ r. ⌜ Spends count c (now (nodes .exit)) r ⌝ }
 {
     if c.n <= 1 {
-        return Booted {
-            number: 0,
-            count,
-            cone: c,
-        };
+        return Booted { count, cone: c };
     }
     bootstrap_cone(s, nodes, count, c)
 }
@@ -108,7 +104,6 @@ pub fn bootstrap_left(s: Settings, nodes: &mut [u8; 26880], count: usize, w: Sid
     let c = b.cone;
     let new = Side { cone: c, new: true };
     Limited {
-        number: b.number,
         count: b.count,
         sides: Sides {
             left: new,
@@ -133,7 +128,6 @@ pub fn bootstrap_right(s: Settings, nodes: &mut [u8; 26880], count: usize, w: Si
     let c = b.cone;
     let new = Side { cone: c, new: true };
     Limited {
-        number: b.number,
         count: b.count,
         sides: Sides {
             left,
@@ -153,11 +147,7 @@ fn limit_second(s: Settings, nodes: &mut [u8; 26880], count: usize, w: Sides) ->
     if over_limit(s, w) {
         return bootstrap_left(s, nodes, count, w);
     }
-    Limited {
-        number: 0,
-        count,
-        sides: w,
-    }
+    Limited { count, sides: w }
 }
 
 // The inputs limit: the left side bootstrapped, and then the other one too if they are still too many.
@@ -167,16 +157,9 @@ pub fn limit_sources(s: Settings, nodes: &mut [u8; 26880], count: usize, w: Side
     ensures steps { λ r. ⌜ Steps count w (now (nodes .exit)) r ⌝ }
 {
     if !over_limit(s, w) {
-        return Limited {
-            number: 0,
-            count,
-            sides: w,
-        };
+        return Limited { count, sides: w };
     }
     let a = bootstrap_left(s, nodes, count, w);
-    if a.number != 0 {
-        return a;
-    }
     let after = a.sides;
     limit_second(s, nodes, a.count, switch_inputs(after))
 }

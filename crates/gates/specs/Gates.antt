@@ -72,8 +72,8 @@ pub record Works (before more : ℕ) (nodes wires : List ℕ) (n : ℕ) (w : Wor
 unfoldable pub named : ℕ → List Output → Bool
 named i outputs = any (λ (o : Output). leadsTo i (o .wire)) outputs
 
-unfoldable pub forcedCone : Bool → Settings → List LutNode → C.Cone → Result Stored
-forcedCone f s nodes c = if f then bootstrapCone s nodes c else ok (record { nodes = nodes; cone = c })
+unfoldable pub forcedCone : Bool → Settings → List LutNode → C.Cone → Stored
+forcedCone f s nodes c = if f then bootstrapCone s nodes c else record { nodes = nodes; cone = c }
 
 -- ---- laws: an output names the node
 
@@ -208,9 +208,6 @@ unfoldable gateResult : List ℕ → Mapped → M.Mapped
 gateResult bytes m =
     record { nodes = storeOf bytes (m .count); cone = coneOf (m .cone); first = update (sideOf (m .first)); second = update (sideOf (m .second)) }
 
-unfoldable bootResult : List ℕ → Booted → Stored
-bootResult bytes b = record { nodes = storeOf bytes (b .count); cone = coneOf (b .cone) }
-
 results : (gs : List ℕ) (i : ℕ) (bytes : List ℕ) (m : Mapped) (cones : List C.Cone)
     → replaced (wiresIn gs i) (gateResult bytes m) cones
     ≡ replace (slotWire (getD gs (6 * i + 1) 0)) (update (sideOf (m .second))) (replace (slotWire (getD gs (6 * i) 0)) (update (sideOf (m .first))) cones)
@@ -225,14 +222,6 @@ mapped-err : (bytes : List ℕ) (m : Mapped) → (m .number ≡ 0 → ⊥) → m
 unfolding mappedOf
 mapped-err bytes m e = rw (ne-eqb (m .number) 0 e) refl
 
-booted-ok : (bytes : List ℕ) (b : Booted) → b .number ≡ 0 → bootedOf bytes b ≡ ok (bootResult bytes b)
-unfolding bootedOf bootResult
-booted-ok bytes b e = rw (eq-eqb (b .number) 0 e) refl
-
-booted-err : (bytes : List ℕ) (b : Booted) → (b .number ≡ 0 → ⊥) → bootedOf bytes b ≡ err (b .number)
-unfolding bootedOf
-booted-err bytes b e = rw (ne-eqb (b .number) 0 e) refl
-
 pub read-ok : (nodes wires : List ℕ) (n : ℕ) (w : Work) → w .number ≡ 0 → stateRead nodes wires n w ≡ Good (stateOf nodes (w .count) wires n)
 unfolding stateRead
 read-ok nodes wires n w e = rw (eq-eqb (w .number) 0 e) refl
@@ -242,7 +231,7 @@ unfolding stateRead
 read-err nodes wires n w e = rw (ne-eqb (w .number) 0 e) refl
 
 unfoldable nextWith : Settings → Bool → List Wire → List C.Cone → M.Mapped → Result State
-nextWith s f ws cones m = M.forced s f m >>= (λ b. ok (record { nodes = b .nodes; cones = replaced ws m cones ++ (b .cone ∷ []) }))
+nextWith s f ws cones m = let b = M.forced s f m in ok (record { nodes = b .nodes; cones = replaced ws m cones ++ (b .cone ∷ []) })
 
 next-is : (s : Settings) (outputs : List Output) (st : State) (g : Gate)
     → mapNext s outputs st g ≡ (mapGate s (st .nodes) (map (coneAt (st .cones)) (g .wires)) (g .bits) >>= nextWith s (isForced s outputs (length (st .cones))) (g .wires) (st .cones))
@@ -268,35 +257,22 @@ module _ (s : Settings) (outputs : List Output) (nodes : List ℕ) (count : ℕ)
         ∙ ap (atLine (id + 2)) (ap (λ r. r >>= nextWith s force (wiresIn gs i) (conesIn wires id)) (sym (mapped-err after m e) ∙ em) ∙ sym next-force)
 
     module _ (ok-gate : m .number ≡ 0) (last : List ℕ) (b : Booted) (eb : bootedOf last b ≡ forcedCone force s (storeOf after (m .count)) (coneOf (m .cone))) where
-      next-boot : (bootedOf last b >>= (λ d. ok (record { nodes = d .nodes; cones = replaced (wiresIn gs i) (gateResult after m) (conesIn wires id) ++ (d .cone ∷ []) })))
+      next-boot : ok (record { nodes = bootedOf last b .nodes; cones = replaced (wiresIn gs i) (gateResult after m) (conesIn wires id) ++ (bootedOf last b .cone ∷ []) })
           ≡ mapNext s outputs (stateOf nodes count wires id) (gateIn gs inputs i)
       unfolding forcedCone nextWith gateResult M.forced
       next-boot =
-          ap (λ r. r >>= (λ d. ok (record { nodes = d .nodes; cones = replaced (wiresIn gs i) (gateResult after m) (conesIn wires id) ++ (d .cone ∷ []) }))) eb
+          ap (λ (d : Stored). ok (record { nodes = d .nodes; cones = replaced (wiresIn gs i) (gateResult after m) (conesIn wires id) ++ (d .cone ∷ []) })) eb
           ∙ ap (λ r. r >>= nextWith s force (wiresIn gs i) (conesIn wires id)) (sym (mapped-ok after m ok-gate) ∙ em)
           ∙ sym next-force
 
-      pub boot-refused : (b .number ≡ 0 → ⊥) → (slots : List ℕ) (w : Work) → w .number ≡ b .number → w .line ≡ id + 2
-          → stateRead last slots (id + 1) w ≡ atLine (id + 2) (mapNext s outputs (stateOf nodes count wires id) (gateIn gs inputs i))
-      unfolding atLine
-      boot-refused e slots w p q =
-          read-err last slots (id + 1) w (λ z. e (sym p ∙ z))
-          ∙ ap₂ (λ k l. Refused k l) p q
-          ∙ ap (atLine (id + 2))
-          (ap (λ r. r >>= (λ d. ok (record { nodes = d .nodes; cones = replaced (wiresIn gs i) (gateResult after m) (conesIn wires id) ++ (d .cone ∷ []) }))) (sym (booted-err last b e))
-          ∙ next-boot)
-
-      pub gate-done : b .number ≡ 0 → GoodGate gs id i → (slots : List ℕ)
+      pub gate-done : GoodGate gs id i → (slots : List ℕ)
           → Settled wires (getD gs (6 * i) 0) (getD gs (6 * i + 1) 0) id (m .first) (m .second) (b .cone) slots → (w : Work) → w .number ≡ 0 → w .count ≡ b .count
           → stateRead last slots (id + 1) w ≡ atLine (id + 2) (mapNext s outputs (stateOf nodes count wires id) (gateIn gs inputs i))
-      unfolding atLine stateOf bootResult
-      gate-done e g slots settled w p q =
+      unfolding atLine stateOf bootedOf
+      gate-done g slots settled w p q =
           read-ok last slots (id + 1) w p
           ∙ ap (λ k. Good (stateOf last k slots (id + 1))) q
-          ∙ ap (atLine (id + 2))
-          (ap (λ l. ok (record { nodes = storeOf last (b .count); cones = l })) (settled-cones g slots settled)
-          ∙ ap (λ r. r >>= (λ d. ok (record { nodes = d .nodes; cones = replaced (wiresIn gs i) (gateResult after m) (conesIn wires id) ++ (d .cone ∷ []) }))) (sym (booted-ok last b e))
-          ∙ next-boot)
+          ∙ ap (atLine (id + 2)) (ap (λ l. ok (record { nodes = storeOf last (b .count); cones = l })) (settled-cones g slots settled) ∙ next-boot)
         where
           settled-cones : GoodGate gs id i → (slots : List ℕ) → Settled wires (getD gs (6 * i) 0) (getD gs (6 * i + 1) 0) id (m .first) (m .second) (b .cone) slots
               → conesIn slots (id + 1) ≡ replaced (wiresIn gs i) (gateResult after m) (conesIn wires id) ++ (coneOf (b .cone) ∷ [])
@@ -310,11 +286,11 @@ module _ (s : Settings) (outputs : List Output) (nodes : List ℕ) (count : ℕ)
 
 -- the slots after a gate
 pub gate-wired : (nodes : List ℕ) (count : ℕ) (wires : List ℕ) (id : ℕ) (after : List ℕ) (m : Mapped) (last : List ℕ) (b : Booted) (slots : List ℕ) (l r : ℕ) (w : Work)
-    → id < 128 → Wired nodes count wires id → Maps count 4 after m → m .number ≡ 0 → Boots (m .count) last b → b .number ≡ 0
+    → id < 128 → Wired nodes count wires id → Maps count 4 after m → m .number ≡ 0 → Boots (m .count) last b
     → Settled wires l r id (m .first) (m .second) (b .cone) slots → w .count ≡ b .count → Works count 6 last slots (id + 1) w
-gate-wired nodes count wires id after m last b slots l r w few wired maps e boots f t q =
+gate-wired nodes count wires id after m last b slots l r w few wired maps e boots t q =
     let grown = maps .grown e in
-    let more = boots .grown f in
+    let more = boots .grown in
     let a : count ≤ m .count = grown .least in
     let a′ : m .count ≤ count + 4 = grown .most in
     let d : m .count ≤ b .count = more .least in
@@ -322,7 +298,7 @@ gate-wired nodes count wires id after m last b slots l r w few wired maps e boot
     let w0 = wired-more nodes last count (b .count) wires id wired (more .store) (omega arith) in
     let w1 = renewed-wired last (b .count) wires l (m .first) (t .between) id (omega arith) w0 (stands-more (m .count) (b .count) _ d (maps .first e)) (t .left) in
     let w2 = renewed-wired last (b .count) (t .between) r (m .second) (t .last) id (omega arith) w1 (stands-more (m .count) (b .count) _ d (maps .second e)) (t .right) in
-    let w3 = wired-put (t .last) id (b .cone) slots (t .behind) last (b .count) id (id + 1) w2 (boots .stands f) few (omega arith) (λ i l n. omega arith) in
+    let w3 = wired-put (t .last) id (b .cone) slots (t .behind) last (b .count) id (id + 1) w2 (boots .stands) few (omega arith) (λ i l n. omega arith) in
     record { wired = λ _. subst (λ k. Wired last k slots (id + 1)) (sym q) w3; most = λ _. omega arith }
 
 pub works-none : (before more : ℕ) (nodes wires : List ℕ) (n : ℕ) (w : Work) → (w .number ≡ 0 → ⊥) → Works before more nodes wires n w
@@ -344,17 +320,17 @@ pub used-unequal : (s : Settings) (b : Bool) → b ≡ isBasic (s .policy) → b
 unfolding usedSettings
 used-unequal s b e t q = rw (sym e ∙ t, ne-eqb (s .m) (s .p) q) refl
 
-pub forced-yes : (force : Bool) (s : Settings) (store : List LutNode) (c : C.Cone) (r : Result Stored) → force ≡ true → r ≡ bootstrapCone s store c → r ≡ forcedCone force s store c
+pub forced-yes : (force : Bool) (s : Settings) (store : List LutNode) (c : C.Cone) (r : Stored) → force ≡ true → r ≡ bootstrapCone s store c → r ≡ forcedCone force s store c
 unfolding forcedCone
 forced-yes force s store c r e q = rw e q
 
 pub forced-no : (force : Bool) (s : Settings) (bytes : List ℕ) (count : ℕ) (c : Cone) → force ≡ false
-    → bootedOf bytes (record { number = 0; count = count; cone = c }) ≡ forcedCone force s (storeOf bytes count) (coneOf c)
+    → bootedOf bytes (record { count = count; cone = c }) ≡ forcedCone force s (storeOf bytes count) (coneOf c)
 unfolding forcedCone bootedOf
 forced-no force s bytes count c e = rw e refl
 
-pub boots-self : (bytes : List ℕ) (count : ℕ) (c : Cone) → IsStore bytes count → Stands count c → Boots count bytes (record { number = 0; count = count; cone = c })
-boots-self bytes count c is stands = record { grown = λ e. record { store = is; least = omega arith; most = omega arith }; stands = λ e. stands }
+pub boots-self : (bytes : List ℕ) (count : ℕ) (c : Cone) → IsStore bytes count → Stands count c → Boots count bytes (record { count = count; cone = c })
+boots-self bytes count c is stands = record { grown = record { store = is; least = omega arith; most = omega arith }; stands = stands }
 
 -- ---- laws: the loop over the gates
 

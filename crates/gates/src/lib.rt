@@ -159,11 +159,7 @@ fn forced(s: Settings, nodes: &mut [u8; 26880], count: usize, c: Cone, force: bo
     if force {
         return bootstrap_cone(s, nodes, count, c);
     }
-    Booted {
-        number: 0,
-        count,
-        cone: c,
-    }
+    Booted { count, cone: c }
 }
 
 // A side that was bootstrapped takes its wire's place; a constant has none.
@@ -248,9 +244,6 @@ fn map_one(
     }
     let c = m.cone;
     let b = forced(s, nodes, m.count, c, force);
-    if b.number != 0 {
-        return refused(b.number, id + 2, b.count);
-    }
     let first = m.first;
     let second = m.second;
     let own = b.cone;

@@ -2,20 +2,19 @@
 use mathlib.Core.Path.{_≡_, refl, sym, ap, ap₂, subst, _∙_}
 use mathlib.Core.Bool.{Bool, true, false}
 use mathlib.Core.List.{List, [], _∷_, _++_}
-use mathlib.Core.Logic.{⊎-elim}
-use mathlib.Core.Option.{Option, none, some}
+use mathlib.Core.Option.{Option, none, some, Option·getD}
 use Prim.Native.Nat.{ℕ, suc, _+_, _≤_, _<_}
 use native.Mathlib.Omega.{arith}
 use borrow.Author.Tests.{lt-ltb, le-ltb}
 use lib.IntN.{natAbs}
-use lib.ListN.{length, drop, List·getD-eq-default}
-use Rattle.laws.specs.Test.{if_then_else_, lt-or-le}
-use Rattle.rules.specs.Builder.{Entries, completion}
+use lib.ListN.{length, drop}
+use Rattle.rules.specs.Builder.{Entries, opposed, completion, lastTried}
 use Rattle.rules.specs.CircuitText.{sameName}
 use Rattle.rules.specs.Network.{LutNode, Linear, Bootstrap, nodeAt, nodeDepth}
 use Rattle.rules.specs.Store.{sameNode, numberOf, intern, linearTerms}
 use Rattle.theorems.specs.Interned.{number-here, number-on, number-end, number-new}
-use Rattle.theorems.specs.Completions.{completion-is}
+use Rattle.theorems.specs.Bits.{bit-at}
+use Rattle.theorems.specs.Completions.{Completes, completes-bits, opposed-completes, completion-is}
 use Rattle.lut.specs.declared.Linked.{Linked}
 use Rattle.lut.specs.declared.Signal.the-variants as Signals
 use Rattle.nodes.specs.declared.record.Terms.{Terms}
@@ -40,11 +39,6 @@ pub record Interns (n : LutNode) (bytes : List ℕ) (count : ℕ) (after : List 
   pub store : storeOf after (r .count) ≡ intern n (storeOf bytes count)
   pub signal : r .signal ≡ Signals.Node (numberOf n (intern n (storeOf bytes count)))
   pub still : IsStore after (r .count)
-
--- A table makes a bootstrap; without one nothing changes.
-unfoldable pub Bootstraps : ℕ → Option (List ℕ) → List ℕ → ℕ → List ℕ → Linked → Type 0
-Bootstraps source (some table) bytes count after r = Interns (Bootstrap source table) bytes count after r
-Bootstraps source none bytes count after r = (after ≡ bytes) × (r ≡ record { count = count; signal = Signals.Refused })
 
 -- ---- laws
 
@@ -136,24 +130,17 @@ summed count many t s g h a e f =
 pub interns-node : (n m : LutNode) (bytes : List ℕ) (count : ℕ) (after : List ℕ) (r : Linked) → Interns n bytes count after r → n ≡ m → Interns m bytes count after r
 interns-node n m bytes count after r i e = subst (λ x. Interns x bytes count after r) e i
 
-pub fine-boot : (count source p : ℕ) (known table : List ℕ) → source < count → length known ≤ 32 → Entries known → some table ≡ completion p known
-    → Fine count (Bootstrap source table)
+-- whichever filling was tried last, it has a bit for each entry
+tried-completes : (p : ℕ) (known : List ℕ) → Entries known → Completes known (lastTried p known)
+unfolding lastTried
+tried-completes p known e = by (completion p known) refl
+  where
+    by : (o : Option (List ℕ)) → completion p known ≡ o → Completes known (Option·getD o (opposed p known))
+    by none q = opposed-completes known e p
+    by (some t) q = completion-is known e p t q .0
+
+pub fine-boot : (count source p : ℕ) (known : List ℕ) → source < count → length known ≤ 32 → Entries known → Fine count (Bootstrap source (lastTried p known))
 unfolding Fine
-fine-boot count source p known table h k e q =
-    let c = completion-is known e p table (sym q) .0 in
-    (h, rw (c .long) k, λ i. ⊎-elim (λ (l : i < length known). c .bits i l) (λ (l : length known ≤ i). rw (List·getD-eq-default table 0 {n = i} (rw (c .long) l)) (omega arith)) (lt-or-le i (length known)))
-
-pub no-table : (b : Bool) (table : List ℕ) (o : Option (List ℕ)) (source : ℕ) (bytes : List ℕ) (count : ℕ) → (if b then some table else none) ≡ o → b ≡ false
-    → Bootstraps source o bytes count bytes (record { count = count; signal = Signals.Refused })
-unfolding Bootstraps
-no-table b table o source bytes count e f =
-    let n : none ≡ o = rw f at e in
-    subst (λ x. Bootstraps source x bytes count bytes (record { count = count; signal = Signals.Refused })) n (refl, refl)
-
-pub table-is : (b : Bool) (table : List ℕ) (o : Option (List ℕ)) → (if b then some table else none) ≡ o → b ≡ true → some table ≡ o
-table-is b table o e f = rw f at e
-
-pub made : (o : Option (List ℕ)) (source : ℕ) (table bytes : List ℕ) (count : ℕ) (after : List ℕ) (r : Linked) → some table ≡ o
-    → Interns (Bootstrap source table) bytes count after r → Bootstraps source o bytes count after r
-unfolding Bootstraps
-made o source table bytes count after r e i = subst (λ x. Bootstraps source x bytes count after r) e i
+fine-boot count source p known h k e =
+    let c = tried-completes p known e in
+    (h, rw (c .long) k, λ i. bit-at (lastTried p known) i (completes-bits known (lastTried p known) c))

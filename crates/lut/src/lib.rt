@@ -11,17 +11,18 @@ ghost use mathlib.Core.Path.{_≡_};
 ghost use Prim.Native.Nat.{_≤_, _<_};
 ghost use lib.ListN.{length};
 ghost use Rattle.rules.specs.Network.{Linear, Bootstrap};
-ghost use Rattle.rules.specs.Builder.{Entries, completion};
+ghost use Rattle.rules.specs.Builder.{Entries, lastTried};
 ghost use Rattle.rules.specs.Store.{linearTerms};
 ghost use Rattle.nodes.specs.View.{termsIn, GoodTerms, Fine, IsStore};
-ghost use Rattle.lut.specs.Store.{Interns, Bootstraps};
+ghost use Rattle.lut.specs.Store.{Interns};
 
+// LutSignal
 pub enum Signal {
+    Const(u8),
     Node(usize),
-    Refused,
 }
 
-// The count of nodes, and the node that was made or found.
+// The count of nodes, and the signal that was made or found.
 pub struct Linked {
     pub count: usize,
     pub signal: Signal,
@@ -46,7 +47,7 @@ fn put_bootstrap(nodes: &mut [u8; 26880], count: usize, source: usize, table: &[
     store::intern(nodes, count, &bytes)
 }
 
-// The bootstrap whose table completes the known entries; `table` is to work in.
+// The bootstrap whose table fills the known entries; `table` is to work in.
 fn complete_bootstrap(
     nodes: &mut [u8; 26880],
     count: usize,
@@ -57,18 +58,13 @@ fn complete_bootstrap(
 ) -> Linked
     requires { ⌜ IsStore (now nodes) count × (count < 672) × (source < count) ⌝ }
     requires { ⌜ (length (now known) ≤ 32) × Entries (now known) × (length (now known) ≡ length (now table)) ⌝ }
-    ensures { λ r. ⌜ Bootstraps source (completion p (now (known .entry))) (now (nodes .entry)) count (now (nodes .exit)) r ⌝ }
+    ensures { λ r. ⌜ Interns (Bootstrap source (lastTried p (now (known .entry)))) (now (nodes .entry)) count (now (nodes .exit)) r ⌝ }
 {
-    if !complete(known, p, table) {
-        return Linked {
-            count,
-            signal: Signal::Refused,
-        };
-    }
+    complete(known, p, table);
     put_bootstrap(nodes, count, source, table)
 }
 
-// LutCircuit::bootstrap of a table with unknown entries: refused where no completion is a rotation's.
+// LutCircuit::bootstrap of a table with unknown entries, as the builder fills them.
 pub fn bootstrap(
     nodes: &mut [u8; 26880],
     count: usize,
@@ -78,7 +74,7 @@ pub fn bootstrap(
 ) -> Linked
     requires { ⌜ IsStore (now nodes) count × (count < 672) × (source < count) ⌝ }
     requires { ⌜ (length (now known) ≤ 32) × Entries (now known) ⌝ }
-    ensures { λ r. ⌜ Bootstraps source (completion p (now (known .entry))) (now (nodes .entry)) count (now (nodes .exit)) r ⌝ }
+    ensures { λ r. ⌜ Interns (Bootstrap source (lastTried p (now (known .entry)))) (now (nodes .entry)) count (now (nodes .exit)) r ⌝ }
 {
     let mut table = [0u8; 32];
     let n = known.len();

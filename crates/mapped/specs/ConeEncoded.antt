@@ -2,8 +2,8 @@
 -- value, and such that a rotation gives it.
 use mathlib.Core.Path.{_≡_, refl, ap, _∙_}
 use mathlib.Core.Bool.{true, false≢true}
-use mathlib.Core.List.{List}
-use mathlib.Core.Option.{Option, none, some}
+use mathlib.Core.List.{List, []}
+use mathlib.Core.Option.{Option, none, some, Option·getD}
 use Prim.Native.Nat.{ℕ, _≤_, _<_}
 use borrow.Author.Tests.{le-leb, leb-true}
 use lib.Dec.{T, leb}
@@ -11,8 +11,8 @@ use lib.IntN.{pos, natAbs, _-ℤ_}
 use lib.ListN.{length, getD, replicate}
 use Rattle.laws.specs.Test.{isSome, T-is, both-left, both-right, zero≢one}
 use Rattle.rules.specs.declared.Settings.{Settings}
-use Rattle.rules.specs.Builder.{knownEntries, completable}
-use Rattle.rules.specs.Cone.{Cone, values, coneSpan, completed, bootstrapTable, isLutValid}
+use Rattle.rules.specs.Builder.{knownEntries, opposed, completion, lastTried, completable}
+use Rattle.rules.specs.Cone.{Cone, values, coneSpan, completed, encoding, isLutValid, bootstrapTable}
 use Rattle.rules.specs.Rotation.{rotatable}
 use Rattle.rules.specs.Runs.{allBits}
 use Rattle.rules.specs.Span.{least, span}
@@ -28,8 +28,8 @@ pub record TableOf (P : ℕ) (c : Cone) (table : List ℕ) : Type 0 where
   pub turns : T (rotatable P table)
   pub agrees : (i : ℕ) → i < length (values c) → getD table (natAbs (getD (values c) i (pos 0) -ℤ least (values c))) 0 ≡ getD (c .truth) i 0
 
-pub table-of : (P : ℕ) (c : Cone) (table : List ℕ) → length (values c) ≡ length (c .truth) → bootstrapTable P c ≡ some table → TableOf P c table
-unfolding bootstrapTable completed coneSpan knownEntries
+pub table-of : (P : ℕ) (c : Cone) (table : List ℕ) → length (values c) ≡ length (c .truth) → encoding P c ≡ some table → TableOf P c table
+unfolding encoding completed coneSpan knownEntries
 table-of P c table e f = by (knownEntries (values c) (c .truth)) refl f
   where
     by : (o : Option (List ℕ)) → knownEntries (values c) (c .truth) ≡ o → completed P o ≡ some table → TableOf P c table
@@ -47,15 +47,15 @@ table-of P c table e f = by (knownEntries (values c) (c .truth)) refl f
 -- ---- A table is found exactly where there is one.
 
 module _ (P : ℕ) (c : Cone) (e : length (values c) ≡ length (c .truth)) where
-  found-table : isSome (bootstrapTable P c) ≡ true → (t : List ℕ) × TableOf P c t
-  found-table h = by (bootstrapTable P c) refl h
+  found-table : isSome (encoding P c) ≡ true → (t : List ℕ) × TableOf P c t
+  found-table h = by (encoding P c) refl h
     where
-      by : (o : Option (List ℕ)) → bootstrapTable P c ≡ o → isSome o ≡ true → (t : List ℕ) × TableOf P c t
+      by : (o : Option (List ℕ)) → encoding P c ≡ o → isSome o ≡ true → (t : List ℕ) × TableOf P c t
       by none f h = absurd (false≢true h)
       by (some t) f h = (t, table-of P c t e f)
 
-  table-found : (t : List ℕ) → TableOf P c t → isSome (bootstrapTable P c) ≡ true
-  unfolding bootstrapTable completed completable knownEntries coneSpan
+  table-found : (t : List ℕ) → TableOf P c t → isSome (encoding P c) ≡ true
+  unfolding encoding completed completable knownEntries coneSpan
   table-found t k =
       let vs = values c in
       let r = entered (least vs) t vs (c .truth) (replicate (span vs) 2) e (within vs)
@@ -68,9 +68,22 @@ module _ (s : Settings) (c : Cone) (e : length (values c) ≡ length (c .truth))
   unfolding isLutValid
   valid-table v = (
     leb-true (coneSpan c) (s .m) (both-left (leb (coneSpan c) (s .m)) _ v),
-    found-table (s .p) c e (both-right (leb (coneSpan c) (s .m)) (isSome (bootstrapTable (s .p) c)) v),
+    found-table (s .p) c e (both-right (leb (coneSpan c) (s .m)) (isSome (encoding (s .p) c)) v),
   )
 
   pub table-valid : coneSpan c ≤ s .m → (t : List ℕ) → TableOf (s .p) c t → isLutValid s c ≡ true
   unfolding isLutValid
   table-valid h t k = rw (le-leb (coneSpan c) (s .m) h, table-found (s .p) c e t k)
+
+-- and it is the one that a bootstrap takes
+pub encoding-taken : (P : ℕ) (c : Cone) → isSome (encoding P c) ≡ true → encoding P c ≡ some (bootstrapTable P c)
+unfolding encoding bootstrapTable completed lastTried
+encoding-taken P c = by (knownEntries (values c) (c .truth))
+  where
+    taken : (o : Option (List ℕ)) (d : List ℕ) → isSome o ≡ true → o ≡ some (Option·getD o d)
+    taken none d e = absurd (false≢true e)
+    taken (some t) d e = refl
+
+    by : (k : Option (List ℕ)) → isSome (completed P k) ≡ true → completed P k ≡ some (lastTried P (Option·getD k []))
+    by none e = absurd (false≢true e)
+    by (some known) e = taken (completion P known) (opposed P known) e

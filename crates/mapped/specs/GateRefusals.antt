@@ -9,7 +9,7 @@ use native.Mathlib.Omega.{arith}
 use borrow.Author.Tests.{ne-eqb}
 use lib.Dec.{T}
 use lib.ListN.{length, getD, take, drop}
-use Rattle.laws.specs.Test.{if_then_else_, if-both, zero≢one}
+use Rattle.laws.specs.Test.{if_then_else_, zero≢one}
 use Rattle.rules.specs.declared.Settings.{Settings}
 use Rattle.rules.specs.declared.Wire.{Wire}
 use Rattle.rules.specs.Circuit.{Given, Gate, Output, wireBit}
@@ -17,20 +17,18 @@ use Rattle.rules.specs.CircuitText.{inLimits, anyNoNode, matching}
 use Rattle.rules.specs.Composition.{compose}
 use Rattle.rules.specs.Cone.{Cone, Result, ok, err, norm2, withinNorm}
 use Rattle.rules.specs.Form.{Good, Refused}
-use Rattle.rules.specs.Mapper.{Mapped, mapUnaryGate, Sides, sides, switchInputs, bootstrapLeft, bootstrapRight, largerFirst, overLimit, limitSecond, limitSources, attempt, mapped, orElse, thirdAttempt, secondAttempt, mapBinaryGate, isConstant, constantValue, mapGate, State, coneAt, isForced, forced, mapNext, atLine, andThen, mapGates}
+use Rattle.rules.specs.Mapper.{Mapped, mapUnaryGate, Sides, sides, bootstrapLeft, bootstrapRight, largerFirst, limitSources, attempt, orElse, thirdAttempt, secondAttempt, mapBinaryGate, isConstant, constantValue, mapGate, State, coneAt, mapNext, atLine, andThen, mapGates}
 use Rattle.rules.specs.Network.{LutNode}
 use Rattle.rules.specs.Runs.{allBits}
-use Rattle.rules.specs.Store.{Stored}
 use Rattle.theorems.specs.Readings.{refused-same}
 use Rattle.theorems.specs.Results.{err-not, err-same, err-then, good-same, good-then}
 use Rattle.theorems.specs.SoundCircuits.{WireBits, SoundGate}
 use Rattle.mapped.specs.Cones.{Standing}
-use Rattle.mapped.specs.ConeRefusals.{unary-refusal, compose-refusal}
+use Rattle.mapped.specs.ConeUnary.{unary-refusal}
 use Rattle.mapped.specs.Store.{netFor, Store}
-use Rattle.mapped.specs.StoreBoots.{booted}
 use Rattle.mapped.specs.GateMeaning.{Means}
-use Rattle.mapped.specs.GateSides.{Sided, left-booted, right-booted, kept-switched, kept-left, kept-right, kept-limited, kept-first}
-use Rattle.mapped.specs.Gates.{Cones, Known, left-bits, right-bits, constant-bit, four-answers, wire-in, wire-means, wires-mapped}
+use Rattle.mapped.specs.GateSides.{Sided, left-booted, right-booted, kept-left, kept-right, kept-limited, kept-first}
+use Rattle.mapped.specs.Gates.{Cones, Known, four-answers, wire-in, wire-means}
 
 -- Over the nodes of a store that begins with the inputs.
 pub data Refusal (s : Settings) (inputs : List Given) (k : ℕ) : Type 0 where
@@ -48,71 +46,39 @@ module _ (s : Settings) (inputs : List Given) (before : List LutNode) (f g h : L
   abbrev Kept : Sides → Type 0
   Kept w = Sided s inputs before f g h w
 
-  -- Sides come of it.
-  abbrev IsOk : Result Sides → Type 0
-  IsOk r = (v : Sides) × (r ≡ ok v)
-
-  -- no bootstrap of a side is refused
-  left-boots : (w : Sides) → Kept w → IsOk (bootstrapLeft s w)
-  unfolding bootstrapLeft
-  left-boots w k = let b = booted s inputs (w .nodes) (w .left .cone) (k .store) (k .left .standing) in rw (b .1) (_, refl)
-
-  right-boots : (w : Sides) → Kept w → IsOk (bootstrapRight s w)
-  unfolding bootstrapRight
-  right-boots w k = let b = booted s inputs (w .nodes) (w .right .cone) (k .store) (k .right .standing) in rw (b .1) (_, refl)
-
-  second-limits : (w : Sides) → Kept w → IsOk (limitSecond s w)
-  unfolding limitSecond
-  second-limits w k = if-both IsOk (overLimit s w) (left-boots w k) (w, refl)
-
-  limits-sources : (w : Sides) → Kept w → IsOk (limitSources s w)
-  unfolding limitSources
-  limits-sources w k =
-      let z = left-boots w k in
-      let v = z .0 in
-      if-both IsOk (overLimit s w)
-      (rw (z .1) (second-limits (switchInputs v) (kept-switched s inputs before f g h v (kept-left s inputs before f g h limits room w v k (z .1))))) (w, refl)
-
   -- where an attempt is refused, the sides are not composed, and what comes next is refused
-  attempt-refused : (w : Sides) (next : Result Mapped) (k : ℕ) → Kept w → orElse w (attempt s w) next ≡ err k
+  attempt-refused : (w : Sides) (next : Result Mapped) (k : ℕ) → orElse w (attempt s w) next ≡ err k
       → (compose s (w .nodes) (w .left .cone) (w .right .cone) (w .gate) ≡ none) × (next ≡ err k)
-  unfolding attempt orElse mapped
-  attempt-refused w next k q = by (compose s (w .nodes) (w .left .cone) (w .right .cone) (w .gate)) refl
+  unfolding attempt orElse
+  attempt-refused w next k = by (compose s (w .nodes) (w .left .cone) (w .right .cone) (w .gate)) refl
     where
-      by : (o : Option (Result Cone)) → compose s (w .nodes) (w .left .cone) (w .right .cone) (w .gate) ≡ o → orElse w o next ≡ err k
+      by : (o : Option Cone) → compose s (w .nodes) (w .left .cone) (w .right .cone) (w .gate) ≡ o → orElse w o next ≡ err k
           → (compose s (w .nodes) (w .left .cone) (w .right .cone) (w .gate) ≡ none) × (next ≡ err k)
       by none c e = (c, e)
-      by (some (ok d)) c e = absurd (err-not k _ (sym e))
-      by (some (err j)) c e =
-          absurd (compose-refusal s limits (w .nodes) (w .left .cone) (w .right .cone) (w .gate) (q .left .standing) (q .right .standing) (q .answerBits) j c)
+      by (some d) c e = absurd (err-not k _ (sym e))
 
   third-refused : (w : Sides) (k : ℕ) → Kept w → length (w .left .cone .support) ≤ 1 → thirdAttempt s w ≡ err k → Refusal s inputs k
   unfolding thirdAttempt
   third-refused w k q few e =
-      let z = right-boots w q in
-      let v = z .0 in
-      let one = right-booted s w v (z .1) in
-      let p = kept-right s inputs before f g h limits room w v q (z .1) in
-      let r = attempt-refused v (err 9) k p (rw (z .1) at e) in
+      let v = bootstrapRight s w in
+      let one = right-booted s w in
+      let p = kept-right s inputs before f g h limits room w q in
+      let r = attempt-refused v (err 9) k e in
       uncomposed (sym (err-same 9 k (r .1))) (v .nodes) (p .store) (v .left .cone) (v .right .cone) (v .gate) (p .left .standing) (p .right .standing)
       (rw (one .1) few) (one .0) (p .answerBits) (r .0)
 
   second-refused : (w : Sides) (k : ℕ) → Kept w → secondAttempt s w ≡ err k → Refusal s inputs k
   unfolding secondAttempt
   second-refused w k q e =
-      let z = left-boots w q in
-      let v = z .0 in
-      let p = kept-left s inputs before f g h limits room w v q (z .1) in
-      third-refused v k p (left-booted s w v (z .1) .0) (attempt-refused v (thirdAttempt s v) k p (rw (z .1) at e) .1)
+      let v = bootstrapLeft s w in
+      third-refused v k (kept-left s inputs before f g h limits room w q) (left-booted s w .0) (attempt-refused v (thirdAttempt s v) k e .1)
 
   binary-refused : (left right : Cone) (gate : List ℕ) (k : ℕ) → Kept (largerFirst (sides before left right gate)) → mapBinaryGate s before left right gate ≡ err k → Refusal s inputs k
   unfolding mapBinaryGate
   binary-refused left right gate k q e =
       let first = largerFirst (sides before left right gate) in
-      let z = limits-sources first q in
-      let w = z .0 in
-      let p = kept-limited s inputs before f g h limits room first w q (z .1) in
-      second-refused w k p (attempt-refused w (secondAttempt s w) k p (rw (z .1) at e) .1)
+      let w = limitSources s first in
+      second-refused w k (kept-limited s inputs before f g h limits room first q) (attempt-refused w (secondAttempt s w) k e .1)
 
 -- ---- A gate of the circuit.
 
@@ -123,8 +89,8 @@ not-three gate u v w ws e =
     false≢true (rw (ne-eqb (suc (suc (suc n))) 1 (omega arith), ne-eqb (suc (suc (suc n))) 2 (omega arith)) at e)
 
 module _ (s : Settings) (inputs : List Given) (limits : inLimits s ≡ true) where
-  unary-refused : (nodes : List LutNode) → Store (netFor s) inputs nodes → (c : Cone) (gate : List ℕ) (k : ℕ) → Standing s nodes c → T (allBits gate) → mapUnaryGate s nodes c gate ≡ err k → Refusal s inputs k
-  unary-refused nodes store c gate k st good e = let r = unary-refusal s limits nodes c gate k st good e in over-norm (r .0) nodes store c st (r .1)
+  unary-refused : (nodes : List LutNode) → Store (netFor s) inputs nodes → (c : Cone) (gate : List ℕ) (k : ℕ) → Standing s nodes c → mapUnaryGate s nodes c gate ≡ err k → Refusal s inputs k
+  unary-refused nodes store c gate k st e = let r = unary-refusal s nodes c gate k e in over-norm (r .0) nodes store c st (r .1)
 
   module _ (nodes : List LutNode) (store : Store (netFor s) inputs nodes) (room : length nodes + 6 ≤ 672) where
     two-refused : (left right : Cone) (gate : List ℕ) (k : ℕ) (f g : List ℕ → ℕ) → Means s inputs nodes left f → Means s inputs nodes right g
@@ -135,8 +101,8 @@ module _ (s : Settings) (inputs : List Given) (limits : inLimits s ≡ true) whe
         by : (t u : Bool) → (if t then mapUnaryGate s nodes right (take 2 (drop (2 * constantValue left) gate))
             else if u then mapUnaryGate s nodes left (getD gate (constantValue right) 0 ∷ getD gate (2 + constantValue right) 0 ∷ [])
             else mapBinaryGate s nodes left right gate) ≡ err k → Refusal s inputs k
-        by true u e = unary-refused nodes store right _ k (b .standing) (left-bits gate four good (constantValue left) (constant-bit left (a .standing))) e
-        by false true e = unary-refused nodes store left _ k (a .standing) (right-bits gate four good (constantValue right) (constant-bit right (b .standing))) e
+        by true u e = unary-refused nodes store right _ k (b .standing) e
+        by false true e = unary-refused nodes store left _ k (a .standing) e
         by false false e =
             let h : List ℕ → ℕ = λ bits. getD gate (2 * f bits + g bits) 0 in
             binary-refused s inputs nodes f g h limits room left right gate k (kept-first s inputs nodes f g h limits room left right gate store a b four good (λ bits q. refl)) e
@@ -146,35 +112,22 @@ module _ (s : Settings) (inputs : List Given) (limits : inLimits s ≡ true) whe
     unfolding WireBits
     wires-refused cones F n known [] gate k w c good q e = absurd (unfold matching in (zero≢one (cc)))
     wires-refused cones F n known (v ∷ []) gate k w c good q e =
-        unary-refused nodes store (coneAt cones v) gate k (wire-means s inputs nodes store F n cones v known (wire-in n (v ∷ []) 0 w) (c .0) .standing) good (unfold mapGate in e)
+        unary-refused nodes store (coneAt cones v) gate k (wire-means s inputs nodes store F n cones v known (wire-in n (v ∷ []) 0 w) (c .0) .standing) (unfold mapGate in e)
     wires-refused cones F n known (v ∷ u ∷ []) gate k w c good q e =
         two-refused (coneAt cones v) (coneAt cones u) gate k (λ bits. wireBit (F bits) v) (λ bits. wireBit (F bits) u)
         (wire-means s inputs nodes store F n cones v known (wire-in n (v ∷ u ∷ []) 0 w) (c .0))
         (wire-means s inputs nodes store F n cones u known (wire-in n (v ∷ u ∷ []) 1 w) (c .1 .0)) (four-answers gate v u q) good e
     wires-refused cones F n known (v ∷ u ∷ x ∷ ws) gate k w c good q e = absurd (not-three gate v u x ws q)
 
-  forced-boots : (t : Bool) (m : Mapped) → Store (netFor s) inputs (m .nodes) → Standing s (m .nodes) (m .cone) → (b : Stored) × (forced s t m ≡ ok b)
-  unfolding forced
-  forced-boots t m store st = if-both (λ r. (b : Stored) × (r ≡ ok b)) t (booted s inputs (m .nodes) (m .cone) store st) (_, refl)
-
   pub next-refused : (outputs : List Output) (st : State) (F : List ℕ → List ℕ) (k n : ℕ) (g : Gate) (j : ℕ) → Known s inputs st F k n → SoundGate n g
       → length inputs ≤ 32 → k < 96 → mapNext s outputs st g ≡ err j → Refusal s inputs j
   unfolding mapNext
   next-refused outputs st F k n g j known sound few more e =
       ⊎-elim
-      (λ r. wires-refused (st .nodes) (known .store) room (st .cones) F n (known .cones) (g .wires) (g .bits) j (sound .earlier) (sound .constants) (sound .answers) (sound .shape) r)
-      (λ r. absurd (err-not j _ (sym (rw (boots (r .0) (r .1) .1) at (r .2)))))
+      (λ r. wires-refused (st .nodes) (known .store) (let l = known .most in omega arith) (st .cones) F n (known .cones) (g .wires) (g .bits) j
+      (sound .earlier) (sound .constants) (sound .answers) (sound .shape) r)
+      (λ r. absurd (err-not j _ (sym (r .2))))
       (err-then (mapGate s (st .nodes) (map (coneAt (st .cones)) (g .wires)) (g .bits)) _ j e)
-    where
-      room : length (st .nodes) + 6 ≤ 672
-      room = let l = known .most in omega arith
-
-      -- what a gate gives is bootstrapped where it has to be
-      boots : (m : Mapped) → mapGate s (st .nodes) (map (coneAt (st .cones)) (g .wires)) (g .bits) ≡ ok m → (b : Stored) × (forced s (isForced s outputs (length (st .cones))) m ≡ ok b)
-      boots m q =
-          let gm = wires-mapped s inputs limits (st .nodes) (known .store) room (st .cones) F n (known .cones) (g .wires) (g .bits) m
-          (sound .earlier) (sound .constants) (sound .answers) (sound .shape) q in
-          forced-boots (isForced s outputs (length (st .cones))) m (gm .store) (gm .means .standing)
 
 -- ---- The gate that is refused, after those before it.
 

@@ -3,13 +3,13 @@ pub mod Uncapped
 pub mod Statements
 pub mod Cones
 pub mod ConeEncoded
+pub mod ConeValid
 pub mod ConeGate
 pub mod ConeFound
 pub mod ConeSimplified
 pub mod ConeStillFits
 pub mod ConeComposes
 pub mod ConeUnary
-pub mod ConeRefusals
 pub mod SingleSources
 pub mod Store
 pub mod SharedDepths
@@ -37,6 +37,8 @@ pub mod TextReadBack
 pub mod TextLength
 pub mod Whole
 pub mod Cap
+pub mod ConeBuilt
+pub mod NeverTen
 pub mod TwoSourceCones
 pub mod TwoSources
 pub mod Agrees

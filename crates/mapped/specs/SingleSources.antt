@@ -23,7 +23,7 @@ use Rattle.rules.specs.declared.Policy.the-variants.{Span}
 use Rattle.rules.specs.declared.Settings.{Settings}
 use Rattle.rules.specs.CircuitText.{inLimits}
 use Rattle.rules.specs.Composition.{unionSupport, gateTruth, allEqual, Scales, scales, scalePairs, triedPairs, mergedCoefficients, evaluate, findCandidate, mergeCones, compose}
-use Rattle.rules.specs.Cone.{Cone, constant, terms, values, coneSpan, norm2, withinNorm, fits, ok, Candidate, better, bestFrom, best}
+use Rattle.rules.specs.Cone.{Cone, constant, terms, values, coneSpan, norm2, withinNorm, fits, Candidate, better, bestFrom, best}
 use Rattle.rules.specs.Network.{LutNode, weightOf, nodeAt, member}
 use Rattle.rules.specs.NetworkText.{over}
 use Rattle.rules.specs.Runs.{allBits}
@@ -38,7 +38,7 @@ use Rattle.mapped.specs.Cones.{Standing, standing-shape, standing-single
 use Rattle.mapped.specs.ConeEncoded.{table-valid}
 use Rattle.mapped.specs.ConeFound.{Each}
 use Rattle.mapped.specs.ConeGate.{gateTruth-length, gateTruth-bits}
-use Rattle.mapped.specs.ConeRefusals.{numbers, two-rows, short-turns}
+use Rattle.mapped.specs.ConeValid.{numbers, two-rows, short-turns}
 
 pub within-least : (s : Settings) (m n : ℕ) → AtLeast m (s .norm) → n ≤ m → withinNorm s n ≡ true
 unfolding withinNorm
@@ -328,12 +328,12 @@ module _ (s : Settings) (nodes : List LutNode) (limits : inLimits s ≡ true) (p
         truth : List ℕ
         truth = truthOf left right
 
-        no-candidate : (o : Option Candidate) → Option·map (mergeCones s nodes) o ≡ none → o ≡ none
+        no-candidate : (o : Option Candidate) → Option·map mergeCones o ≡ none → o ≡ none
         no-candidate none e = refl
         no-candidate (some d) e = absurd (zero≢one (cc))
 
         by : (a b : Bool) → allEqual truth ≡ b → a ≡ false
-            → (if a then none else if b then some (ok (constant (getD truth 0 0))) else Option·map (mergeCones s nodes) (findCandidate s nodes U left right truth)) ≡ none → ⊥
+            → (if a then none else if b then some (constant (getD truth 0 0)) else Option·map mergeCones (findCandidate s nodes U left right truth)) ≡ none → ⊥
         by true b g f e = true≢false f
         by false true g f e = zero≢one (cc)
         by false false g f e =

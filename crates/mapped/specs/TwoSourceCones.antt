@@ -159,6 +159,6 @@ module _ (s : Settings) (nodes : List LutNode) (short : s .m ≤ 2) (left right 
   unfolding compose
   compose-none = rw varies (if-both (λ o. o ≡ none) (ltb (s .t + 1) (length union)) refl (by (findCandidate s nodes union left right rows) (found s nodes left right gate)))
     where
-      by : (o : Option Candidate) → ((d : Candidate) → o ≡ some d → Found s nodes left right gate d) → Option·map (mergeCones s nodes) o ≡ none
+      by : (o : Option Candidate) → ((d : Candidate) → o ≡ some d → Found s nodes left right gate d) → Option·map mergeCones o ≡ none
       by none f = refl
       by (some d) f = absurd (no-candidate d (f d refl))

@@ -1,5 +1,5 @@
 -- A gate that depends on two sources is refused where M is 2: bootstraps leave its sides as they were, and no attempt succeeds.
-use mathlib.Core.Path.{_≡_, refl, sym, ap, ap₂, subst, _∙_}
+use mathlib.Core.Path.{_≡_, refl, sym, ap, ap₂, _∙_}
 use mathlib.Core.Bool.{true, false}
 use mathlib.Core.List.{List, [], _∷_, map}
 use mathlib.Core.Logic.{⊎-elim}
@@ -11,7 +11,7 @@ use Rattle.laws.specs.Test.{if-both, decide, neither-left, neither-right}
 use Rattle.laws.specs.Lists.{nil-of}
 use Rattle.rules.specs.declared.Settings.{Settings}
 use Rattle.rules.specs.Circuit.{Gate, Output, Circuit}
-use Rattle.rules.specs.Cone.{Cone, rowFrom, coneBit, Result, ok, err, _>>=_, less, coneOrderKey}
+use Rattle.rules.specs.Cone.{Cone, rowFrom, coneBit, Result, err, less, coneOrderKey}
 use Rattle.rules.specs.Mapper.{Mapped, Sides, sides, switchInputs, bootstrapLeft, bootstrapRight, largerFirst, overLimit, limitSecond, limitSources, attempt, orElse, secondAttempt, thirdAttempt, mapBinaryGate, isConstant, mapGate, State, coneAt, mapNext, andThen, mapGates, usedSettings, start, mapWith, mapCircuit, mapper}
 use Rattle.rules.specs.Network.{LutNode, member}
 use Rattle.rules.specs.Outcome.{outcome, refused}
@@ -97,33 +97,25 @@ small-switched w k =
     }
 
 module _ (s : Settings) where
-  -- What comes of sides like these, if it is sides at all, is like these.
-  abbrev Stays : Result Sides → Type 0
-  Stays r = (v : Sides) × (r ≡ ok v) × Small v
-
-  left-stays : (w : Sides) → Small w → Stays (bootstrapLeft s w)
+  left-stays : (w : Sides) → Small w → Small (bootstrapLeft s w)
   unfolding bootstrapLeft bootstrapCone
   left-stays w k =
       rw (le-leb (length (w .left .cone .support)) 1 (k .left))
-      (_, refl, record { left = k .left; right = k .right; left-bits = k .left-bits; right-bits = k .right-bits; two = k .two })
+      (record { left = k .left; right = k .right; left-bits = k .left-bits; right-bits = k .right-bits; two = k .two })
 
-  right-stays : (w : Sides) → Small w → Stays (bootstrapRight s w)
+  right-stays : (w : Sides) → Small w → Small (bootstrapRight s w)
   unfolding bootstrapRight bootstrapCone
   right-stays w k =
       rw (le-leb (length (w .right .cone .support)) 1 (k .right))
-      (_, refl, record { left = k .left; right = k .right; left-bits = k .left-bits; right-bits = k .right-bits; two = k .two })
+      (record { left = k .left; right = k .right; left-bits = k .left-bits; right-bits = k .right-bits; two = k .two })
 
-  then-stays : (r : Result Sides) (f : Sides → Result Sides) → Stays r → ((v : Sides) → Small v → Stays (f v)) → Stays (r >>= f)
-  then-stays r f z h = subst (λ r. Stays (r >>= f)) (sym (z .1)) (h (z .0) (z .2))
-
-  second-stays : (w : Sides) → Small w → Stays (limitSecond s w)
+  second-stays : (w : Sides) → Small w → Small (limitSecond s w)
   unfolding limitSecond
-  second-stays w k = if-both Stays (overLimit s w) (left-stays w k) (w, refl, k)
+  second-stays w k = if-both Small (overLimit s w) (left-stays w k) k
 
-  limit-stays : (w : Sides) → Small w → Stays (limitSources s w)
+  limit-stays : (w : Sides) → Small w → Small (limitSources s w)
   unfolding limitSources
-  limit-stays w k =
-      if-both Stays (overLimit s w) (then-stays (bootstrapLeft s w) _ (left-stays w k) (λ v q. second-stays (switchInputs v) (small-switched v q))) (w, refl, k)
+  limit-stays w k = if-both Small (overLimit s w) (second-stays (switchInputs (bootstrapLeft s w)) (small-switched (bootstrapLeft s w) (left-stays w k))) k
 
   module _ (short : s .m ≤ 2) where
     attempt-none : (w : Sides) (next : Result Mapped) → Small w → orElse w (attempt s w) next ≡ next
@@ -132,18 +124,21 @@ module _ (s : Settings) where
 
     third-refuses : (w : Sides) → Small w → thirdAttempt s w ≡ err 9
     unfolding thirdAttempt
-    third-refuses w k = let z = right-stays w k in rw (z .1) (attempt-none (z .0) (err 9) (z .2))
+    third-refuses w k = attempt-none (bootstrapRight s w) (err 9) (right-stays w k)
 
     second-refuses : (w : Sides) → Small w → secondAttempt s w ≡ err 9
     unfolding secondAttempt
-    second-refuses w k = let z = left-stays w k in rw (z .1) (attempt-none (z .0) (thirdAttempt s (z .0)) (z .2) ∙ third-refuses (z .0) (z .2))
+    second-refuses w k =
+        let v = bootstrapLeft s w in
+        attempt-none v (thirdAttempt s v) (left-stays w k) ∙ third-refuses v (left-stays w k)
 
     binary-refuses : (nodes : List LutNode) (left right : Cone) (gate : List ℕ) → Small (sides nodes left right gate) → mapBinaryGate s nodes left right gate ≡ err 9
     unfolding mapBinaryGate largerFirst sides
     binary-refuses nodes left right gate k =
         let first = if-both Small (less (coneOrderKey nodes (sides nodes left right gate .left .cone)) (coneOrderKey nodes (sides nodes left right gate .right .cone))) (small-switched (sides nodes left right gate) k) k in
+        let w = limitSources s (largerFirst (sides nodes left right gate)) in
         let z = limit-stays (largerFirst (sides nodes left right gate)) first in
-        rw (z .1) (attempt-none (z .0) (secondAttempt s (z .0)) (z .2) ∙ second-refuses (z .0) (z .2))
+        attempt-none w (secondAttempt s w) z ∙ second-refuses w z
 
     gate-refuses : (nodes : List LutNode) (left right : Cone) (gate : List ℕ) → Standing s nodes left → Standing s nodes right → DependsOnTwo (answer left right gate)
         → mapGate s nodes (left ∷ right ∷ []) gate ≡ err 9

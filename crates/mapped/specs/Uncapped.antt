@@ -14,25 +14,25 @@ use Rattle.rules.specs.Mapper.{Mapped, mapUnaryGate, Sides, sides, bootstrapLef
 use Rattle.rules.specs.Network.{LutNode, Network}
 use Rattle.rules.specs.Outcome.{Outcome}
 
-unfoldable pub uncappedCompose : Settings → List LutNode → Cone → Cone → List ℕ → Option (Result Cone)
+unfoldable pub uncappedCompose : Settings → List LutNode → Cone → Cone → List ℕ → Option Cone
 uncappedCompose s nodes left right gate =
     let support = unionSupport (left .support) (right .support) in
     let truth = gateTruth support left right gate in
-    let merged = Option·map (mergeCones s nodes) (findCandidate s nodes support left right truth) in
-    if allEqual truth then some (ok (constant (getD truth 0 0))) else merged
+    let merged = Option·map mergeCones (findCandidate s nodes support left right truth) in
+    if allEqual truth then some (constant (getD truth 0 0)) else merged
 
-unfoldable pub uncappedAttempt : Settings → Sides → Option (Result Cone)
+unfoldable pub uncappedAttempt : Settings → Sides → Option Cone
 uncappedAttempt s w = uncappedCompose s (w .nodes) (w .left .cone) (w .right .cone) (w .gate)
 
 unfoldable pub uncappedThird : Settings → Sides → Result Mapped
-uncappedThird s w = bootstrapRight s w >>= (λ v. orElse v (uncappedAttempt s v) (err 9))
+uncappedThird s w = let v = bootstrapRight s w in orElse v (uncappedAttempt s v) (err 9)
 
 unfoldable pub uncappedSecond : Settings → Sides → Result Mapped
-uncappedSecond s w = bootstrapLeft s w >>= (λ v. orElse v (uncappedAttempt s v) (uncappedThird s v))
+uncappedSecond s w = let v = bootstrapLeft s w in orElse v (uncappedAttempt s v) (uncappedThird s v)
 
 unfoldable pub uncappedBinaryGate : Settings → List LutNode → Cone → Cone → List ℕ → Result Mapped
 uncappedBinaryGate s nodes left right gate =
-    limitSources s (largerFirst (sides nodes left right gate)) >>= (λ w. orElse w (uncappedAttempt s w) (uncappedSecond s w))
+    let w = limitSources s (largerFirst (sides nodes left right gate)) in orElse w (uncappedAttempt s w) (uncappedSecond s w)
 
 unfoldable pub uncappedGate : Settings → List LutNode → List Cone → List ℕ → Result Mapped
 uncappedGate s nodes [] gate = err 7
@@ -46,8 +46,8 @@ uncappedGate s nodes (a ∷ b ∷ c ∷ cs) gate = err 7
 unfoldable pub uncappedNext : Settings → List Output → State → Gate → Result State
 uncappedNext s outputs st g = do
   m ← uncappedGate s (st .nodes) (map (coneAt (st .cones)) (g .wires)) (g .bits)
-  b ← forced s (isForced s outputs (length (st .cones))) m
-  ok (record { nodes = b .nodes; cones = replaced (g .wires) m (st .cones) ++ (b .cone ∷ []) })
+  let b = forced s (isForced s outputs (length (st .cones))) m in
+      ok (record { nodes = b .nodes; cones = replaced (g .wires) m (st .cones) ++ (b .cone ∷ []) })
 
 unfoldable pub uncappedGates : Settings → List Output → State → List Gate → Reading State
 uncappedGates s outputs st [] = Good st

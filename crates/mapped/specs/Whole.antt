@@ -14,17 +14,17 @@ use Rattle.rules.specs.declared.Settings.{Settings}
 use Rattle.rules.specs.Builder.{tableLimits}
 use Rattle.rules.specs.Circuit.{Gate, Circuit, gateValues}
 use Rattle.rules.specs.CircuitText.{inLimits, ended, readCircuit}
-use Rattle.rules.specs.Cone.{ok, err, withinNorm}
+use Rattle.rules.specs.Cone.{err, withinNorm}
 use Rattle.rules.specs.Form.{Reading, Good, Refused}
-use Rattle.rules.specs.Mapper.{State, Outputs, atLine, andThen, isBasic, mapNext, mapGates, mapOutputs, usedSettings, pruned, checked, start, finish, mapWith, mapCircuit, answerWith, mapper}
+use Rattle.rules.specs.Mapper.{State, Outputs, andThen, isBasic, mapNext, mapGates, mapOutputs, usedSettings, pruned, checked, start, finish, mapWith, mapCircuit, answerWith, mapper}
 use Rattle.rules.specs.Network.{Network, isLinear, count, nodeNorm, largest}
 use Rattle.rules.specs.Outcome.{outcome, refused}
 use Rattle.rules.specs.Writing.{networkText}
 use Rattle.theorems.specs.AdmissionExact.{circuits, circuits-regular, circuit-exact}
 use Rattle.theorems.specs.Readings.{holds-from, holds-within}
 use Rattle.theorems.specs.SoundCircuits.{Sound, read-sound, gate-sound, SoundGate, SoundGates}
-use Rattle.theorems.specs.Results.{good-same, good-then, reading-then}
-use Rattle.mapped.specs.Outputs.{SameOutputs, all-outputs, all-mapped}
+use Rattle.theorems.specs.Results.{good-same, reading-then}
+use Rattle.mapped.specs.Outputs.{SameOutputs, all-outputs}
 use Rattle.mapped.specs.Gates.{Known, gates-known}
 use Rattle.mapped.specs.GateStart.{start-known}
 use Rattle.mapped.specs.Statements.{MapsTo, Whole, is-written, is-unreadable, is-refused, is-over, is-too-long}
@@ -103,22 +103,8 @@ module _ (c : Circuit) (sound : Sound c) where
       next-refused s (c .inputs) (used-limits (c .settings) (sound .settings .limits)) (c .outputs) st (λ bits. gateValues bits before) (0 + length before)
       (length (c .inputs) + length before) g k (z .0) (z .1) (sound .parts .inputsFit) (omega arith) q
 
-  outputs-done : (st : State) → mapGates s (c .outputs) (start c) (c .gates) ≡ Good st → (done : Outputs) × (mapOutputs s (st .cones) (empty st) (c .outputs) ≡ ok done)
-  outputs-done st e =
-      let parts = sound .parts in
-      let i = parts .inputsFit in
-      let g = parts .gatesFit in
-      let o = parts .outputsFit in
-      let k = known st e in
-      let m = k .most in
-      let z = k .sums in
-      all-mapped s (c .inputs) (used-limits (c .settings) (sound .settings .limits)) (st .cones) (λ bits. gateValues bits (c .gates))
-      (length (c .inputs) + length (c .gates)) 608 288 (st .nodes) (c .outputs)
-      (k .store) (omega arith) (omega arith) (k .cones) (parts .outputsSound) (omega arith)
-
-  done-known : (st : State) (done : Outputs) → mapGates s (c .outputs) (start c) (c .gates) ≡ Good st → mapOutputs s (st .cones) (empty st) (c .outputs) ≡ ok done
-      → Finished s c done
-  done-known st done e q =
+  done-known : (st : State) → mapGates s (c .outputs) (start c) (c .gates) ≡ Good st → Finished s c (mapOutputs s (st .cones) (empty st) (c .outputs))
+  done-known st e =
       let parts = sound .parts in
       let i = parts .inputsFit in
       let g = parts .gatesFit in
@@ -127,8 +113,8 @@ module _ (c : Circuit) (sound : Sound c) where
       let m = k .most in
       let z = k .sums in
       let r = all-outputs s (c .inputs) (used-limits (c .settings) (sound .settings .limits)) (st .cones) (λ bits. gateValues bits (c .gates))
-      (length (c .inputs) + length (c .gates)) 608 288 (st .nodes) done (c .outputs)
-      (k .store) (omega arith) (omega arith) (k .cones) (parts .outputsSound) (omega arith) q in
+      (length (c .inputs) + length (c .gates)) 608 288 (st .nodes) (c .outputs)
+      (k .store) (omega arith) (omega arith) (k .cones) (parts .outputsSound) (omega arith) in
       let m′ = r .most in
       let z′ = r .sums in
       record { store = r .store; most = omega arith; sums = omega arith; same = r .same }
@@ -150,7 +136,7 @@ pub record Comes (text : List ℕ) (w : Network) : Type 0 where
   pub state : State
   pub gates : mapGates (usedSettings (circuit .settings)) (circuit .outputs) (start circuit) (circuit .gates) ≡ Good state
   pub done : Outputs
-  pub outputs : mapOutputs (usedSettings (circuit .settings)) (state .cones) (record { nodes = state .nodes; outputs = [] }) (circuit .outputs) ≡ ok done
+  pub outputs : mapOutputs (usedSettings (circuit .settings)) (state .cones) (record { nodes = state .nodes; outputs = [] }) (circuit .outputs) ≡ done
   pub is : pruned (usedSettings (circuit .settings)) done ≡ w
   pub finished : Finished (usedSettings (circuit .settings)) circuit done
 
@@ -163,16 +149,16 @@ comes text w e =
     let sound = read-sound text c (r .1) in
     let p = reading-then (mapGates s (c .outputs) (start c) (c .gates)) (finish s (c .outputs)) w (r .2) in
     let st = p .0 in
-    let q = good-then 0 (mapOutputs s (st .cones) (record { nodes = st .nodes; outputs = [] }) (c .outputs)) (λ done. checked s (pruned s done)) w (p .2) in
+    let done = mapOutputs s (st .cones) (record { nodes = st .nodes; outputs = [] }) (c .outputs) in
     record {
       circuit = c;
       read = r .1;
       state = st;
       gates = p .1;
-      done = q .0;
-      outputs = q .1;
-      is = checked-same s (pruned s (q .0)) w (q .2);
-      finished = done-known c sound st (q .0) (p .1) (q .1);
+      done = done;
+      outputs = refl;
+      is = checked-same s (pruned s done) w (p .2);
+      finished = done-known c sound st (p .1);
     }
 
 -- ---- Every answer.
@@ -206,13 +192,12 @@ module _ (text buffer : List ℕ) where
         let sound = read-sound text c read in
         let g = reached-known c sound (r .before) (r .after) (r .gate) (r .state) (r .are) (r .reached) .1 in
         let l = refusal-number s (c .inputs) k (gate-refusal c sound (r .before) (r .after) (r .gate) (r .state) k (r .are) (r .reached) (r .refuses)) in
-        let most = l .1 in
-        is-refused c (r .before) (r .after) (r .gate) (r .state) k read (r .are) (r .reached) (r .refuses) (l .0) (omega arith) (g .placed)
+        is-refused c (r .before) (r .after) (r .gate) (r .state) k read (r .are) (r .reached) (r .refuses) (l .0) (l .1) (g .placed)
         (refusal k (r .gate .line) (rw (read, e, r .at) refl))
 
     over-or-not : (st : State) (done : Outputs) → mapGates (usedSettings (c .settings)) (c .outputs) (start c) (c .gates) ≡ Good st
-        → mapOutputs (usedSettings (c .settings)) (st .cones) (record { nodes = st .nodes; outputs = [] }) (c .outputs) ≡ ok done → Whole text buffer
-    unfolding andThen mapCircuit mapWith finish atLine checked
+        → mapOutputs (usedSettings (c .settings)) (st .cones) (record { nodes = st .nodes; outputs = [] }) (c .outputs) ≡ done → Whole text buffer
+    unfolding andThen mapCircuit mapWith finish checked
     over-or-not st done e q = by (isBasic (s .policy) && not (withinNorm s (largest (nodeNorm (pruned s done .nodes)) (pruned s done .nodes)))) refl
       where
         s : Settings
@@ -226,7 +211,7 @@ module _ (text buffer : List ℕ) where
 
     circuit-whole : (r : Reading State) → mapGates (usedSettings (c .settings)) (c .outputs) (start c) (c .gates) ≡ r → Whole text buffer
     circuit-whole (Refused k line) e = gates-whole k line e
-    circuit-whole (Good st) e = let d = outputs-done c (read-sound text c read) st e in over-or-not st (d .0) e (d .1)
+    circuit-whole (Good st) e = over-or-not st _ e refl
 
   pub whole : Whole text buffer
   whole = by (readCircuit text) refl

@@ -15,7 +15,7 @@ use Rattle.rules.specs.Circuit as C
 use Rattle.rules.specs.CircuitText.{inLimits, readCircuit}
 use Rattle.rules.specs.Cone.{identity}
 use Rattle.rules.specs.Form as F
-use Rattle.rules.specs.Mapper.{Outputs, usedSettings, andThen, pruned, checked, start, finish, mapWith, mapCircuit, mapReply, answerWith, mapper}
+use Rattle.rules.specs.Mapper.{State, Outputs, usedSettings, andThen, mapGates, pruned, checked, start, finish, mapWith, mapCircuit, mapReply, answerWith, mapper}
 use Rattle.rules.specs.Network.{Network, Input}
 use Rattle.rules.specs.Outcome.{outcome}
 use Rattle.mapped.specs.Proved.{mapped-fits}
@@ -28,7 +28,7 @@ use Rattle.circuit.specs.View.{gatesIn, inputIn, inputsIn, outputsIn, circuitOf
 use Rattle.gates.specs.declared.Work.{Work}
 use Rattle.gates.specs.Wired.{SlotIn, stateOf}
 use Rattle.gates.specs.Gates.{GoodGates}
-use Rattle.outputs.specs.Outputs.{PortIn, GoodPorts, Done}
+use Rattle.outputs.specs.Outputs.{PortIn, GoodPorts, outputsRead, Done}
 use Rattle.gates.specs.Start.{Inputs, Started}
 use Rattle.mapper.specs.Once.{outputsAfter, mapOnce, doneRead}
 use Rattle.conclude.specs.Conclude.{concluded, Finishable}
@@ -87,17 +87,16 @@ module _ (s gs ps : List ℕ) (c : Circuit) (r : Read s gs ps c) where
 
 -- ---- laws: what the steps give back
 
-then-then : {A B D : Type 0} (r : F.Reading A) (f : A → F.Reading B) (g : B → F.Reading D) → andThen (andThen r f) g ≡ andThen r (λ a. andThen (f a) g)
-unfolding andThen
-then-then (F.Good a) f g = refl
-then-then (F.Refused k l) f g = refl
-
 unfoldable closing : Settings → Outputs → F.Reading Network
 closing u done = checked u (pruned u done)
 
 with-once : (u : Settings) (c : C.Circuit) → mapWith u c ≡ andThen (mapOnce u (c .outputs) (start c) (c .gates)) (closing u)
-unfolding mapWith finish mapOnce outputsAfter closing
-with-once u c = sym (then-then _ _ _)
+unfolding mapWith finish mapOnce outputsAfter closing andThen
+with-once u c = by (mapGates u (c .outputs) (start c) (c .gates))
+  where
+    by : (r : F.Reading State) → andThen r (finish u (c .outputs)) ≡ andThen (andThen r (outputsAfter u (c .outputs))) (closing u)
+    by (F.Good st) = refl
+    by (F.Refused k l) = refl
 
 started-is : (s gs ps : List ℕ) (c : Circuit) (nodes wires : List ℕ) → Started s ps (c .inputs) nodes wires
     → stateOf nodes (c .inputs) wires (c .inputs) ≡ start (circuitOf s gs ps c)
@@ -123,15 +122,15 @@ module _ (s gs ps : List ℕ) (c : Circuit) (u : Settings) (eu : u ≡ usedSetti
   steps-refused buffer n = rw (steps-are, ne-eqb (w .number) 0 n) refl
 
   pub steps-done : w .number ≡ 0 → concluded u s ports (c .outs) after (w .count) ≡ mapCircuit (circuitOf s gs ps c)
-  unfolding concluded doneRead andThen closing
+  unfolding concluded doneRead andThen closing outputsRead
   steps-done n = sym (rw (steps-are, eq-eqb (w .number) 0 n) refl)
 
-  pub steps-finishable : Read s gs ps c → Done ps (c .outs) after ports w → w .number ≡ 0 → Finishable u s ports (c .outs) after (w .count)
+  pub steps-finishable : Read s gs ps c → Done ps (c .outs) after ports (w .count) → w .number ≡ 0 → Finishable u s ports (c .outs) after (w .count)
   unfolding andThen
   steps-finishable r d n =
       record {
-        store = d .store n;
-        good = d .good n;
+        store = d .store;
+        good = d .good;
         name = λ i l. name i l;
         short = λ v q. mapped-fits s .short v (ap (λ x. andThen x mapCircuit) (r .is) ∙ sym (steps-done n) ∙ q);
       }

@@ -27,11 +27,16 @@ pub fn map_once(
 ) -> Work
     requires { ⌜ (inLimits s ≡ true) × ((inputs ≤ 32) × (Wired (now nodes) inputs (now wires) inputs × (GoodGates (now gates) inputs n × GoodPorts (now ports) (inputs + n) outs))) ⌝ }
     ensures is { λ r. ⌜ ((text : List ℕ) → doneRead text (now (nodes .exit)) (now (ports .exit)) outs r ≡ mapOnce s (outputsIn text (now (ports .entry)) outs) (stateOf (now (nodes .entry)) inputs (now (wires .entry)) inputs) (gatesIn (now (gates .entry)) inputs n)) ⌝ }
-    ensures done { λ r. ⌜ Done (now (ports .entry)) outs (now (nodes .exit)) (now (ports .exit)) r ⌝ }
+    ensures done { λ r. ⌜ (r .number ≡ 0 → Done (now (ports .entry)) outs (now (nodes .exit)) (now (ports .exit)) (r .count)) ⌝ }
 {
     let w = map_gates(s, nodes, wires, gates, ports, inputs, n, outs);
     if w.number != 0 {
         return w;
     }
-    map_outputs(s, nodes, w.count, ports, wires, inputs + n, outs)
+    let count = map_outputs(s, nodes, w.count, ports, wires, inputs + n, outs);
+    Work {
+        number: 0,
+        line: 0,
+        count,
+    }
 }

@@ -2,39 +2,37 @@
 use mathlib.Core.Path.{_≡_, refl, sym, ap, ap₂, subst, _∙_}
 use mathlib.Core.Bool.{Bool, true, false}
 use mathlib.Core.List.{List, [], _∷_}
-use mathlib.Core.Logic.{⊎-elim, _⊎_, inl, inr, _≢_}
-use mathlib.Core.Option.{Option, none, some}
+use mathlib.Core.Logic.{_⊎_, inl, inr, _≢_}
 use Prim.Native.Nat.{ℕ, zero, suc, _+_, _*_, _-_, _≤_, _<_}
 use native.Mathlib.Omega.{arith}
-use lib.Dec.{eqb, ltb}
+use lib.Dec.{ltb}
 use lib.IntN.{pos, negsuc}
 use lib.ListN.{length, getD, take, length-take}
 use borrow.Author.Tests.{lt-ltb, le-ltb, le-leb, lt-leb, eq-eqb, ne-eqb}
 use Rattle.laws.specs.Select.{select}
-use Rattle.laws.specs.Test.{if_then_else_, eq-or-ne}
-use Rattle.rules.specs.declared.Wire.the-variants.{Node}
+use Rattle.laws.specs.Test.{if_then_else_}
+use Rattle.rules.specs.declared.Wire.{Wire}
+use Rattle.rules.specs.declared.Wire.the-variants.{Const, Node}
 use Rattle.rules.specs.declared.Settings.{Settings}
 use Rattle.rules.specs.Cone as C
-use Rattle.rules.specs.Cone.{Result, ok, err, identity, bootstrapTable}
+use Rattle.rules.specs.Cone.{identity}
 use Rattle.rules.specs.Mapper.{Signal, Outputs, coneAt, wireOf, outputSignal}
 use Rattle.rules.specs.Network.{LutNode, Linear}
-use Rattle.rules.specs.Store.{Stored, isUsed, insert, sorted, linearTerms, intern, numberOf, realigned, bootstrapped, bootstrapCone}
-use Rattle.theorems.specs.Results.{ok-same, err-not}
+use Rattle.rules.specs.Store.{Stored, isUsed, insert, sorted, linearTerms, intern, numberOf, bootstrapped, bootstrapCone}
 use Rattle.cone.specs.declared.Cone.{Cone}
 use Rattle.cone.specs.View.{coneOf}
 use Rattle.cone_wires.specs.Wires.{coneIn}
 use Rattle.lut.specs.declared.Linked.{Linked}
+use Rattle.lut.specs.declared.Signal.{Signal as LutSignal}
 use Rattle.lut.specs.declared.Signal.the-variants as Signals
 use Rattle.nodes.specs.declared.record.Terms.{Terms}
 use Rattle.lut.specs.Store.{Interns}
 use Rattle.nodes.specs.View.{term, termsIn, FineTerms, GoodTerms, storeOf, IsStore}
 use Rattle.bootstrap.specs.declared.boot.Booted.{Booted}
-use Rattle.gates.specs.declared.Work.{Work}
-use Rattle.outputs.specs.declared.Finished.{Finished}
 use Rattle.cone.specs.Sources.{Stands}
 use Rattle.bootstrap.specs.View.{Grown, Boots, bootedOf}
 use Rattle.gates.specs.View.{conesIn}
-use Rattle.bootstrap.specs.Boot.{grown-by-one, number-told, told-inside}
+use Rattle.bootstrap.specs.Boot.{grown-by-one, told-inside}
 use Rattle.gates.specs.Wired.{Wired, SlotIn, slot-cone}
 use Rattle.circuit.specs.View.{wireIn, portWire, slotWire, outputsIn}
 
@@ -44,16 +42,30 @@ use Rattle.circuit.specs.View.{wireIn, portWire, slotWire, outputsIn}
 unfoldable pub signalOf : LutNode → List LutNode → Signal
 signalOf node store = record { nodes = intern node store; wire = Node (numberOf node (intern node store)) }
 
-unfoldable pub signalRead : List ℕ → Finished → Result Signal
-signalRead bytes f = if eqb (f .number) 0 then ok (record { nodes = storeOf bytes (f .count); wire = portWire (f .wire) }) else err (f .number)
+unfoldable pub wireOfSignal : LutSignal → Wire
+wireOfSignal (Signals.Const b) = Const b
+wireOfSignal (Signals.Node n) = Node n
+
+unfoldable pub signalRead : List ℕ → Linked → Signal
+signalRead bytes l = record { nodes = storeOf bytes (l .count); wire = wireOfSignal (l .signal) }
 
 -- An output's wire may be read: a node below n, or a constant.
 abbrev pub PortIn : ℕ → ℕ → Type 0
 PortIn n wire = (wire < n) ⊎ ((1000 ≤ wire) × (wire ≤ 1001))
 
-pub record Finishes (before more : ℕ) (bytes : List ℕ) (f : Finished) : Type 0 where
-  pub grown : f .number ≡ 0 → Grown before more bytes (f .count)
-  pub inside : f .number ≡ 0 → PortIn (f .count) (f .wire)
+-- A signal's number in the ports.
+abbrev pub portOf : LutSignal → ℕ
+portOf (Signals.Const b) = 1000 + b
+portOf (Signals.Node n) = n
+
+-- It is a node below n, or a bit.
+unfoldable pub SignalIn : ℕ → LutSignal → Type 0
+SignalIn n (Signals.Const b) = b ≤ 1
+SignalIn n (Signals.Node k) = k < n
+
+pub record Finishes (before more : ℕ) (bytes : List ℕ) (l : Linked) : Type 0 where
+  pub grown : Grown before more bytes (l .count)
+  pub inside : SignalIn (l .count) (l .signal)
 
 pub record GoodPorts (ps : List ℕ) (n outs : ℕ) : Type 0 where
   pub long : length ps ≡ 192
@@ -67,28 +79,39 @@ slotOf wire = if ltb wire 1000 then wire else wire - 872
 unfoldable pub started : List LutNode → Outputs
 started store = record { nodes = store; outputs = [] }
 
-unfoldable pub outputsRead : List ℕ → List ℕ → List ℕ → ℕ → Work → Result Outputs
-outputsRead text nodes ports outs w =
-    if eqb (w .number) 0 then ok (record { nodes = storeOf nodes (w .count); outputs = outputsIn text ports outs }) else err (w .number)
+-- The store of k nodes, and the first i outputs as the ports have them.
+unfoldable pub outputsRead : List ℕ → List ℕ → List ℕ → ℕ → ℕ → Outputs
+outputsRead text nodes ports i k = record { nodes = storeOf nodes k; outputs = outputsIn text ports i }
 
 -- Only the outputs' wires have changed, and they are nodes or constants.
-pub record Done (before : List ℕ) (outs : ℕ) (nodes ports : List ℕ) (w : Work) : Type 0 where
-  pub store : w .number ≡ 0 → IsStore nodes (w .count)
-  pub good : w .number ≡ 0 → GoodPorts ports (w .count) outs
+pub record Done (before : List ℕ) (outs : ℕ) (nodes ports : List ℕ) (k : ℕ) : Type 0 where
+  pub store : IsStore nodes k
+  pub good : GoodPorts ports k outs
   pub kept : (j : ℕ) → ((i : ℕ) → i < outs → j ≢ 64 + 3 * i + 2) → getD ports j 0 ≡ getD before j 0
 
--- The same with at most two nodes more an output; a refusal has line 0.
-pub record Outs (before : List ℕ) (count outs : ℕ) (nodes ports : List ℕ) (w : Work) : Type 0 where
-  pub done : Done before outs nodes ports w
-  pub least : w .number ≡ 0 → count ≤ w .count
-  pub most : w .number ≡ 0 → w .count ≤ count + 2 * outs
-  pub line : w .line ≡ 0
+-- The same with at most two nodes more an output.
+pub record Outs (before : List ℕ) (count outs : ℕ) (nodes ports : List ℕ) (k : ℕ) : Type 0 where
+  pub done : Done before outs nodes ports k
+  pub least : count ≤ k
+  pub most : k ≤ count + 2 * outs
 
 -- The sum of one term: 1 less the node.
 pub record Negated (node : ℕ) (t : Terms) : Type 0 where
   pub few : t .n ≤ 11
   pub constant : t .constant ≡ pos 1
   pub are : termsIn t ≡ term (negsuc 0) node ∷ []
+
+-- ---- laws: a signal in the ports
+
+pub signal-port : (n wire : ℕ) (w : LutSignal) → wire ≡ portOf w → SignalIn n w → PortIn n wire
+unfolding SignalIn
+signal-port n wire (Signals.Const b) e h = inr (omega arith, omega arith)
+signal-port n wire (Signals.Node k) e h = inl (omega arith)
+
+pub signal-wire : (n wire : ℕ) (w : LutSignal) → wire ≡ portOf w → n ≤ 672 → SignalIn n w → portWire wire ≡ wireOfSignal w
+unfolding SignalIn wireOfSignal wireIn
+signal-wire n wire (Signals.Const b) e few h = let same : wire - 1000 ≡ b = omega arith in rw (le-ltb wire 1000 (omega arith), same) refl
+signal-wire n wire (Signals.Node k) e few h = rw (lt-ltb wire 1000 (omega arith), e) refl
 
 -- ---- laws: an output's cone
 
@@ -120,16 +143,15 @@ pub support-few : (c : Cone) → c .n ≤ 1 → length (coneOf c .support) ≤ 1
 unfolding coneOf
 support-few c h = rw (length-take (c .n) (c .support)) (omega arith)
 
-pub idle-signal : (s : Settings) (nodes : List LutNode) (c : C.Cone) → length (c .support) ≤ 1 → outputSignal s nodes c ≡ ok (wireOf nodes (c .support) (c .truth))
+pub idle-signal : (s : Settings) (nodes : List LutNode) (c : C.Cone) → length (c .support) ≤ 1 → outputSignal s nodes c ≡ wireOf nodes (c .support) (c .truth)
 unfolding outputSignal bootstrapCone
 idle-signal s nodes c h = rw (le-leb (length (c .support)) 1 h) refl
 
-pub finishes-more : (before : ℕ) (bytes : List ℕ) (f : Finished) → Finishes before 1 bytes f → Finishes before 2 bytes f
-finishes-more before bytes f h =
-    record {
-      grown = λ e. (let g = h .grown e in let a = g .least in let b = g .most in record { store = g .store; least = a; most = omega arith });
-      inside = h .inside;
-    }
+pub finishes-more : (before : ℕ) (bytes : List ℕ) (l : Linked) → Finishes before 1 bytes l → Finishes before 2 bytes l
+finishes-more before bytes l h =
+    let g = h .grown in
+    let b = g .most in
+    record { grown = record { store = g .store; least = g .least; most = omega arith }; inside = h .inside }
 
 no-source : (c : Cone) → c .n ≡ 0 → coneOf c .support ≡ []
 unfolding coneOf
@@ -137,14 +159,13 @@ no-source c e = rw e refl
 
 -- a cone of no source is its truth
 pub wire-constant : (bytes : List ℕ) (count : ℕ) (c : Cone) (first : ℕ) → c .n ≡ 0 → first ≡ getD (coneOf c .truth) 0 0
-    → signalRead bytes (record { number = 0; count = count; wire = 1000 + first }) ≡ ok (wireOf (storeOf bytes count) (coneOf c .support) (coneOf c .truth))
-unfolding signalRead wireOf wireIn
-wire-constant bytes count c first h q =
-    let same : 1000 + first - 1000 ≡ first = omega arith in
-    rw (no-source c h, le-ltb (1000 + first) 1000 (omega arith), same, q) refl
+    → signalRead bytes (record { count = count; signal = Signals.Const first }) ≡ wireOf (storeOf bytes count) (coneOf c .support) (coneOf c .truth)
+unfolding signalRead wireOfSignal wireOf
+wire-constant bytes count c first h q = rw (no-source c h, q) refl
 
-pub finishes-self : (bytes : List ℕ) (count wire : ℕ) → IsStore bytes count → PortIn count wire → Finishes count 1 bytes (record { number = 0; count = count; wire = wire })
-finishes-self bytes count wire is inside = record { grown = λ e. record { store = is; least = omega arith; most = omega arith }; inside = λ e. inside }
+pub finishes-self : (bytes : List ℕ) (count : ℕ) (signal : LutSignal) → IsStore bytes count → SignalIn count signal
+    → Finishes count 1 bytes (record { count = count; signal = signal })
+finishes-self bytes count signal is inside = record { grown = record { store = is; least = omega arith; most = omega arith }; inside = inside }
 
 first-of : (l : List ℕ) → 0 < length l → take 1 l ≡ getD l 0 0 ∷ []
 first-of [] h = absurd (omega arith)
@@ -159,15 +180,13 @@ module _ (c : Cone) (few : c .n ≤ 1) (some : c .n ≡ 0 → ⊥) (long : lengt
   pub source-below : (count : ℕ) → Stands count c → getD (c .support) 0 0 < count
   source-below count s = subst (λ l. 0 < length l → getD l 0 0 < count) one-source (s .below .at 0) (omega arith)
 
-  pub wire-node : (bytes : List ℕ) (count first : ℕ) → count < 672 → Stands count c → first ≡ getD (coneOf c .truth) 0 0 → first ≡ 0
-      → signalRead bytes (record { number = 0; count = count; wire = getD (c .support) 0 0 }) ≡ ok (wireOf (storeOf bytes count) (coneOf c .support) (coneOf c .truth))
-  unfolding signalRead wireOf wireIn
-  wire-node bytes count first h s q z =
-      let below = source-below count s in
-      rw (one-source, eq-eqb (getD (coneOf c .truth) 0 0) 0 (sym q ∙ z), lt-ltb (getD (c .support) 0 0) 1000 (omega arith)) refl
+  pub wire-node : (bytes : List ℕ) (count first : ℕ) → first ≡ getD (coneOf c .truth) 0 0 → first ≡ 0
+      → signalRead bytes (record { count = count; signal = Signals.Node (getD (c .support) 0 0) }) ≡ wireOf (storeOf bytes count) (coneOf c .support) (coneOf c .truth)
+  unfolding signalRead wireOfSignal wireOf
+  wire-node bytes count first q z = rw (one-source, eq-eqb (getD (coneOf c .truth) 0 0) 0 (sym q ∙ z)) refl
 
-  pub wire-not : (store : List LutNode) (first : ℕ) (r : Result Signal) → first ≡ getD (coneOf c .truth) 0 0 → (first ≡ 0 → ⊥)
-      → r ≡ ok (signalOf (Linear (pos 1) (term (negsuc 0) (getD (c .support) 0 0) ∷ [])) store) → r ≡ ok (wireOf store (coneOf c .support) (coneOf c .truth))
+  pub wire-not : (store : List LutNode) (first : ℕ) (r : Signal) → first ≡ getD (coneOf c .truth) 0 0 → (first ≡ 0 → ⊥)
+      → r ≡ signalOf (Linear (pos 1) (term (negsuc 0) (getD (c .support) 0 0) ∷ [])) store → r ≡ wireOf store (coneOf c .support) (coneOf c .truth)
   unfolding wireOf signalOf term
   wire-not store first r q z e = rw (one-source, ne-eqb (getD (coneOf c .truth) 0 0) 0 (λ k. z (q ∙ k))) e
 
@@ -186,30 +205,26 @@ pub negated-is : (many : Bool) (node : ℕ) (t : Terms) → Negated node t
     → Linear (t .constant) (linearTerms many (termsIn t)) ≡ Linear (pos 1) (term (negsuc 0) node ∷ [])
 negated-is many node t h = ap₂ Linear (h .constant) (ap (linearTerms many) (h .are) ∙ one-term many node)
 
-module _ (n : LutNode) (bytes : List ℕ) (count : ℕ) (after : List ℕ) (r : Linked) (i : Interns n bytes count after r) (k : ℕ) (e : r .signal ≡ Signals.Node k) where
-  pub node-signal : signalRead after (record { number = 0; count = r .count; wire = k }) ≡ ok (signalOf n (storeOf bytes count))
-  unfolding signalRead signalOf wireIn
-  node-signal =
-      let inside = told-inside n bytes count after r i k e in
-      let most = i .still .most in
-      rw (lt-ltb k 1000 (omega arith))
-      (ap₂ {C = Result Signal} (λ l w. ok (record { nodes = l; wire = Node w })) (i .store) (number-told n bytes count after r i k e))
+module _ (n : LutNode) (bytes : List ℕ) (count : ℕ) (after : List ℕ) (r : Linked) (i : Interns n bytes count after r) where
+  pub node-signal : signalRead after r ≡ signalOf n (storeOf bytes count)
+  unfolding signalRead wireOfSignal signalOf
+  node-signal = ap₂ {C = Signal} (λ l w. record { nodes = l; wire = wireOfSignal w }) (i .store) (i .signal)
 
-  pub node-finishes : Finishes count 1 after (record { number = 0; count = r .count; wire = k })
+  pub node-finishes : Finishes count 1 after r
+  unfolding SignalIn
   node-finishes =
       let g = grown-by-one n bytes count after r i in
-      record { grown = λ _. record { store = i .still; least = g .0; most = g .1 }; inside = λ _. inl (told-inside n bytes count after r i k e) }
+      record {
+        grown = record { store = i .still; least = g .0; most = g .1 };
+        inside = subst (SignalIn (r .count)) (sym (i .signal)) (told-inside n bytes count after r i _ (i .signal));
+      }
 
 -- ---- laws: a cone of more sources is bootstrapped
 
 -- what comes of it is a node's own cone
-boot-node : (s : Settings) (nodes : List LutNode) (c : C.Cone) (b : Stored) → 1 < length (c .support) → bootstrapCone s nodes c ≡ ok b → (k : ℕ) × (b .cone ≡ identity k)
+boot-node : (s : Settings) (nodes : List LutNode) (c : C.Cone) → 1 < length (c .support) → (k : ℕ) × (bootstrapCone s nodes c .cone ≡ identity k)
 unfolding bootstrapCone bootstrapped
-boot-node s nodes c b h e = by (bootstrapTable (s .p) (realigned s nodes c)) (rw (lt-leb (length (c .support)) 1 h) at e)
-  where
-    by : (o : Option (List ℕ)) → bootstrapped s nodes (realigned s nodes c) o ≡ ok b → (k : ℕ) × (b .cone ≡ identity k)
-    by none q = absurd (err-not 10 b q)
-    by (some table) q = (_, sym (ap (λ (x : Stored). x .cone) (ok-same _ b q)))
+boot-node s nodes c h = rw (lt-leb (length (c .support)) 1 h) (_, refl)
 
 first-taken : (n : ℕ) (l : List ℕ) (k : ℕ) → take n l ≡ k ∷ [] → getD l 0 0 ≡ k
 first-taken zero l k e = let h = ap length e in absurd (omega arith)
@@ -231,47 +246,31 @@ support-more c long h = rw (length-take (c .n) (c .support), long) (omega arith)
 
 module _ (s : Settings) (nodes : List LutNode) (c : C.Cone) (more : 1 < length (c .support)) (count : ℕ) (after : List ℕ) (b : Booted)
     (is : bootedOf after b ≡ bootstrapCone s nodes c) (boots : Boots count after b) where
-  abbrev told : Finished
-  told = record { number = b .number; count = b .count; wire = getD (b .cone .support) 0 0 }
+  abbrev told : Linked
+  told = record { count = b .count; signal = Signals.Node (getD (b .cone .support) 0 0) }
 
-  booted-well : b .number ≡ 0 → bootstrapCone s nodes c ≡ ok (record { nodes = storeOf after (b .count); cone = coneOf (b .cone) })
+  booted-node : (k : ℕ) × (coneOf (b .cone) ≡ identity k)
   unfolding bootedOf
-  booted-well e = sym is ∙ rw (eq-eqb (b .number) 0 e) refl
+  booted-node = let n = boot-node s nodes c more in (n .0, ap (λ (x : Stored). x .cone) is ∙ n .1)
 
-  booted-badly : (b .number ≡ 0 → ⊥) → bootstrapCone s nodes c ≡ err (b .number)
-  unfolding bootedOf
-  booted-badly e = sym is ∙ rw (ne-eqb (b .number) 0 e) refl
-
-  booted-node : b .number ≡ 0 → (k : ℕ) × (coneOf (b .cone) ≡ identity k)
-  booted-node e = boot-node s nodes c (record { nodes = storeOf after (b .count); cone = coneOf (b .cone) }) more (booted-well e)
-
-  source-inside : b .number ≡ 0 → getD (b .cone .support) 0 0 < b .count
-  source-inside e =
-      let n = booted-node e in
-      let below = identity-below (b .cone) (n .0) (n .1) (b .count) (boots .stands e) in
+  source-inside : getD (b .cone .support) 0 0 < b .count
+  source-inside =
+      let n = booted-node in
+      let below = identity-below (b .cone) (n .0) (n .1) (b .count) (boots .stands) in
       let same = identity-source (b .cone) (n .0) (n .1) in
       omega arith
 
-  wire-own : b .number ≡ 0
-      → wireOf (storeOf after (b .count)) (coneOf (b .cone) .support) (coneOf (b .cone) .truth) ≡ record { nodes = storeOf after (b .count); wire = Node (getD (b .cone .support) 0 0) }
+  wire-own : record { nodes = storeOf after (b .count); wire = Node (getD (b .cone .support) 0 0) } ≡ wireOf (storeOf after (b .count)) (coneOf (b .cone) .support) (coneOf (b .cone) .truth)
   unfolding wireOf identity
-  wire-own e =
-      let n = booted-node e in
-      ap (λ (d : C.Cone). wireOf (storeOf after (b .count)) (d .support) (d .truth)) (n .1)
-      ∙ ap (λ k. record { nodes = storeOf after (b .count); wire = Node k }) (sym (identity-source (b .cone) (n .0) (n .1)))
+  wire-own =
+      let n = booted-node in
+      ap {B = Signal} (λ k. record { nodes = storeOf after (b .count); wire = Node k }) (identity-source (b .cone) (n .0) (n .1))
+      ∙ ap (λ (d : C.Cone). wireOf (storeOf after (b .count)) (d .support) (d .truth)) (sym (n .1))
 
   pub boot-signal : signalRead after told ≡ outputSignal s nodes c
-  unfolding signalRead outputSignal wireIn
-  boot-signal = ⊎-elim (λ (e : b .number ≡ 0). well e) (λ (e : b .number ≡ 0 → ⊥). badly e) (eq-or-ne (b .number) 0)
-    where
-      well : b .number ≡ 0 → signalRead after told ≡ outputSignal s nodes c
-      well e =
-          let inside = source-inside e in
-          let most = boots .grown e .store .most in
-          rw (eq-eqb (b .number) 0 e, lt-ltb (getD (b .cone .support) 0 0) 1000 (omega arith), booted-well e) (ap ok (sym (wire-own e)))
-
-      badly : (b .number ≡ 0 → ⊥) → signalRead after told ≡ outputSignal s nodes c
-      badly e = rw (ne-eqb (b .number) 0 e, booted-badly e) refl
+  unfolding signalRead wireOfSignal outputSignal bootedOf
+  boot-signal = wire-own ∙ ap (λ (x : Stored). wireOf (x .nodes) (x .cone .support) (x .cone .truth)) is
 
   pub boot-finishes : Finishes count 2 after told
-  boot-finishes = record { grown = boots .grown; inside = λ e. inl (source-inside e) }
+  unfolding SignalIn
+  boot-finishes = record { grown = boots .grown; inside = source-inside }

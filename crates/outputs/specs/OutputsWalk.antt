@@ -7,23 +7,16 @@ use native.Mathlib.Numerals.{add-one}
 use native.Mathlib.Omega.{arith}
 use lib.ListN.{length, getD, set, take, drop, length-set, drop-of-length-le}
 use lib.Seq.{drop-cons, getD-set-same, getD-set-other}
-use borrow.Author.Tests.{eq-eqb, ne-eqb}
 use Rattle.laws.specs.Tabulate.{tabulate, tabulate-length, tabulate-at, tabulate-same, tabulate-snoc}
 use Rattle.laws.specs.Test.{eq-or-ne}
 use Rattle.rules.specs.declared.Settings.{Settings}
 use Rattle.rules.specs.Circuit.{Name, Output}
 use Rattle.rules.specs.Cone as C
-use Rattle.rules.specs.Cone.{Result, ok, err, _>>=_}
 use Rattle.rules.specs.Mapper.{Signal, Outputs, coneAt, outputSignal, mapOutputs}
 use Rattle.nodes.specs.View.{storeOf, IsStore}
-use Rattle.gates.specs.declared.Work.{Work}
-use Rattle.outputs.specs.declared.Finished.{Finished}
-use Rattle.outputs.specs.Outputs.{signalRead, PortIn, GoodPorts, started, outputsRead, Outs}
+use Rattle.lut.specs.declared.Linked.{Linked}
+use Rattle.outputs.specs.Outputs.{signalRead, portOf, PortIn, SignalIn, signal-wire, GoodPorts, started, outputsRead, Outs}
 use Rattle.circuit.specs.View.{portWire, nameAt, outputIn, outputsIn}
-
--- The store, and the first i outputs as the ports have them.
-unfoldable pub outputsAt : List ℕ → ℕ → List ℕ → List ℕ → ℕ → Outputs
-outputsAt nodes k text ports i = record { nodes = storeOf nodes k; outputs = outputsIn text ports i }
 
 -- The first i outputs have their wires, nodes below k or constants; nothing else has changed.
 pub record Written (before : List ℕ) (k i : ℕ) (ports : List ℕ) : Type 0 where
@@ -103,95 +96,67 @@ module _ (before : List ℕ) (k i : ℕ) (ports : List ℕ) (w : Written before 
 
 -- ---- laws: the loop
 
-signal-ok : (bytes : List ℕ) (f : Finished) → f .number ≡ 0 → signalRead bytes f ≡ ok (record { nodes = storeOf bytes (f .count); wire = portWire (f .wire) })
-unfolding signalRead
-signal-ok bytes f e = rw (eq-eqb (f .number) 0 e) refl
-
-signal-err : (bytes : List ℕ) (f : Finished) → (f .number ≡ 0 → ⊥) → signalRead bytes f ≡ err (f .number)
-unfolding signalRead
-signal-err bytes f e = rw (ne-eqb (f .number) 0 e) refl
-
-unfoldable onward : Settings → List C.Cone → List Output → Name → List Output → Signal → Result Outputs
+unfoldable onward : Settings → List C.Cone → List Output → Name → List Output → Signal → Outputs
 onward s cones done name rest r = mapOutputs s cones (record { nodes = r .nodes; outputs = done ++ (record { name = name; wire = r .wire } ∷ []) }) rest
 
 module _ (s : Settings) (cones : List C.Cone) (text before : List ℕ) (outs i : ℕ) (h : i < outs) where
   outputs-next : (done : Outputs) → mapOutputs s cones done (drop i (outputsIn text before outs))
-      ≡ (outputSignal s (done .nodes) (coneAt cones (portWire (getD before (64 + 3 * i + 2) 0)))
-      >>= onward s cones (done .outputs) (nameAt text before (64 + 3 * i)) (drop (i + 1) (outputsIn text before outs)))
+      ≡ onward s cones (done .outputs) (nameAt text before (64 + 3 * i)) (drop (i + 1) (outputsIn text before outs))
+      (outputSignal s (done .nodes) (coneAt cones (portWire (getD before (64 + 3 * i + 2) 0))))
   unfolding mapOutputs outputsIn outputIn onward
   outputs-next done =
       rw
       (drop-cons (tabulate outs (outputIn text before)) i (outputIn text before 0) (rw (tabulate-length outs (outputIn text before)) h), tabulate-at outs (outputIn text before) i (outputIn text before 0) h, add-one i)
       refl
 
-  module _ (nodes : List ℕ) (k : ℕ) (ports : List ℕ) (w : Written before k i ports) (after : List ℕ) (f : Finished)
+  module _ (nodes : List ℕ) (k : ℕ) (ports : List ℕ) (w : Written before k i ports) (after : List ℕ) (f : Linked)
       (is : signalRead after f ≡ outputSignal s (storeOf nodes k) (coneAt cones (portWire (getD ports (64 + 3 * i + 2) 0)))) where
-    signal-is : signalRead after f ≡ outputSignal s (storeOf nodes k) (coneAt cones (portWire (getD before (64 + 3 * i + 2) 0)))
-    signal-is = is ∙ ap (λ v. outputSignal s (storeOf nodes k) (coneAt cones (portWire v))) (port-kept before k i ports w)
+    abbrev rest : List Output
+    rest = drop (i + 1) (outputsIn text before outs)
 
-    next-signal : (signalRead after f >>= onward s cones (outputsIn text ports i) (nameAt text before (64 + 3 * i)) (drop (i + 1) (outputsIn text before outs)))
-        ≡ mapOutputs s cones (outputsAt nodes k text ports i) (drop i (outputsIn text before outs))
-    unfolding outputsAt
+    abbrev name : Name
+    name = nameAt text before (64 + 3 * i)
+
+    next-signal : onward s cones (outputsIn text ports i) name rest (signalRead after f) ≡ mapOutputs s cones (outputsRead text nodes ports i k) (drop i (outputsIn text before outs))
+    unfolding outputsRead
     next-signal =
-        ap (λ r. r >>= onward s cones (outputsIn text ports i) (nameAt text before (64 + 3 * i)) (drop (i + 1) (outputsIn text before outs))) signal-is
+        ap (onward s cones (outputsIn text ports i) name rest) (is ∙ ap (λ v. outputSignal s (storeOf nodes k) (coneAt cones (portWire v))) (port-kept before k i ports w))
         ∙ sym (outputs-next (record { nodes = storeOf nodes k; outputs = outputsIn text ports i }))
 
-    pub outputs-step : f .number ≡ 0 → i < 32
-        → mapOutputs s cones (outputsAt after (f .count) text (set ports (64 + 3 * i + 2) (f .wire)) (i + 1)) (drop (i + 1) (outputsIn text before outs))
-        ≡ mapOutputs s cones (outputsAt nodes k text ports i) (drop i (outputsIn text before outs))
-    unfolding outputsAt onward
-    outputs-step e low =
-        ap (λ l. mapOutputs s cones (record { nodes = storeOf after (f .count); outputs = l }) (drop (i + 1) (outputsIn text before outs))) (outputs-grown before k i ports w low (f .wire) text)
-        ∙ ap (λ r. r >>= onward s cones (outputsIn text ports i) (nameAt text before (64 + 3 * i)) (drop (i + 1) (outputsIn text before outs))) (sym (signal-ok after f e))
+    pub outputs-step : (wire : ℕ) → wire ≡ portOf (f .signal) → i < 32 → f .count ≤ 672 → SignalIn (f .count) (f .signal)
+        → mapOutputs s cones (outputsRead text after (set ports (64 + 3 * i + 2) wire) (i + 1) (f .count)) rest
+        ≡ mapOutputs s cones (outputsRead text nodes ports i k) (drop i (outputsIn text before outs))
+    unfolding outputsRead onward signalRead
+    outputs-step wire e low few inside =
+        ap (λ l. mapOutputs s cones (record { nodes = storeOf after (f .count); outputs = l }) rest)
+        (outputs-grown before k i ports w low wire text
+        ∙ ap (λ v. outputsIn text ports i ++ (record { name = name; wire = v } ∷ [])) (signal-wire (f .count) wire (f .signal) e few inside))
         ∙ next-signal
 
-    pub outputs-refused : (f .number ≡ 0 → ⊥) → (last : List ℕ) (v : Work) → v .number ≡ f .number
-        → outputsRead text after last outs v ≡ mapOutputs s cones (outputsAt nodes k text ports i) (drop i (outputsIn text before outs))
-    unfolding outputsRead
-    outputs-refused e last v q =
-        rw (ne-eqb (v .number) 0 (λ z. e (sym q ∙ z)))
-        (ap err q
-        ∙ ap (λ r. r >>= onward s cones (outputsIn text ports i) (nameAt text before (64 + 3 * i)) (drop (i + 1) (outputsIn text before outs))) (sym (signal-err after f e))
-        ∙ next-signal)
-
 pub outputs-start : (s : Settings) (cones : List C.Cone) (text nodes : List ℕ) (k : ℕ) (ports : List ℕ) (outputs : List Output)
-    → mapOutputs s cones (outputsAt nodes k text ports 0) (drop 0 outputs) ≡ mapOutputs s cones (started (storeOf nodes k)) outputs
-unfolding outputsAt started outputsIn tabulate
+    → mapOutputs s cones (outputsRead text nodes ports 0 k) (drop 0 outputs) ≡ mapOutputs s cones (started (storeOf nodes k)) outputs
+unfolding outputsRead started outputsIn tabulate
 outputs-start s cones text nodes k ports outputs = refl
 
-pub outputs-done : (s : Settings) (cones : List C.Cone) (text before : List ℕ) (outs i : ℕ) (nodes : List ℕ) (k : ℕ) (ports : List ℕ) (v : Work) → outs ≤ i → i ≤ outs
-    → v .number ≡ 0 → v .count ≡ k
-    → outputsRead text nodes ports outs v ≡ mapOutputs s cones (outputsAt nodes k text ports i) (drop i (outputsIn text before outs))
-unfolding outputsRead outputsAt mapOutputs outputsIn
-outputs-done s cones text before outs i nodes k ports v a b e q =
+pub outputs-done : (s : Settings) (cones : List C.Cone) (text before : List ℕ) (outs i : ℕ) (nodes : List ℕ) (k : ℕ) (ports : List ℕ) → outs ≤ i → i ≤ outs
+    → outputsRead text nodes ports outs k ≡ mapOutputs s cones (outputsRead text nodes ports i k) (drop i (outputsIn text before outs))
+unfolding mapOutputs outputsIn
+outputs-done s cones text before outs i nodes k ports a b =
     let same : outs ≡ i = omega arith in
     let none-left : drop i (tabulate outs (outputIn text before)) ≡ [] = drop-of-length-le (tabulate outs (outputIn text before)) {i = i} (rw (tabulate-length outs (outputIn text before)) a) in
-    rw (eq-eqb (v .number) 0 e)
-    (ap₂ {C = Result Outputs} (λ c j. ok (record { nodes = storeOf nodes c; outputs = tabulate j (outputIn text ports) })) q same
-    ∙ ap (mapOutputs s cones (record { nodes = storeOf nodes k; outputs = tabulate i (outputIn text ports) })) (sym none-left))
+    ap (λ j. outputsRead text nodes ports j k) same ∙ ap (mapOutputs s cones (outputsRead text nodes ports i k)) (sym none-left)
 
 -- ---- laws: what is left in the ports
 
-pub outs-none : (before : List ℕ) (count outs k i : ℕ) (nodes ports : List ℕ) (v : Work) → Written before k i ports → i ≤ outs → (v .number ≡ 0 → ⊥)
-    → v .line ≡ 0 → Outs before count outs nodes ports v
-outs-none before count outs k i nodes ports v w h e no-line =
-    record {
-      done = record { store = λ z. absurd (e z); good = λ z. absurd (e z); kept = λ j never. w .others j (λ m l. never m (omega arith)) };
-      least = λ z. absurd (e z);
-      most = λ z. absurd (e z);
-      line = no-line;
-    }
-
-pub outs-done : (before : List ℕ) (count outs k i : ℕ) (nodes ports : List ℕ) (v : Work) → Written before k i ports → outs ≤ i → i ≤ outs → outs ≤ 32 → IsStore nodes k → count ≤ k
-    → k ≤ count + 2 * i → v .count ≡ k → v .line ≡ 0 → Outs before count outs nodes ports v
-outs-done before count outs k i nodes ports v w a b few is least most q no-line =
+pub outs-done : (before : List ℕ) (count outs k i : ℕ) (nodes ports : List ℕ) → Written before k i ports → outs ≤ i → i ≤ outs → outs ≤ 32 → IsStore nodes k → count ≤ k
+    → k ≤ count + 2 * i → Outs before count outs nodes ports k
+outs-done before count outs k i nodes ports w a b few is least most =
     record {
       done = record {
-        store = λ z. subst (IsStore nodes) (sym q) is;
-        good = λ z. subst (λ n. GoodPorts ports n outs) (sym q) (record { long = w .long; few = few; wires = λ j l. w .done j (omega arith) });
+        store = is;
+        good = record { long = w .long; few = few; wires = λ j l. w .done j (omega arith) };
         kept = λ j never. w .others j (λ m l. never m (omega arith));
       };
-      least = λ z. omega arith;
-      most = λ z. omega arith;
-      line = no-line;
+      least = least;
+      most = omega arith;
     }

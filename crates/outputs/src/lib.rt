@@ -3,7 +3,7 @@ use bootstrap::boot::bootstrap_cone;
 use cone::Cone;
 use cone::unary::first_truth;
 use cone_wires::cone_at;
-use gates::Work;
+use lut::Linked;
 use lut::Signal;
 use nodes::record::Terms;
 use rules::Settings;
@@ -15,21 +15,13 @@ ghost use lib.IntN.{pos, negsuc};
 ghost use Rattle.rules.specs.CircuitText.{inLimits};
 ghost use Rattle.rules.specs.Mapper.{coneAt, wireOf, outputSignal, mapOutputs};
 ghost use Rattle.rules.specs.Network.{Linear};
-ghost use Rattle.rules.specs.Cone as rules;
 ghost use Rattle.cone.specs.View.{coneOf};
 ghost use Rattle.nodes.specs.View.{term, storeOf, IsStore};
 ghost use Rattle.cone.specs.Sources.{Stands};
 ghost use Rattle.gates.specs.View.{conesIn};
 ghost use Rattle.gates.specs.Wired.{Wired};
 ghost use Rattle.circuit.specs.View.{portWire, outputsIn};
-ghost use Rattle.outputs.specs.Outputs.{Negated, signalOf, signalRead, Finishes, slotOf, PortIn, GoodPorts, outputsRead, started, Outs};
-
-// A wire as the ports have it, and how many nodes there are; or the refusal.
-pub struct Finished {
-    pub number: usize,
-    pub count: usize,
-    pub wire: usize,
-}
+ghost use Rattle.outputs.specs.Outputs.{Negated, signalOf, signalRead, Finishes, slotOf, portOf, PortIn, GoodPorts, outputsRead, started, Outs};
 
 // The sum of one term that is 1 less the node.
 fn negated(node: usize) -> Terms
@@ -48,54 +40,40 @@ fn negated(node: usize) -> Terms
 }
 
 // 1 less the node.
-fn negation(nodes: &mut [u8; 26880], count: usize, node: usize, many: bool) -> Finished
+fn negation(nodes: &mut [u8; 26880], count: usize, node: usize, many: bool) -> Linked
     requires { ⌜ IsStore (now nodes) count × ((count < 672) × (node < count)) ⌝ }
-    ensures is { λ r. ⌜ signalRead (now (nodes .exit)) r ≡ rules.ok (signalOf (Linear (pos 1) (term (negsuc 0) node ∷ [])) (storeOf (now (nodes .entry)) count)) ⌝ }
+    ensures is { λ r. ⌜ signalRead (now (nodes .exit)) r ≡ signalOf (Linear (pos 1) (term (negsuc 0) node ∷ [])) (storeOf (now (nodes .entry)) count) ⌝ }
     ensures finishes { λ r. ⌜ Finishes count 1 (now (nodes .exit)) r ⌝ }
 {
-    let made = lut::linear(nodes, count, many, negated(node));
-    let signal = made.signal;
-    let Signal::Node(wire) = signal else {
-        return Finished {
-            number: 10,
-            count,
-            wire: 0,
-        };
-    };
-    Finished {
-        number: 0,
-        count: made.count,
-        wire,
-    }
+    lut::linear(nodes, count, many, negated(node))
 }
 
-// A cone of no source or one source as a wire.
-fn wire_of(nodes: &mut [u8; 26880], count: usize, c: Cone, many: bool) -> Finished
+// A cone of no source or one source as a signal.
+fn wire_of(nodes: &mut [u8; 26880], count: usize, c: Cone, many: bool) -> Linked
     requires { ⌜ IsStore (now nodes) count × ((count < 672) × (Stands count c × (c .n ≤ 1))) ⌝ }
-    ensures is { λ r. ⌜ signalRead (now (nodes .exit)) r ≡ rules.ok (wireOf (storeOf (now (nodes .entry)) count) (coneOf c .support) (coneOf c .truth)) ⌝ }
+    ensures is { λ r. ⌜ signalRead (now (nodes .exit)) r ≡ wireOf (storeOf (now (nodes .entry)) count) (coneOf c .support) (coneOf c .truth) ⌝ }
     ensures finishes { λ r. ⌜ Finishes count 1 (now (nodes .exit)) r ⌝ }
 {
     let first = first_truth(c);
     let support = c.support;
     if c.n == 0 {
-        return Finished {
-            number: 0,
+        return Linked {
             count,
-            wire: 1000 + (first as usize),
+            signal: Signal::Const(first),
         };
     }
+    let node = support[0];
     if first == 0 {
-        return Finished {
-            number: 0,
+        return Linked {
             count,
-            wire: support[0],
+            signal: Signal::Node(node),
         };
     }
-    negation(nodes, count, support[0], many)
+    negation(nodes, count, node, many)
 }
 
 // output_signal: a cone of more sources is bootstrapped, and what comes of that is a node's own cone.
-fn output_signal(s: Settings, nodes: &mut [u8; 26880], count: usize, c: Cone) -> Finished
+fn output_signal(s: Settings, nodes: &mut [u8; 26880], count: usize, c: Cone) -> Linked
     requires { ⌜ (inLimits s ≡ true) × (IsStore (now nodes) count × ((count + 2 ≤ 672) × Stands count c)) ⌝ }
     ensures is { λ r. ⌜ signalRead (now (nodes .exit)) r ≡ outputSignal s (storeOf (now (nodes .entry)) count) (coneOf c) ⌝ }
     ensures finishes { λ r. ⌜ Finishes count 2 (now (nodes .exit)) r ⌝ }
@@ -106,10 +84,10 @@ fn output_signal(s: Settings, nodes: &mut [u8; 26880], count: usize, c: Cone) ->
     let b = bootstrap_cone(s, nodes, count, c);
     let d = b.cone;
     let support = d.support;
-    Finished {
-        number: b.number,
+    let node = support[0];
+    Linked {
         count: b.count,
-        wire: support[0],
+        signal: Signal::Node(node),
     }
 }
 
@@ -132,7 +110,7 @@ fn map_output(
     wires: &[u8; 8580],
     n: usize,
     wire: usize,
-) -> Finished
+) -> Linked
     requires { ⌜ (inLimits s ≡ true) × ((count + 2 ≤ 672) × ((n ≤ 128) × (Wired (now nodes) count (now wires) n × PortIn n wire))) ⌝ }
     ensures is { λ r. ⌜ signalRead (now (nodes .exit)) r ≡ outputSignal s (storeOf (now (nodes .entry)) count) (coneAt (conesIn (now (wires .entry)) n) (portWire wire)) ⌝ }
     ensures finishes { λ r. ⌜ Finishes count 2 (now (nodes .exit)) r ⌝ }
@@ -141,7 +119,17 @@ fn map_output(
     output_signal(s, nodes, count, c)
 }
 
-// The outputs in turn. Asks that their wires are nodes below n or constants.
+// A signal as the ports have it.
+fn port_of(signal: Signal) -> usize
+    ensures { λ r. ⌜ r ≡ portOf signal ⌝ }
+{
+    match signal {
+        Signal::Const(bit) => 1000 + (bit as usize),
+        Signal::Node(node) => node,
+    }
+}
+
+// The outputs in turn, and how many nodes there are then. Asks that their wires are nodes below n or constants.
 pub fn map_outputs(
     s: Settings,
     nodes: &mut [u8; 26880],
@@ -150,7 +138,7 @@ pub fn map_outputs(
     wires: &[u8; 8580],
     n: usize,
     outs: usize,
-) -> Work
+) -> usize
     requires { ⌜ (inLimits s ≡ true) × ((count + 2 * outs ≤ 672) × ((n ≤ 128) × (Wired (now nodes) count (now wires) n × GoodPorts (now ports) n outs))) ⌝ }
     ensures is { λ r. ⌜ ((text : List ℕ) → outputsRead text (now (nodes .exit)) (now (ports .exit)) outs r ≡ mapOutputs s (conesIn (now (wires .entry)) n) (started (storeOf (now (nodes .entry)) count)) (outputsIn text (now (ports .entry)) outs)) ⌝ }
     ensures outs { λ r. ⌜ Outs (now (ports .entry)) count outs (now (nodes .exit)) (now (ports .exit)) r ⌝ }
@@ -159,20 +147,10 @@ pub fn map_outputs(
     let mut i = 0;
     while i < outs {
         let f = map_output(s, nodes, k, wires, n, ports[64 + 3 * i + 2]);
-        if f.number != 0 {
-            return Work {
-                number: f.number,
-                line: 0,
-                count: k,
-            };
-        }
-        ports[64 + 3 * i + 2] = f.wire;
+        let signal = f.signal;
+        ports[64 + 3 * i + 2] = port_of(signal);
         k = f.count;
         i += 1;
     }
-    Work {
-        number: 0,
-        line: 0,
-        count: k,
-    }
+    k
 }

@@ -1,14 +1,15 @@
 -- What `enter` and `complete` leave in what they are lent: on a refusal too.
-use mathlib.Core.Path.{_≡_}
-use mathlib.Core.Bool.{true, false}
+use mathlib.Core.Path.{_≡_, refl, _∙_}
+use mathlib.Core.Bool.{Bool, true, false}
 use mathlib.Core.List.{List, [], _∷_}
+use mathlib.Core.Option.{none, some, Option·getD}
 use Prim.Native.Nat.{ℕ, _+_, _<_, _≤_}
 use native.Mathlib.Numerals.{add-one}
 use lib.IntN.{ℤ, pos, natAbs, _-ℤ_}
 use lib.ListN.{length, getD, set, drop, drop-of-length-le}
 use lib.Seq.{drop-cons}
 use Rattle.laws.specs.Test.{if_then_else_}
-use Rattle.rules.specs.Builder.{agrees, filled, opposed}
+use Rattle.rules.specs.Builder.{agrees, filled, opposed, completion, lastTried}
 use Rattle.rules.specs.Rotation.{rotatable}
 use Rattle.theorems.specs.Rows.{offset}
 
@@ -36,22 +37,21 @@ module _ (low : ℤ) (values : List ℤ) (truths known : List ℕ) (i : ℕ) whe
   unfolding enteredUntil
   until-end h = rw (drop-of-length-le values {i = i} h)
 
--- The completion tried last: the first that a rotation gives, or the third.
-unfoldable pub lastTried : ℕ → List ℕ → List ℕ
-lastTried P known =
-    if rotatable P (filled 0 known) then filled 0 known
-    else if rotatable P (filled 1 known) then filled 1 known
-    else opposed P known
+-- ---- The completion tried last.
 
 module _ (P : ℕ) (known t : List ℕ) where
   pub tried-zero : t ≡ filled 0 known → rotatable P (filled 0 known) ≡ true → t ≡ lastTried P known
-  unfolding lastTried
+  unfolding lastTried completion
   tried-zero is e = rw (is, e)
 
   pub tried-one : t ≡ filled 1 known → rotatable P (filled 0 known) ≡ false → rotatable P (filled 1 known) ≡ true → t ≡ lastTried P known
-  unfolding lastTried
+  unfolding lastTried completion
   tried-one is e f = rw (is, e, f)
 
   pub tried-opposed : t ≡ opposed P known → rotatable P (filled 0 known) ≡ false → rotatable P (filled 1 known) ≡ false → t ≡ lastTried P known
-  unfolding lastTried
-  tried-opposed is e f = rw (is, e, f)
+  unfolding lastTried completion
+  tried-opposed is e f = is ∙ rw (e, f) (by (rotatable P (opposed P known)))
+    where
+      by : (b : Bool) → opposed P known ≡ Option·getD (if b then some (opposed P known) else none) (opposed P known)
+      by true = refl
+      by false = refl

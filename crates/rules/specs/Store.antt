@@ -14,7 +14,7 @@ use Rattle.rules.specs.declared.Wire.{Wire}
 use Rattle.rules.specs.declared.Wire.the-variants.{Const, Node}
 use Rattle.rules.specs.Circuit.{Output}
 use Rattle.rules.specs.CircuitText.{sameName}
-use Rattle.rules.specs.Cone.{Cone, identity, values, terms, bootstrapTable, fits, Result, ok, err, Candidate, best, coneOrderKey}
+use Rattle.rules.specs.Cone.{Cone, identity, values, terms, bootstrapTable, fits, Candidate, best, coneOrderKey}
 use Rattle.rules.specs.Network.{Term, LutNode, Input, Linear, Bootstrap, nodeAt, member, bootSources}
 use Rattle.rules.specs.NetworkText.{sources}
 use Rattle.rules.specs.Span.{least}
@@ -123,22 +123,21 @@ pub record Stored : Type 0 where
   pub nodes : List LutNode
   pub cone : Cone
 
--- The sum and the bootstrap are interned; a cone without a table has no valid encoding (10).
-unfoldable pub bootstrapped : Settings → List LutNode → Cone → Option (List ℕ) → Result Stored
-bootstrapped s nodes c none = err 10
-bootstrapped s nodes c (some table) =
+-- The sum and the bootstrap are interned.
+unfoldable pub bootstrapped : Settings → List LutNode → Cone → List ℕ → Stored
+bootstrapped s nodes c table =
     let linear = linearOf s c in
     let withLinear = intern linear nodes in
     let boot = Bootstrap (numberOf linear withLinear) table in
     let withBoot = intern boot withLinear in
-    ok (record { nodes = withBoot; cone = identity (numberOf boot withBoot) })
+    record { nodes = withBoot; cone = identity (numberOf boot withBoot) }
 
 -- bootstrap_cone: a cone of no source or one source stays as it was.
-unfoldable pub bootstrapCone : Settings → List LutNode → Cone → Result Stored
+unfoldable pub bootstrapCone : Settings → List LutNode → Cone → Stored
 bootstrapCone s nodes c =
     let d = realigned s nodes c in
     let r = bootstrapped s nodes d (bootstrapTable (s .p) d) in
-    if leb (length (c .support)) 1 then ok (record { nodes = nodes; cone = c }) else r
+    if leb (length (c .support)) 1 then record { nodes = nodes; cone = c } else r
 
 -- ---- prune: what the outputs need is kept, in order, and renumbered.
 

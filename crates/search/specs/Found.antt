@@ -15,7 +15,7 @@ use lib.Seq.{set-append-left, take-at}
 use Rattle.laws.specs.Test.{if_then_else_, isSome, decide, both-left}
 use Rattle.rules.specs.declared.Settings.{Settings}
 use Rattle.rules.specs.Builder.{agrees, enter, knownEntries, completable}
-use Rattle.rules.specs.Cone.{Cone, Candidate, linearTable, values, coneSpan, norm2, energy, completed, bootstrapTable, isLutValid, withinNorm, fits, better, bestFrom, best, terms}
+use Rattle.rules.specs.Cone.{Cone, Candidate, linearTable, values, coneSpan, norm2, energy, completed, encoding, isLutValid, withinNorm, fits, better, bestFrom, best, terms}
 use Rattle.rules.specs.Composition.{Scales, scales, mergedCoefficients, reuseCost, score, evaluate}
 use Rattle.rules.specs.Network.{LutNode}
 use Rattle.rules.specs.Scale.{divisor, isScalePair}
@@ -215,7 +215,7 @@ module _ (s : Settings) (nodes : List LutNode) (support : List ℕ) (left right 
     tried-not d t = ap (λ t. if t then bestFrom d (evaluated (scales a b)) else d) t
 
     fits-is : fits s nodes C ≡ (withinNorm s (weightedNorm ws cs) && (leb (span all) (s .m) && isSome (completed (s .p) (knownEntries all truth))))
-    unfolding fits isLutValid bootstrapTable coneSpan values coneBy
+    unfolding fits isLutValid encoding coneSpan values coneBy
     fits-is = ap (λ n. withinNorm s n && (leb (span all) (s .m) && isSome (completed (s .p) (knownEntries all truth)))) norm-is
 
     -- both steps

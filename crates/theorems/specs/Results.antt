@@ -24,10 +24,6 @@ pub err-then : {A B : Type 0} (r : Result A) (f : A → Result B) (k : ℕ) → 
 err-then (ok a) f k e = inr (a, refl, e)
 err-then (err j) f k e = inl (ap err (err-same j k e))
 
-pub then-same : {A B : Type 0} (r : Result A) (f g : A → Result B) → ((a : A) → r ≡ ok a → f a ≡ g a) → (r >>= f) ≡ (r >>= g)
-then-same (ok a) f g h = h a refl
-then-same (err k) f g h = refl
-
 pub good-same : {A : Type 0} (a b : A) → _≡_ {A = Reading A} (Good a) (Good b) → a ≡ b
 good-same a b e = cc
 

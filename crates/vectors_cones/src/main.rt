@@ -421,8 +421,17 @@ fn number_of(v: Validity) -> u64 {
     match v {
         Validity::Valid => 0,
         Validity::OverNorm => 8,
-        Validity::Invalid => 10,
     }
+}
+
+// What the Rust's validate_cone says: 10 where the encoding is invalid, as of no cone of a mapping.
+fn judged(s: Settings, nodes: &[u8; 26880], cone: Cone) -> u64
+    requires { ⌜ IsStore (now nodes) 672 × IsCone cone ⌝ }
+{
+    if !cone::valid::is_lut_valid(s, cone) {
+        return 10;
+    }
+    number_of(cone::valid::validate_cone(s, nodes, cone))
 }
 
 // A cone, and what validate_cone says of it.
@@ -438,10 +447,7 @@ fn show_judged(s: Settings, nodes: &[u8; 26880], cone: Cone)
     let mut truth = [0u8; 2048];
     cone::table::truths_of(cone, &mut values, &mut truth);
     show_truth(truth, linear::rows_of(n));
-    io::print_decimal(
-        STDOUT_FILENO,
-        number_of(cone::valid::validate_cone(s, nodes, cone)),
-    );
+    io::print_decimal(STDOUT_FILENO, judged(s, nodes, cone));
 }
 
 fn no_cone() {

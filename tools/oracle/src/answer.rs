@@ -70,8 +70,6 @@ fn refusal(error: &str, job: &[u8]) -> Refusal {
             8
         } else if error == "no valid composition after bootstrapping both inputs as needed" {
             9
-        } else if error == "invalid cone encoding" {
-            10
         } else {
             stop(&format!("the Rust refused with \"{error}\""), job);
         };

@@ -1,7 +1,7 @@
 -- `attempt::attempt` meets its contract.
 use mathlib.Core.Path.{_∙_}
 use native.Mathlib.Omega.{arith}
-use Rattle.laws.specs.Test.{zero≢one}
+use mathlib.Core.Bool.{false≢true}
 use Rattle.cone.specs.View.{coneOf}
 use Rattle.nodes.specs.View.{storeOf}
 use Rattle.attempt.specs.Pair.{compose-over, compose-within}
@@ -21,7 +21,7 @@ unfolding triedOf
 returns c =
     let A = c .before .before .before .args in (
       compose-over (A .s) (storeOf (A .nodes .now) (A .count)) (coneOf (A .left)) (coneOf (A .right)) (A .gate) (omega (arith, c .if1 .taken, c .before .union-size .ensures)),
-      λ e. absurd (zero≢one e),
+      λ e. absurd (false≢true e),
     )
 
 basis-of-requires : tie.Need-basis-of-requires

@@ -8,13 +8,13 @@ use lib.ListN.{length, getD, take}
 use lib.Pow.{pow-mono, pow-pos}
 use lib.Seq.{getD-take}
 use Rattle.laws.specs.Tail.{head-length}
-use Rattle.rules.specs.Cone.{ok, constant}
+use Rattle.rules.specs.Cone.{constant}
 use Rattle.rules.specs.Composition.{unionSupport, gateTruth, allEqual, mergeCones, findCandidate}
 use Rattle.cone.specs.View.{coneOf}
-use Rattle.cone.specs.Sources.{constant-stands, are-nodes}
+use Rattle.cone.specs.Sources.{constant-stands}
 use Rattle.nodes.specs.View.{storeOf}
 use Rattle.attempt.specs.Pair.{Tabled, gated-constant, gated-merged}
-use Rattle.attempt.specs.PairTrial.{trial-tabled, rows-few, trial-mergeable, trial-judged, trial-below, trial-stands}
+use Rattle.attempt.specs.PairTrial.{trial-tabled, rows-few, trial-mergeable, trial-merged, trial-stands}
 use Rattle.attempt.specs.Tried.{triedOf}
 use Rattle.attempt.proofs.composed.Statement.{statement}
 use Rattle.attempt.proofs.composed.Tie as tie
@@ -71,7 +71,7 @@ returns c =
     let A = r .before .before .before .before .before .before .before .before .args in
     let T = gateTruth (unionSupport (coneOf (A .left) .support) (coneOf (A .right) .support)) (coneOf (A .left)) (coneOf (A .right)) (A .gate) in
     let first : getD (r .before .before .before .before .cone-composition-tables .last .1 .1 .1 .1 .1 .1 .0) 0 0 ≡ getD T 0 0 = sym (getD-take (r .rows-of .result) _ 0 0 (some-row r)) ∙ ap (λ l. getD l 0 0) (tabled r .1) in (
-      ap (λ x. some (ok x)) (c .constant .ensures .1 ∙ ap constant first)
+      ap some (c .constant .ensures .1 ∙ ap constant first)
           ∙ gated-constant (A .s) (storeOf (A .nodes .now) (A .count)) (coneOf (A .left)) (coneOf (A .right)) (A .gate) (equal-is (c .before .before) ∙ c .before .if1 .taken),
       λ e. constant-stands (A .count) (c .constant .result) _ (c .constant .ensures .0) (c .constant .ensures .1),
     )
@@ -82,15 +82,13 @@ best-pair-requires c κs =
     let r = e .before .before .before in
     (r .before .before .before .before .before .before .before .before .pre .0, (tabled r .0, sym (e .before .all-equal .ensures) ∙ e .if1 .left))
 
-judged-requires : tie.Need-judged-requires
-judged-requires c κs =
+best-merged-requires : tie.Need-best-merged-requires
+best-merged-requires c κs =
     let r = c .before .before .before .before .before .before .before in
     let k = r .before .before .before .before in
     let s = k .before .before .before .before in
-    let A = s .args in (
-      trial-mergeable (A .s) (A .nodes .now) (A .count) (A .left) (A .right) (A .basis) (s .pre .0) (r .rows-of .result) (k .cone-composition-tables .last .1 .1 .1 .1 .0) (k .cone-composition-tables .last .1 .1 .1 .1 .1 .0) (k .cone-composition-tables .last .1 .1 .1 .1 .1 .1 .0) (tabled r .0) (storeOf (A .nodes .now) (A .count)) (c .best-pair .result) (c .best-pair .ensures),
-      are-nodes (A .nodes .now) (A .count) _ (s .pre .0 .store) (trial-below (A .s) (A .nodes .now) (A .count) (A .left) (A .right) (A .basis) (s .pre .0) (c .best-pair .result) .at),
-    )
+    let A = s .args in
+    trial-mergeable (A .s) (A .nodes .now) (A .count) (A .left) (A .right) (A .basis) (s .pre .0) (r .rows-of .result) (k .cone-composition-tables .last .1 .1 .1 .1 .0) (k .cone-composition-tables .last .1 .1 .1 .1 .1 .0) (k .cone-composition-tables .last .1 .1 .1 .1 .1 .1 .0) (tabled r .0) (storeOf (A .nodes .now) (A .count)) (c .best-pair .result) (c .best-pair .ensures)
 
 returns-2 : tie.Need-returns-2
 returns-2 c =
@@ -101,11 +99,11 @@ returns-2 c =
     let s = k .before .before .before .before in
     let A = s .args in
     let nodes = storeOf (A .nodes .now) (A .count) in (
-      c .judged .ensures .0 (A .count) (trial-below (A .s) (A .nodes .now) (A .count) (A .left) (A .right) (A .basis) (s .pre .0) (p .best-pair .result))
-          ∙ trial-judged (A .s) (A .nodes .now) (A .count) (A .left) (A .right) (A .basis) (s .pre .0) (r .rows-of .result) (k .cone-composition-tables .last .1 .1 .1 .1 .0) (k .cone-composition-tables .last .1 .1 .1 .1 .1 .0) (k .cone-composition-tables .last .1 .1 .1 .1 .1 .1 .0) (tabled r .0) nodes (p .best-pair .result) (p .best-pair .ensures)
-          ∙ ap (λ l. Option·map (mergeCones (A .s) nodes) (findCandidate (A .s) nodes (unionSupport (coneOf (A .left) .support) (coneOf (A .right) .support)) (coneOf (A .left)) (coneOf (A .right)) l)) (tabled r .1)
+      c .best-merged .ensures .0
+          ∙ trial-merged (A .s) (A .nodes .now) (A .count) (A .left) (A .right) (A .basis) (s .pre .0) (r .rows-of .result) (k .cone-composition-tables .last .1 .1 .1 .1 .0) (k .cone-composition-tables .last .1 .1 .1 .1 .1 .0) (k .cone-composition-tables .last .1 .1 .1 .1 .1 .1 .0) (tabled r .0) nodes (p .best-pair .result) (p .best-pair .ensures)
+          ∙ ap (λ l. Option·map mergeCones (findCandidate (A .s) nodes (unionSupport (coneOf (A .left) .support) (coneOf (A .right) .support)) (coneOf (A .left)) (coneOf (A .right)) l)) (tabled r .1)
           ∙ gated-merged (A .s) nodes (coneOf (A .left)) (coneOf (A .right)) (A .gate) (equal-is (e .before) ∙ e .if1 .left),
-      λ q. trial-stands (A .s) (A .nodes .now) (A .count) (A .left) (A .right) (A .basis) (s .pre .0) (p .best-pair .result) (c .judged .result .cone) (c .judged .ensures .1 q),
+      λ q. trial-stands (A .s) (A .nodes .now) (A .count) (A .left) (A .right) (A .basis) (s .pre .0) (p .best-pair .result) (c .best-merged .result .cone) (c .best-merged .ensures .1 q),
     )
 
 pub composed-spec : {M : Type 1} → statement M
@@ -124,5 +122,5 @@ composed-spec =
     constant-requires
     returns
     best-pair-requires
-    judged-requires
+    best-merged-requires
     returns-2)

@@ -1,6 +1,6 @@
 use mathlib.Core.Path.{refl, sym, _∙_}
 use native.Mathlib.Omega.{arith}
-use Rattle.gates.specs.Gates.{gate-refused, boot-refused, gate-done, gate-wired, works-none}
+use Rattle.gates.specs.Gates.{gate-refused, gate-done, gate-wired, works-none}
 use borrow.Author.Needs.{needs}
 use Rattle.gates.proofs.map_one.Statement.{statement}
 use Rattle.gates.proofs.map_one.Tie as tie
@@ -34,40 +34,23 @@ forced-requires c κs =
     let most = g .most in
     (s .pre .0, (g .store, (omega (arith, most, s .pre .1 .0), m .stands (c .before .before .if1 .left))))
 
--- src/gates.rt:246:34
-add-refused-2 : tie.Need-add-refused-2
-add-refused-2 c = search needs
-
--- src/gates.rt:246:9
-refused-requires-2 : tie.Need-refused-requires-2
-refused-requires-2 c κs = search needs
-
--- src/gates.rt:246:9
-returns-2 : tie.Need-returns-2
-returns-2 c =
-    let m = c .before .before .before .before .before .before .before .before .map-gate .ensures in (
-      λ outputs inputs ef. boot-refused _ outputs _ _ _ _ inputs _ _ _ ef _ _ (m .0) (c .before .before .before .before .before .before .if1 .left) _ _ (c .before .before .before .forced .ensures .0) (c .before .if2 .taken) _ _ (c .refused2 .ensures .0) (c .refused2 .ensures .1),
-      works-none _ _ _ _ _ _ (λ e. c .before .if2 .taken (sym (c .refused2 .ensures .0) ∙ e)),
-    )
-
 -- src/gates.rt:251:5
 settle-gate-requires : tie.Need-settle-gate-requires
 settle-gate-requires c κs =
-    let s = c .before .before .before .before .before .before .before .before .before .before .before .before .before .before in
-    let m = c .before .before .before .before .before .before .before .before .before .before .before .map-gate .ensures .1 in
-    let e = c .before .before .before .before .before .before .before .before .before .if1 .left in
-    (s .pre .1 .1 .1 .0 .long, (s .pre .1 .1 .1 .1, (m .first e .cone, (m .second e .cone, c .before .before .before .before .before .before .forced .ensures .1 .stands (c .before .before .before .before .if2 .left) .cone))))
+    let s = c .before .before .before .before .before .before .before .before .before .before .before .before in
+    let m = c .before .before .before .before .before .before .before .before .before .map-gate .ensures .1 in
+    let e = c .before .before .before .before .before .before .before .if1 .left in
+    (s .pre .1 .1 .1 .0 .long, (s .pre .1 .1 .1 .1, (m .first e .cone, (m .second e .cone, c .before .before .before .before .forced .ensures .1 .stands .cone))))
 
 -- src/gates.rt:225:1
-returns-3 : tie.Need-returns-3
-returns-3 c =
-    let s = c .before .before .before .before .before .before .before .before .before .before .before .before .before .before .before in
-    let m = c .before .before .before .before .before .before .before .before .before .before .before .before .map-gate .ensures in
-    let e = c .before .before .before .before .before .before .before .before .before .before .if1 .left in
-    let b = c .before .before .before .before .before .before .before .forced .ensures in
-    let f = c .before .before .before .before .before .if2 .left in (
-      λ outputs inputs ef. gate-done _ outputs _ _ _ _ inputs _ _ _ ef _ _ (m .0) e _ _ (b .0) f (s .pre .1 .1 .1 .1) _ (c .settle-gate .ensures) _ refl refl,
-      gate-wired _ _ _ _ _ _ _ _ _ _ _ _ (s .pre .1 .1 .0) (s .pre .1 .1 .1 .0) (m .1) e (b .1) f (c .settle-gate .ensures) refl,
+returns-2 : tie.Need-returns-2
+returns-2 c =
+    let s = c .before .before .before .before .before .before .before .before .before .before .before .before .before in
+    let m = c .before .before .before .before .before .before .before .before .before .before .map-gate .ensures in
+    let e = c .before .before .before .before .before .before .before .before .if1 .left in
+    let b = c .before .before .before .before .before .forced .ensures in (
+      λ outputs inputs ef. gate-done _ outputs _ _ _ _ inputs _ _ _ ef _ _ (m .0) e _ _ (b .0) (s .pre .1 .1 .1 .1) _ (c .settle-gate .ensures) _ refl refl,
+      gate-wired _ _ _ _ _ _ _ _ _ _ _ _ (s .pre .1 .1 .0) (s .pre .1 .1 .1 .0) (m .1) e (b .1) (c .settle-gate .ensures) refl,
     )
 
 pub map-one-spec : {M : Type 1} → statement M
@@ -79,8 +62,5 @@ map-one-spec =
     refused-requires
     returns
     forced-requires
-    add-refused-2
-    refused-requires-2
-    returns-2
     settle-gate-requires
-    returns-3)
+    returns-2)

@@ -23,7 +23,7 @@ returns c = steps-refused _ _ _ _ _ (c .before .before .before .before .before .
 
 -- src/lib.rt:53:5
 conclude-requires : tie.Need-conclude-requires
-conclude-requires c κs = let m = c .before .before .before .before .before .map-once in steps-finishable _ _ _ _ _ (c .before .before .before .before .before .before .before .before .before .before .before .before .before .used .ensures) _ _ _ _ _ (c .before .before .before .before .before .before .before .before .before .start .ensures) (m .ensures .0 _) (c .before .before .before .before .before .before .before .before .before .before .before .before .before .before .before .before .before .pre) (m .ensures .1) (c .before .before .before .if1 .left)
+conclude-requires c κs = let m = c .before .before .before .before .before .map-once in steps-finishable _ _ _ _ _ (c .before .before .before .before .before .before .before .before .before .before .before .before .before .used .ensures) _ _ _ _ _ (c .before .before .before .before .before .before .before .before .before .start .ensures) (m .ensures .0 _) (c .before .before .before .before .before .before .before .before .before .before .before .before .before .before .before .before .before .pre) (m .ensures .1 (c .before .before .before .if1 .left)) (c .before .before .before .if1 .left)
 
 -- src/lib.rt:25:1
 same-length : tie.Need-same-length

@@ -8,18 +8,15 @@ use Rattle.outputs.specs.Outputs.{port-low, port-slot, port-cone}
 use Rattle.outputs.proofs.map_output.Statement.{statement}
 use Rattle.outputs.proofs.map_output.Tie as tie
 
--- src/outputs.rt:142:28
 slot-of-requires : tie.Need-slot-of-requires
 slot-of-requires c κs = port-low _ _ (c .pre .1 .1 .0) (c .pre .1 .1 .1 .1)
 
--- src/outputs.rt:142:9
 cone-at-requires : tie.Need-cone-at-requires
 cone-at-requires c κs =
     let s = c .before in
     let few = s .pre .1 .1 .0 in
     (slot-below _ _ few (subst (SlotIn _) (sym (c .slot-of .ensures)) (port-slot _ _ few (s .pre .1 .1 .1 .1))), s .pre .1 .1 .1 .0 .long)
 
--- src/outputs.rt:143:5
 output-signal-requires : tie.Need-output-signal-requires
 output-signal-requires c κs =
     let s = c .before .before .before in
@@ -27,7 +24,6 @@ output-signal-requires c κs =
     let is = c .before .cone-at .ensures ∙ ap (coneIn _) (c .before .before .slot-of .ensures) in
     (s .pre .0, (w .store, (s .pre .1 .0, subst (Stands _) (sym is) (w .at _ (port-slot _ _ (s .pre .1 .1 .0) (s .pre .1 .1 .1 .1))))))
 
--- src/outputs.rt:130:1
 returns : tie.Need-returns
 returns c =
     let s = c .before .before .before .before in

@@ -1,4 +1,4 @@
-use mathlib.Core.Path.{_≡_, refl, _∙_}
+use mathlib.Core.Path.{_≡_, _∙_}
 use mathlib.Core.List.{List}
 use Prim.Native.Nat.{ℕ, _+_, _*_, _-_, _≤_, _<_}
 use native.Mathlib.Omega.{arith}
@@ -9,8 +9,8 @@ use Rattle.nodes.specs.View.{storeOf}
 use Rattle.circuit.specs.View.{outputsIn}
 use Rattle.gates.specs.View.{conesIn}
 use Rattle.gates.specs.Wired.{Wired, wired-more}
-use Rattle.outputs.specs.Outputs.{started}
-use Rattle.outputs.specs.OutputsWalk.{outputsAt, Written, written-none, written-step, port-good, outputs-start, outputs-step, outputs-refused, outputs-done, outs-none, outs-done}
+use Rattle.outputs.specs.Outputs.{started, outputsRead, signal-port}
+use Rattle.outputs.specs.OutputsWalk.{Written, written-none, written-step, port-good, outputs-start, outputs-step, outputs-done, outs-done}
 use Rattle.outputs.proofs.map_outputs.Statement.{statement}
 use Rattle.outputs.proofs.map_outputs.Tie as tie
 
@@ -25,37 +25,30 @@ Inv-loop s nodes₀ count ports₀ wires n outs k₀ i₀ nodes ports k i =
     × ((k ≤ count + 2 * i)
     × (Written ports₀ k i ports
     × ((text : List ℕ)
-    → mapOutputs s (conesIn wires n) (outputsAt nodes k text ports i) (drop i (outputsIn text ports₀ outs))
+    → mapOutputs s (conesIn wires n) (outputsRead text nodes ports i k) (drop i (outputsIn text ports₀ outs))
     ≡ mapOutputs s (conesIn wires n) (started (storeOf nodes₀ count)) (outputsIn text ports₀ outs))))))
 
 abbrev μ-loop : tie.MeasureT-loop
 μ-loop s nodes₀ count ports₀ wires n outs k₀ i₀ nodes ports k i = outs - i
 
--- src/outputs.rt:162:5
 loop-holds : tie.Need-loop-holds Inv-loop μ-loop
 loop-holds c = (omega arith, (c .pre .1 .1 .1 .0, (omega arith, (omega arith, (written-none _ _ (c .pre .1 .1 .1 .1 .long), λ text. outputs-start _ _ _ _ _ _ _)))))
 
--- src/outputs.rt:163:62
 mul-map-output : tie.Need-mul-map-output Inv-loop μ-loop
 mul-map-output c = let s = c .before .before .before in omega (arith, s .pre .1 .1 .1 .1 .few, c .before .loop-test .taken)
 
--- src/outputs.rt:163:57
 add-map-output : tie.Need-add-map-output Inv-loop μ-loop
 add-map-output c = let s = c .before .before .before in omega (arith, s .pre .1 .1 .1 .1 .few, c .before .loop-test .taken)
 
--- src/outputs.rt:163:57
 add-map-output-2 : tie.Need-add-map-output-2 Inv-loop μ-loop
 add-map-output-2 c = let s = c .before .before .before in omega (arith, s .pre .1 .1 .1 .1 .few, c .before .loop-test .taken)
 
--- src/outputs.rt:163:51
 mul-map-output-2 : tie.Need-mul-map-output-2 Inv-loop μ-loop
 mul-map-output-2 c = let s = c .before .before .before in omega (arith, s .pre .1 .1 .1 .1 .few, c .before .loop-test .taken)
 
--- src/outputs.rt:163:51
 element-copy-out-map-output : tie.Need-element-copy-out-map-output Inv-loop μ-loop
 element-copy-out-map-output c = let s = c .before .before .before in omega (arith, s .pre .1 .1 .1 .1 .few, c .before .loop-test .taken)
 
--- src/outputs.rt:163:13
 map-output-requires : tie.Need-map-output-requires Inv-loop μ-loop
 map-output-requires c κs =
     let l = c .before .before in
@@ -63,62 +56,50 @@ map-output-requires c κs =
     let s = l .before .before in
     (s .pre .0, (omega (arith, s .pre .1 .0, o .inv .1 .1 .1 .0, l .loop-test .taken), (s .pre .1 .1 .0, (o .inv .1 .0, port-good _ _ _ _ (o .inv .1 .1 .1 .1 .0) _ _ (s .pre .1 .1 .1 .1) (l .loop-test .taken)))))
 
--- src/outputs.rt:165:13
-returns : tie.Need-returns Inv-loop μ-loop
-returns c =
-    let l = c .before .before .before .before .before in
-    let o = l .before .loop in
-    let w = o .inv .1 .1 .1 .1 .0 in
-    (λ text. outputs-refused _ _ text _ _ _ (l .loop-test .taken) _ _ _ w _ _ (c .before .before .map-output .ensures .0) (c .if1 .taken) _ _ refl ∙ o .inv .1 .1 .1 .1 .1 text, outs-none _ _ _ _ _ _ _ _ w (o .inv .0) (c .if1 .taken) refl)
+port-of-requires : tie.Need-port-of-requires Inv-loop μ-loop
+port-of-requires c κs = search needs
 
--- src/outputs.rt:171:20
 mul-ports : tie.Need-mul-ports Inv-loop μ-loop
-mul-ports c = let l = c .before .before .before .before .before in omega (arith, l .before .before .pre .1 .1 .1 .1 .few, l .loop-test .taken)
+mul-ports c = let l = c .before .before .before .before in omega (arith, l .before .before .pre .1 .1 .1 .1 .few, l .loop-test .taken)
 
--- src/outputs.rt:171:15
 add-ports : tie.Need-add-ports Inv-loop μ-loop
-add-ports c = let l = c .before .before .before .before .before in omega (arith, l .before .before .pre .1 .1 .1 .1 .few, l .loop-test .taken)
+add-ports c = let l = c .before .before .before .before in omega (arith, l .before .before .pre .1 .1 .1 .1 .few, l .loop-test .taken)
 
--- src/outputs.rt:171:15
 add-ports-2 : tie.Need-add-ports-2 Inv-loop μ-loop
-add-ports-2 c = let l = c .before .before .before .before .before in omega (arith, l .before .before .pre .1 .1 .1 .1 .few, l .loop-test .taken)
+add-ports-2 c = let l = c .before .before .before .before in omega (arith, l .before .before .pre .1 .1 .1 .1 .few, l .loop-test .taken)
 
--- src/outputs.rt:171:9
 mul-ports-2 : tie.Need-mul-ports-2 Inv-loop μ-loop
-mul-ports-2 c = let l = c .before .before .before .before .before in omega (arith, l .before .before .pre .1 .1 .1 .1 .few, l .loop-test .taken)
+mul-ports-2 c = let l = c .before .before .before .before in omega (arith, l .before .before .pre .1 .1 .1 .1 .few, l .loop-test .taken)
 
--- src/outputs.rt:171:9
 element-write-ports : tie.Need-element-write-ports Inv-loop μ-loop
-element-write-ports c = let l = c .before .before .before .before .before in omega (arith, l .before .before .pre .1 .1 .1 .1 .few, l .loop-test .taken)
+element-write-ports c = let l = c .before .before .before .before in omega (arith, l .before .before .pre .1 .1 .1 .1 .few, l .loop-test .taken)
 
--- src/outputs.rt:173:9
 add-i : tie.Need-add-i Inv-loop μ-loop
-add-i c = let l = c .before .before .before .before .before in omega (arith, l .before .before .pre .1 .1 .1 .1 .few, l .loop-test .taken)
+add-i c = let l = c .before .before .before .before in omega (arith, l .before .before .pre .1 .1 .1 .1 .few, l .loop-test .taken)
 
--- src/outputs.rt:162:5
 loop-less : tie.Need-loop-less Inv-loop μ-loop
 loop-less c = search needs
 
--- src/outputs.rt:162:5
 loop-again : tie.Need-loop-again Inv-loop μ-loop
 loop-again c =
-    let l = c .before .before .before .before .before in
+    let l = c .before .before .before .before in
     let s = l .before .before in
     let o = l .before .loop in
     let i = l .loop-test .taken in
     let w = o .inv .1 .1 .1 .1 .0 in
-    let done = c .before .before .map-output .ensures in
-    let grown = done .1 .grown (c .if1 .left) in
+    let done = c .before .map-output .ensures in
+    let grown = done .1 .grown in
+    let most = grown .most in
     let low = below-limit _ _ i (s .pre .1 .1 .1 .1 .few) in
-    (search needs, (wired-more _ _ _ _ _ _ (o .inv .1 .0) (grown .store) (grown .least), (omega (arith, grown .least, o .inv .1 .1 .0), (omega (arith, grown .most, o .inv .1 .1 .1 .0), (written-step _ _ _ _ w low _ _ (grown .least) (done .1 .inside (c .if1 .left)), λ text. outputs-step _ _ text _ _ _ i _ _ _ w _ _ (done .0) (c .if1 .left) low ∙ o .inv .1 .1 .1 .1 .1 text)))))
+    let wire = c .port-of .ensures in
+    (search needs, (wired-more _ _ _ _ _ _ (o .inv .1 .0) (grown .store) (grown .least), (omega (arith, grown .least, o .inv .1 .1 .0), (omega (arith, most, o .inv .1 .1 .1 .0), (written-step _ _ _ _ w low _ _ (grown .least) (signal-port _ _ _ wire (done .1 .inside)), λ text. outputs-step _ _ text _ _ _ i _ _ _ w _ _ (done .0) _ wire low (omega (arith, most, o .inv .1 .1 .1 .0, s .pre .1 .0, i)) (done .1 .inside) ∙ o .inv .1 .1 .1 .1 .1 text)))))
 
--- src/outputs.rt:147:1
-returns-2 : tie.Need-returns-2 Inv-loop μ-loop
-returns-2 c =
+returns : tie.Need-returns Inv-loop μ-loop
+returns c =
     let o = c .before .loop in
     let s = c .before .before in
     let out = c .loop-test .left in
-    (λ text. outputs-done _ _ text _ _ _ _ _ _ _ out (o .inv .0) refl refl ∙ o .inv .1 .1 .1 .1 .1 text, outs-done _ _ _ _ _ _ _ _ (o .inv .1 .1 .1 .1 .0) out (o .inv .0) (s .pre .1 .1 .1 .1 .few) (o .inv .1 .0 .store) (o .inv .1 .1 .0) (o .inv .1 .1 .1 .0) refl refl)
+    (λ text. outputs-done _ _ text _ _ _ _ _ _ out (o .inv .0) ∙ o .inv .1 .1 .1 .1 .1 text, outs-done _ _ _ _ _ _ _ (o .inv .1 .1 .1 .1 .0) out (o .inv .0) (s .pre .1 .1 .1 .1 .few) (o .inv .1 .0 .store) (o .inv .1 .1 .0) (o .inv .1 .1 .1 .0))
 
 pub map-outputs-spec : {M : Type 1} → statement M
 map-outputs-spec =
@@ -133,7 +114,7 @@ map-outputs-spec =
     mul-map-output-2
     element-copy-out-map-output
     map-output-requires
-    returns
+    port-of-requires
     mul-ports
     add-ports
     add-ports-2
@@ -142,4 +123,4 @@ map-outputs-spec =
     add-i
     loop-less
     loop-again
-    returns-2)
+    returns)

@@ -1,10 +1,10 @@
+use Rattle.lut.specs.Store.{interns-node}
 use borrow.Author.Needs.{needs}
 use Rattle.rules.specs.Network.{Linear}
-use Rattle.lut.specs.Store.{Interns, interns-node}
+use Rattle.lut.specs.Store.{Interns}
 use Rattle.nodes.specs.View.{term}
 use mathlib.Core.List.{[], _∷_}
 use lib.IntN.{pos, negsuc}
-use Rattle.bootstrap.specs.Boot.{not-refused}
 use Rattle.outputs.specs.Outputs.{negated-good, negated-is, node-signal, node-finishes}
 use Rattle.outputs.proofs.negation.Statement.{statement}
 use Rattle.outputs.proofs.negation.Tie as tie
@@ -18,13 +18,7 @@ summed : (c : tie.After-linear) → let s = c .before .before .before in
 summed c = let s = c .before .before .before in interns-node _ _ _ _ _ _ (c .linear .ensures) (negated-is (s .args .many) (s .args .node) (c .before .negated .result) (c .before .negated .ensures))
 
 returns : tie.Need-returns
-returns c = absurd (not-refused _ _ _ _ _ (summed (c .before .before)) (c .enum-told .given .1))
-
-returns-2 : tie.Need-returns-2
-returns-2 c =
-    let l = c .before .before .before in
-    let told = c .before .signal .given .1 in
-    (node-signal _ _ _ _ _ (summed l) _ told, node-finishes _ _ _ _ _ (summed l) _ told)
+returns c = (node-signal _ _ _ _ _ (summed c), node-finishes _ _ _ _ _ (summed c))
 
 pub negation-spec : {M : Type 1} → statement M
-negation-spec = tie.close (tie.spec (λ c κs. search needs) linear-requires (λ c. search needs) (λ c. search needs) returns returns-2)
+negation-spec = tie.close (tie.spec (λ c κs. search needs) linear-requires returns)

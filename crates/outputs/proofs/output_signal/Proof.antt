@@ -8,23 +8,18 @@ use Rattle.outputs.proofs.output_signal.Tie as tie
 support-long : (c : tie.Start) → length (c .args .c .support) ≡ 11
 support-long c = search needs
 
--- src/outputs.rt:106:9
 wire-of-requires : tie.Need-wire-of-requires
 wire-of-requires c κs = search needs
 
--- src/outputs.rt:106:9
 returns : tie.Need-returns
 returns c = (c .wire-of .ensures .0 ∙ sym (idle-signal _ _ _ (support-few _ (c .before .before .if1 .taken))), finishes-more _ _ _ (c .wire-of .ensures .1))
 
--- src/outputs.rt:108:9
 bootstrap-cone-requires : tie.Need-bootstrap-cone-requires
 bootstrap-cone-requires c κs = search needs
 
--- src/outputs.rt:114:15
-array-read-t13 : tie.Need-array-read-t13
-array-read-t13 c = search needs
+array-read-node : tie.Need-array-read-node
+array-read-node c = search needs
 
--- src/outputs.rt:100:1
 returns-2 : tie.Need-returns-2
 returns-2 c =
     let b = c .before .before in
@@ -35,4 +30,4 @@ returns-2 c =
 
 pub output-signal-spec : {M : Type 1} → statement M
 output-signal-spec =
-    tie.close (tie.spec wire-of-requires returns bootstrap-cone-requires array-read-t13 returns-2)
+    tie.close (tie.spec wire-of-requires returns bootstrap-cone-requires array-read-node returns-2)

@@ -4,16 +4,13 @@ use borrow.Author.Needs.{needs}
 use Rattle.outputs.proofs.slot_of.Statement.{statement}
 use Rattle.outputs.proofs.slot_of.Tie as tie
 
--- src/outputs.rt:123:9
 returns : tie.Need-returns
 unfolding slotOf
 returns c = search (needs, tests)
 
--- src/outputs.rt:125:5
 sub-result : tie.Need-sub-result
 sub-result c = search needs
 
--- src/outputs.rt:118:1
 returns-2 : tie.Need-returns-2
 unfolding slotOf
 returns-2 c = search (needs, tests)

@@ -29,12 +29,12 @@ reading = tt
 
 -- values, scale pairs and tables
 unfoldable pub tables : Unit {0}
-unfolding Test.allb Gcd.gcdWithin Gcd.gcd Tabulate.tabulate Span.leastFrom Span.greatestFrom Span.least Span.greatest Span.span Scale.gcdFrom Scale.startsNegative Scale.divisor Scale.quotients Scale.normalised Scale.isScalePair Rotation.pairSum Rotation.sameSum Rotation.centre Rotation.rotatable Builder.agrees Builder.enter Builder.knownEntries Builder.knownOr Builder.filled Builder.against Builder.opposedAt Builder.opposed Builder.completion Builder.tableLimits
+unfolding Test.allb Gcd.gcdWithin Gcd.gcd Tabulate.tabulate Span.leastFrom Span.greatestFrom Span.least Span.greatest Span.span Scale.gcdFrom Scale.startsNegative Scale.divisor Scale.quotients Scale.normalised Scale.isScalePair Rotation.pairSum Rotation.sameSum Rotation.centre Rotation.rotatable Builder.agrees Builder.enter Builder.knownEntries Builder.knownOr Builder.filled Builder.against Builder.opposedAt Builder.opposed Builder.completion Builder.lastTried Builder.tableLimits
 tables = tt
 
 -- cones and the store
 unfoldable pub cones : Unit {0}
-unfolding zipWith Select.select Select.any Select.all Integer.eqZ Network.nodeAt Network.weightOf Network.norm Network.nodeNorm Network.largest Network.bootSources Network.member NetworkText.sources NetworkText.over Cone.constant Cone.identity Cone.rowFrom Cone.coneBit Cone.linearTable Cone.values Cone.coneSpan Cone.terms Cone.norm2 Cone.energy Cone.completed Cone.bootstrapTable Cone.isLutValid Cone.withinNorm Cone.fits Cone.validateCone Cone.less Cone.better Cone.bestFrom Cone.best Cone.coneOrderKey Store.sameTerms Store.sameNode Store.numberOf Store.intern Store.isUsed Store.insert Store.sorted Store.linearTerms Store.linearOf Store.coefficientOf Store.bootstrapInputs Store.hasBootstrap Store.termsOf Store.sameSources Store.bootstrapForms Store.withForm Store.ranked Store.coneOr Store.realigned Store.bootstrapped Store.bootstrapCone Store.needs Store.wireNeeds Store.outputNeeds Store.wantedBelow Store.live Store.renumbered Store.renumberedTerm Store.renumberedNode Store.renumberedWire Store.renumberedOutput Store.keptFrom
+unfolding zipWith Select.select Select.any Select.all Integer.eqZ Network.nodeAt Network.weightOf Network.norm Network.nodeNorm Network.largest Network.bootSources Network.member NetworkText.sources NetworkText.over Cone.constant Cone.identity Cone.rowFrom Cone.coneBit Cone.linearTable Cone.values Cone.coneSpan Cone.terms Cone.norm2 Cone.energy Cone.completed Cone.encoding Cone.bootstrapTable Cone.isLutValid Cone.withinNorm Cone.fits Cone.validateCone Cone.less Cone.better Cone.bestFrom Cone.best Cone.coneOrderKey Store.sameTerms Store.sameNode Store.numberOf Store.intern Store.isUsed Store.insert Store.sorted Store.linearTerms Store.linearOf Store.coefficientOf Store.bootstrapInputs Store.hasBootstrap Store.termsOf Store.sameSources Store.bootstrapForms Store.withForm Store.ranked Store.coneOr Store.realigned Store.bootstrapped Store.bootstrapCone Store.needs Store.wireNeeds Store.outputNeeds Store.wantedBelow Store.live Store.renumbered Store.renumberedTerm Store.renumberedNode Store.renumberedWire Store.renumberedOutput Store.keptFrom
 cones = tt
 
 -- gates and outputs

@@ -1,7 +1,6 @@
 -- `vectors_cones::show_judged` is safe: at most 11 sources have at most 2,048 rows.
 use borrow.Author.Needs.{needs}
 use Rattle.cone.specs.View.{rows-fit}
-use Rattle.vectors_cones.specs.Made.{sources-stand}
 use Rattle.vectors_cones.proofs.show_judged.Statement.{statement}
 use Rattle.vectors_cones.proofs.show_judged.Tie as tie
 
@@ -15,10 +14,8 @@ show-truth-requires c κs =
     let s = c .before .before .before .before .before .before .before .before .before .before in
     rw (c .rows-of .ensures) (rows-fit (s .args .cone) (s .pre .1))
 
-validate-cone-requires : tie.Need-validate-cone-requires
-validate-cone-requires c κs =
-    let s = c .before .before .before .before .before .before .before .before .before .before .before in
-    (s .pre .1, sources-stand (s .args .nodes .now) (s .args .cone) (s .pre .0) (s .pre .1))
+judged-requires : tie.Need-judged-requires
+judged-requires c κs = let s = c .before .before .before .before .before .before .before .before .before .before .before in (s .pre .0, s .pre .1)
 
 pub show-judged-spec : {M : Type 1} → statement M
 show-judged-spec =
@@ -31,7 +28,6 @@ show-judged-spec =
     truths-of-requires
     (λ c κs. search needs)
     show-truth-requires
-    validate-cone-requires
-    (λ c κs. search needs)
+    judged-requires
     (λ c κs. search needs)
     (λ c. search needs))

@@ -7,7 +7,7 @@ use borrow.Author.Tests.{le-leb, lt-leb}
 use lib.ListN.{length}
 use Rattle.rules.specs.declared.Settings.{Settings}
 use Rattle.rules.specs.Cone as C
-use Rattle.rules.specs.Cone.{ok, bootstrapTable}
+use Rattle.rules.specs.Cone.{bootstrapTable}
 use Rattle.rules.specs.Network.{LutNode}
 use Rattle.rules.specs.Store.{bootstrapCone, bootstrapped, realigned}
 use mathlib.Core.List.{List}
@@ -19,7 +19,7 @@ use Rattle.bootstrap.proofs.boot.bootstrap_cone.Statement.{statement}
 use Rattle.bootstrap.proofs.boot.bootstrap_cone.Tie as tie
 
 module _ (s : Settings) (nodes : List LutNode) (c : C.Cone) where
-  stays : length (c .support) ≤ 1 → ok (record { nodes = nodes; cone = c }) ≡ bootstrapCone s nodes c
+  stays : length (c .support) ≤ 1 → record { nodes = nodes; cone = c } ≡ bootstrapCone s nodes c
   unfolding bootstrapCone
   stays h = rw (le-leb (length (c .support)) 1 h)
 
@@ -37,7 +37,7 @@ returns c =
     let st = s .pre .1 in
     let n = view-sources (s .args .c) (st .1 .1 .cone) (support-long s) in (
       stays (s .args .s) (storeOf (s .args .nodes .now) (s .args .count)) (coneOf (s .args .c)) (omega (arith, n, c .if1 .taken)),
-      record { grown = λ z. record { store = st .0; least = omega arith; most = omega arith }; stands = λ z. st .1 .1 },
+      record { grown = record { store = st .0; least = omega arith; most = omega arith }; stands = st .1 .1 },
     )
 
 realign-requires : tie.Need-realign-requires

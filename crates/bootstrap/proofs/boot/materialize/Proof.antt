@@ -1,15 +1,16 @@
 -- `bootstrap::boot::materialize` meets its contract: the sum first, then the bootstrap of the cone's known entries.
-use mathlib.Core.Path.{_≡_, sym, subst}
+use mathlib.Core.Path.{_≡_, sym, ap, subst, _∙_}
 use Prim.Native.Nat.{_≤_}
 use native.Mathlib.Omega.{arith}
 use lib.ListN.{length, take}
 use Rattle.laws.specs.Tail.{head-length}
-use Rattle.rules.specs.Builder.{Entries, completion}
-use Rattle.rules.specs.Cone.{coneSpan}
+use Rattle.rules.specs.Builder.{Entries, lastTried}
+use Rattle.rules.specs.Cone.{bootstrapTable}
+use Rattle.rules.specs.Network.{Bootstrap}
 use Rattle.rules.specs.Store.{linearOf}
 use Rattle.cone.specs.View.{coneOf, entries}
-use Rattle.lut.specs.Store.{Interns, Bootstraps, interns-node}
-use Rattle.bootstrap.specs.Boot.{sum-good, sum-is, grown-by-one, told-inside, not-refused, boots-not, refused-is, node-near, made-is, made-stands}
+use Rattle.lut.specs.Store.{Interns, interns-node}
+use Rattle.bootstrap.specs.Boot.{sum-good, sum-is, grown-by-one, told-inside, not-constant, table-known, node-near, made-is, made-stands}
 use borrow.Author.Needs.{needs}
 use Rattle.bootstrap.proofs.boot.materialize.Statement.{statement}
 use Rattle.bootstrap.proofs.boot.materialize.Tie as tie
@@ -34,7 +35,7 @@ summed c =
     interns-node _ _ _ _ _ _ (c .linear .ensures) (sum-is (s .args .s) (s .args .d) (c .before .sum-of .result) (c .before .sum-of .ensures))
 
 returns : tie.Need-returns
-returns c = let l = c .before .before in absurd (not-refused _ _ _ _ _ (summed l) (c .enum-told .given .1))
+returns c = let l = c .before .before in absurd (not-constant _ _ _ _ _ (summed l) _ (c .enum-told .given .1))
 
 array-share-prefix-known : tie.Need-array-share-prefix-known
 array-share-prefix-known c = inside (c .before .before .before .before .before .before .before)
@@ -58,21 +59,16 @@ bootstrap-requires c κs =
 -- what the bootstrap was made of
 booted : (c : tie.After-bootstrap) → let l = c .before .before .before .before .before .before in
     let s = l .before .before .before .before .before in
-    Bootstraps (c .before .before .before .before .signal .given .0 .0) (completion (s .args .s .p) (take (coneSpan (coneOf (s .args .d))) (s .args .d .known))) (l .linear .last .0) (l .linear .result .count) (c .bootstrap .last .0) (c .bootstrap .result)
+    Interns (Bootstrap (c .before .before .before .before .signal .given .0 .0) (bootstrapTable (s .args .s .p) (coneOf (s .args .d)))) (l .linear .last .0) (l .linear .result .count) (c .bootstrap .last .0) (c .bootstrap .result)
 booted c =
     let l = c .before .before .before .before .before .before in
     let s = l .before .before .before .before .before in
-    subst (λ n. Bootstraps (c .before .before .before .before .signal .given .0 .0) (completion (s .args .s .p) (take n (s .args .d .known))) (l .linear .last .0) (l .linear .result .count) (c .bootstrap .last .0) (c .bootstrap .result))
-    (l .before .before .before .span .ensures) (c .bootstrap .ensures)
+    interns-node _ _ _ _ _ _ (c .bootstrap .ensures)
+    (ap (λ n. Bootstrap (c .before .before .before .before .signal .given .0 .0) (lastTried (s .args .s .p) (take n (s .args .d .known)))) (l .before .before .before .span .ensures)
+    ∙ ap (Bootstrap (c .before .before .before .before .signal .given .0 .0)) (table-known (s .args .s) (s .args .nodes .now) (s .args .count) (s .args .d) (s .pre .1 .1)))
 
 returns-2 : tie.Need-returns-2
-returns-2 c =
-    let b = c .before .before in
-    let l = b .before .before .before .before .before .before in
-    let s = l .before .before .before .before .before in (
-      refused-is (s .args .s) (s .args .nodes .now) (s .args .count) (s .args .d) (s .pre .1 .1) _ _ (summed l) _ (b .before .before .before .before .signal .given .1) _ _ (booted b) (c .enum-told2 .given .1),
-      boots-not (s .args .s) (s .args .nodes .now) (s .args .count) (s .args .d) (s .pre .1 .1) _,
-    )
+returns-2 c = absurd (not-constant _ _ _ _ _ (booted (c .before .before)) _ (c .enum-told2 .given .1))
 
 identity-requires : tie.Need-identity-requires
 identity-requires c κs =

@@ -4,13 +4,12 @@ use mathlib.Core.Bool.{true, false}
 use mathlib.Core.List.{List}
 use Prim.Native.Nat.{ℕ}
 use borrow.Author.Needs.{needs}
-use borrow.Author.Tests.{not-true, not-false}
 use Rattle.rules.specs.declared.Settings.{Settings}
-use Rattle.rules.specs.Cone.{Cone, isLutValid, withinNorm, norm2, validateCone}
+use Rattle.rules.specs.Cone.{Cone, withinNorm, norm2, validateCone}
 use Rattle.rules.specs.Network.{LutNode}
 use Rattle.rules.specs.NetworkText.{over}
 use Rattle.nodes.specs.View.{storeOf}
-use Rattle.cone.specs.declared.valid.Validity.the-variants.{Valid, OverNorm, Invalid}
+use Rattle.cone.specs.declared.valid.Validity.the-variants.{Valid, OverNorm}
 use Rattle.cone.specs.View.{coneOf}
 use Rattle.cone.specs.Sources.{Below}
 use Rattle.cone.specs.Valid.{validityOf}
@@ -18,48 +17,28 @@ use Rattle.cone.proofs.valid.validate_cone.Statement.{statement}
 use Rattle.cone.proofs.valid.validate_cone.Tie as tie
 
 module _ (s : Settings) (nodes : List LutNode) (c : Cone) where
-  invalid : isLutValid s c ≡ false → validityOf c Invalid ≡ validateCone s nodes c
-  unfolding validityOf validateCone
-  invalid e = rw e
-
-  over-norm : isLutValid s c ≡ true → over (s .norm) (norm2 nodes c) ≡ true → validityOf c OverNorm ≡ validateCone s nodes c
+  over-norm : over (s .norm) (norm2 nodes c) ≡ true → validityOf c OverNorm ≡ validateCone s nodes c
   unfolding validityOf validateCone withinNorm
-  over-norm e f = rw (e, f)
+  over-norm e = rw e
 
-  valid : isLutValid s c ≡ true → over (s .norm) (norm2 nodes c) ≡ false → validityOf c Valid ≡ validateCone s nodes c
+  valid : over (s .norm) (norm2 nodes c) ≡ false → validityOf c Valid ≡ validateCone s nodes c
   unfolding validityOf validateCone withinNorm
-  valid e f = rw (e, f)
+  valid e = rw e
+
+-- the norm is judged so
+judged : (c : tie.After-is-over) → let s = c .before .before in
+    (count : ℕ) → Below count (coneOf (s .args .cone)) → c .is-over .result ≡ over (s .args .s .norm) (norm2 (storeOf (s .args .nodes .now) count) (coneOf (s .args .cone)))
+judged c count b = let s = c .before .before in c .is-over .ensures ∙ ap (over (s .args .s .norm)) (c .before .norm2 .ensures count b)
 
 returns : tie.Need-returns
 returns c count b =
-    let a = c .before in
-    let s = a .before in
-    invalid (s .args .s) _ (coneOf (s .args .cone)) (sym (a .is-lut-valid .ensures) ∙ not-true (a .is-lut-valid .result) (c .if1 .taken))
-
--- the lut is valid, and the norm is judged so
-judged : (c : tie.After-is-over) → let s = c .before .before .before .before in
-    (count : ℕ) → Below count (coneOf (s .args .cone))
-    → (isLutValid (s .args .s) (coneOf (s .args .cone)) ≡ true) × (c .is-over .result ≡ over (s .args .s .norm) (norm2 (storeOf (s .args .nodes .now) count) (coneOf (s .args .cone))))
-judged c count b =
-    let a = c .before .before .before in
-    let s = a .before in (
-      sym (a .is-lut-valid .ensures) ∙ not-false (a .is-lut-valid .result) (c .before .before .if1 .left),
-      c .is-over .ensures ∙ ap (over (s .args .s .norm)) (c .before .norm2 .ensures count b),
-    )
+    let s = c .before .before .before in
+    over-norm (s .args .s) _ (coneOf (s .args .cone)) (sym (judged (c .before) count b) ∙ c .if1 .taken)
 
 returns-2 : tie.Need-returns-2
 returns-2 c count b =
-    let j = judged (c .before) count b in
-    let s = c .before .before .before .before .before in
-    over-norm (s .args .s) _ (coneOf (s .args .cone)) (j .0) (sym (j .1) ∙ c .if2 .taken)
-
-returns-3 : tie.Need-returns-3
-returns-3 c count b =
-    let j = judged (c .before) count b in
-    let s = c .before .before .before .before .before in
-    valid (s .args .s) _ (coneOf (s .args .cone)) (j .0) (sym (j .1) ∙ c .if2 .left)
+    let s = c .before .before .before in
+    valid (s .args .s) _ (coneOf (s .args .cone)) (sym (judged (c .before) count b) ∙ c .if1 .left)
 
 pub validate-cone-spec : {M : Type 1} → statement M
-validate-cone-spec =
-    tie.close
-    (tie.spec (λ c κs. search needs) returns (λ c κs. search needs) (λ c κs. search needs) returns-2 returns-3)
+validate-cone-spec = tie.close (tie.spec (λ c κs. search needs) (λ c κs. search needs) returns returns-2)

@@ -48,12 +48,6 @@ enum-told-2 c = search needs
 refused-requires : tie.Need-refused-requires
 refused-requires c κs = search needs
 
-enum-told-3 : tie.Need-enum-told-3
-enum-told-3 c = search needs
-
-refused-requires-2 : tie.Need-refused-requires-2
-refused-requires-2 c κs = search needs
-
 returns-2 : tie.Need-returns-2
 unfolding validityOf
 returns-2 c = let s = c .before .before .before .before .before .before .before in let d = c .before .before .before .before .before .before .apply-unary in let v = c .before .before .before .validate-cone in let st = through-stands _ _ _ _ (d .ensures .0) (d .ensures .1) (s .pre .1 .1 .0) in (c .unchanged2 .ensures .0 _ ∙ unary-judged (s .args .s) _ (coneOf (s .args .c)) (coneOf (d .result)) _ (d .ensures .1) (C.ok (coneOf (d .result))) (sym (c .before .before .before .before .before .all-equal .ensures) ∙ c .before .before .before .before .if1 .left) (ap (validityOf (coneOf (d .result))) (sym (c .before .enum-told .given .1)) ∙ v .ensures (s .args .count) (st .below)), c .unchanged2 .ensures .1 _ (s .pre .1 .0) st)
@@ -61,10 +55,6 @@ returns-2 c = let s = c .before .before .before .before .before .before .before 
 returns-3 : tie.Need-returns-3
 unfolding validityOf
 returns-3 c = let s = c .before .before .before .before .before .before .before in let d = c .before .before .before .before .before .before .apply-unary in let v = c .before .before .before .validate-cone in let st = through-stands _ _ _ _ (d .ensures .0) (d .ensures .1) (s .pre .1 .1 .0) in (c .refused .ensures .0 _ ∙ unary-judged (s .args .s) _ (coneOf (s .args .c)) (coneOf (d .result)) _ (d .ensures .1) (C.err 8) (sym (c .before .before .before .before .before .all-equal .ensures) ∙ c .before .before .before .before .if1 .left) (ap (validityOf (coneOf (d .result))) (sym (c .before .enum-told2 .given .1)) ∙ v .ensures (s .args .count) (st .below)), c .refused .ensures .1 _ _ _)
-
-returns-4 : tie.Need-returns-4
-unfolding validityOf
-returns-4 c = let s = c .before .before .before .before .before .before .before in let d = c .before .before .before .before .before .before .apply-unary in let v = c .before .before .before .validate-cone in let st = through-stands _ _ _ _ (d .ensures .0) (d .ensures .1) (s .pre .1 .1 .0) in (c .refused2 .ensures .0 _ ∙ unary-judged (s .args .s) _ (coneOf (s .args .c)) (coneOf (d .result)) _ (d .ensures .1) (C.err 10) (sym (c .before .before .before .before .before .all-equal .ensures) ∙ c .before .before .before .before .if1 .left) (ap (validityOf (coneOf (d .result))) (sym (c .before .enum-told3 .given .1)) ∙ v .ensures (s .args .count) (st .below)), c .refused2 .ensures .1 _ _ _)
 
 pub map-unary-spec : {M : Type 1} → statement M
 map-unary-spec =
@@ -81,8 +71,5 @@ map-unary-spec =
     unchanged-requires-2
     enum-told-2
     refused-requires
-    enum-told-3
-    refused-requires-2
     returns-2
-    returns-3
-    returns-4)
+    returns-3)

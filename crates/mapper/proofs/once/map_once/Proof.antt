@@ -1,5 +1,5 @@
 use borrow.Author.Needs.{needs}
-use Rattle.mapper.specs.Once.{once-refused, once-done, done-none, room-left}
+use Rattle.mapper.specs.Once.{once-refused, once-done, room-left}
 use Rattle.mapper.proofs.once.map_once.Statement.{statement}
 use Rattle.mapper.proofs.once.map_once.Tie as tie
 
@@ -11,7 +11,7 @@ map-gates-requires c κs = search needs
 returns : tie.Need-returns
 returns c =
     let mapped = c .before .before .map-gates .ensures in
-    (λ text. once-refused _ _ _ _ _ _ _ _ (mapped .0 text) (c .if1 .taken) text _ _ _, done-none _ _ _ _ (c .if1 .taken))
+    (λ text. once-refused _ _ _ _ _ _ _ _ (mapped .0 text) (c .if1 .taken) text _ _ _, λ e. absurd (c .if1 .taken e))
 
 -- src/once.rt:36:50
 add-map-outputs : tie.Need-add-map-outputs
@@ -32,7 +32,7 @@ returns-2 c =
     let e = c .before .before .before .before in
     let mapped = e .before .before .map-gates .ensures in
     let done = c .map-outputs .ensures in
-    (λ text. once-done _ _ _ _ _ _ _ _ (mapped .0 text) (e .if1 .left) text _ _ _ _ (done .1 .line) (done .0 text), done .1 .done)
+    (λ text. once-done _ _ _ _ _ _ _ _ (mapped .0 text) (e .if1 .left) text _ _ _ _ (done .0 text), λ z. done .1 .done)
 
 pub map-once-spec : {M : Type 1} → statement M
 map-once-spec =
