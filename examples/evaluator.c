@@ -8,14 +8,14 @@
  * It prints examples/evaluator.out:
  *
  *     examples/and.net: admitted
- *       inputs 2, sums 1, boots 1 on 1 nodes, longest table 3, largest norm 2, outputs 1, depth 1
+ *       inputs 2, sums 1, boots 1 on 1 nodes, longest table 3, largest norm 2, outputs 1, depth 1, centres 1 0 0
  *       00 -> 0
  *       01 -> 0
  *       10 -> 0
  *       11 -> 1
  *     examples/tight.net: turned away with 25 at line 4: a sum's norm is over the limit
  *     examples/adder.net: admitted
- *       inputs 3, sums 1, boots 2 on 1 nodes, longest table 4, largest norm 3, outputs 2, depth 1
+ *       inputs 3, sums 1, boots 2 on 1 nodes, longest table 4, largest norm 3, outputs 2, depth 1, centres 2 0 0
  *       000 -> 00
  *       001 -> 01
  *       ..
@@ -62,8 +62,9 @@ static int evaluate(const char *name, const Text *text) {
         return 0;
     }
     printf("%s: admitted\n", name);
-    printf("  inputs %zu, sums %zu, boots %zu on %zu nodes, longest table %zu, largest norm %zu, outputs %zu, depth %zu\n", a.inputs,
-           a.sums, a.boots, a.sources, a.longest, a.norm, a.outputs, a.depth);
+    printf("  inputs %zu, sums %zu, boots %zu on %zu nodes, longest table %zu, largest norm %zu, outputs %zu, depth %zu, "
+           "centres %zu %zu %zu\n",
+           a.inputs, a.sums, a.boots, a.sources, a.longest, a.norm, a.outputs, a.depth, a.centre0, a.centre1, a.centre2);
     unsigned assignments = a.inputs < 4 ? 1u << a.inputs : 16;
     for (unsigned k = 0; k < assignments; k++)
         if (!run(text, a.inputs, k)) return 0;

@@ -83,6 +83,15 @@ typedef struct fbs_reply {
     size_t count;
 } fbs_reply;
 
+/* Built: number 0, how many bits were written, and the table's centre, the constant c that an evaluator adds after the rotation: 0 for a
+ * table of at most P bits, else the sum, 0 to 2, that every pair of bits P apart has. Refused: the number, count 0 and centre 0. The line is 0. */
+typedef struct fbs_table {
+    size_t number;
+    size_t line;
+    size_t count;
+    size_t centre;
+} fbs_table;
+
 /* Admitted: number 0, line 0 and the statistics. Refused: number, line, and 0 in each place of the statistics. */
 typedef struct fbs_admission {
     size_t number;
@@ -95,6 +104,9 @@ typedef struct fbs_admission {
     size_t norm;    /* the largest squared norm of a node, by the weights of the inputs; an input counts its weight */
     size_t outputs;
     size_t depth;   /* the largest of a node: how many boots lie one behind another; nodes that no output needs count too */
+    size_t centre0; /* tables of centre 0: of at most P bits, or whose pairs (i, i + P) have the sum 0 */
+    size_t centre1; /* of centre 1 */
+    size_t centre2; /* of centre 2; the three add up to boots */
 } fbs_admission;
 
 /* Found: number 0, line 0, how many terms the `lin` has, and a bit for each in their order. Else: number, line and count 0. Each place
@@ -122,8 +134,8 @@ fbs_reply fbs_map(const uint8_t *text, size_t text_length, uint8_t *out, size_t 
 fbs_admission fbs_admit(const uint8_t *text, size_t text_length);
 
 /* A bootstrap table for rows, a value and a truth each, the two lists of one length. Each bit is written as a byte 0 or 1, the
- * least value's first. */
-fbs_reply fbs_build_table(size_t p, size_t m, const int32_t *values, size_t values_length, const uint8_t *truths,
+ * least value's first. The reply names the table's centre. */
+fbs_table fbs_build_table(size_t p, size_t m, const int32_t *values, size_t values_length, const uint8_t *truths,
                           size_t truths_length, uint8_t *out, size_t out_length);
 
 /* A text run on plain bits, a byte 0 or 1 for each input in the text's order; one value an output, in the text's order. A

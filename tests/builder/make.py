@@ -1,11 +1,11 @@
 #!/usr/bin/env python3
-"""Cases for the table builder, with the replies that document 01 asks for.
+"""Cases for the table builder, with the replies that document 01 asks for and the centres of document 02, S-10.
 
-Written from document 01 alone; it shares no code with the crates.
+Written from documents 01 and 02; it shares no code with the crates.
   make.py           writes crates/vectors_builder/stdin and stdout
   make.py --check   says whether the two files are what it would write
 A case is a line: P, M, the buffer's length, the count of values and the values, the count of truths and the truths.
-Its reply is a line: the number, the count of bits written, and the buffer, which held the letters a, b, .. before.
+Its reply is a line: the number, the count of bits written, the centre, and the buffer, which held the letters a, b, .. before.
 """
 import itertools
 import pathlib
@@ -22,16 +22,29 @@ import stored
 
 MIN, MAX = -(2**31), 2**31 - 1
 
+# tables answered whose centre is not the least of the sums that remained
+NOT_THE_LEAST = []
+
+
+def constants(bits, P):
+    """The whole numbers c for which there are s(0)..s(P-1) with 2 x bit(v) = c + s(v) for v < P and c - s(v - P) from P on."""
+    if len(bits) > 2 * P:
+        return []
+    halves = [(c, [2 * b - c for b in bits[:P]]) for c in range(-4, 5)]
+    return [c for c, s in halves if all(2 * bits[v] == c - s[v - P] for v in range(P, len(bits)))]
+
 
 def possible(bits, P):
-    """Whole numbers c and s(0)..s(P-1) with 2 x bit(v) = c + s(v) for v < P and c - s(v - P) from P on."""
-    if len(bits) > 2 * P:
-        return False
-    for c in range(-4, 5):
-        s = [2 * b - c for b in bits[:P]]
-        if all(2 * bits[v] == c - s[v - P] for v in range(P, len(bits))):
-            return True
-    return False
+    return constants(bits, P) != []
+
+
+def centre(bits, P):
+    """0 for at most P bits; of a table with pairs there is one such c, which every pair has as its sum."""
+    if len(bits) <= P:
+        return 0
+    (c,) = constants(bits, P)
+    assert all(bits[i] + bits[i + P] == c for i in range(len(bits) - P)) and c in (0, 1, 2)
+    return c
 
 
 def completions(entries, P):
@@ -51,6 +64,15 @@ def completions(entries, P):
     yield [0 if e is None else e for e in third]
 
 
+def sums_left(entries, P):
+    """The sums that some bits for the unknowns give each pair, as far as they go for all pairs."""
+    left = {0, 1, 2}
+    bits = [(0, 1) if e is None else (e,) for e in entries]
+    for low, high in zip(bits, bits[P:]):
+        left &= {a + b for a in low for b in high}
+    return left
+
+
 def any_completion(entries, P):
     """By trial of all bits, to see that three completions are enough."""
     return any(
@@ -59,27 +81,30 @@ def any_completion(entries, P):
 
 
 def reply(P, M, room, values, truths):
+    """The number, the bits and the centre."""
     if not (2 <= P <= 16 and P <= M <= 2 * P):
-        return 2, []
+        return 2, [], 0
     if len(values) != len(truths) or not values:
-        return 30, []
+        return 30, [], 0
     span = max(values) - min(values) + 1
     if span > M:
-        return 31, []
+        return 31, [], 0
     entries = [None] * span
     for value, truth in zip(values, truths):
         at = value - min(values)
         if truth not in (0, 1) or entries[at] not in (None, truth):
-            return 32, []
+            return 32, [], 0
         entries[at] = truth
     table = next((bits for bits in completions(entries, P) if possible(bits, P)), None)
     if span <= 8:
         assert (table is not None) == any_completion(entries, P)
     if table is None:
-        return 33, []
+        return 33, [], 0
     if room < span:
-        return 34, []
-    return 0, table
+        return 34, [], 0
+    if span > P and centre(table, P) != min(sums_left(entries, P)):
+        NOT_THE_LEAST.append(table)
+    return 0, table, centre(table, P)
 
 
 def exhaustive():
@@ -152,23 +177,40 @@ def random_cases(rng, count):
         yield P, M, room, values, truths
 
 
+def centres(rng):
+    """Ends of a table, of P bits, P + 1 and 2P, for every P; truths 1 alone, where the sums 1 and 2 remain; buffers that are too short."""
+    for P in range(2, 17):
+        for length in (P, P + 1, 2 * P):
+            for truths in ([1, 1], [0, 1]):
+                yield P, 2 * P, length, [0, length - 1], truths
+    for room in (0, 5, 6, 7):
+        yield 3, 6, room, [0, 5], [1, 1]
+    for _ in range(60):
+        P = rng.randint(3, 7)
+        length = rng.randint(P + 2, 2 * P)
+        places = sorted({0, length - 1} | {rng.randrange(length) for _ in range(rng.randrange(3))})
+        yield P, 2 * P, length, places, [1] * len(places)
+
+
 def cases():
     yield from exhaustive()
     yield from settings()
     yield from shapes()
     yield from random_cases(random.Random(1), 420)
+    yield from centres(random.Random(2))
 
 
 def files():
     asked, answered, seen = [], [], {}
     for P, M, room, values, truths in cases():
-        number, bits = reply(P, M, room, values, truths)
+        number, bits, c = reply(P, M, room, values, truths)
         seen[number] = seen.get(number, 0) + 1
         letters = "".join(chr(ord("a") + i % 26) for i in range(room))
         asked.append(" ".join(map(str, [P, M, room, len(values), *values, len(truths), *truths])))
-        answered.append(f"{number} {len(bits)} " + "".join(map(str, bits)) + letters[len(bits) :])
+        answered.append(f"{number} {len(bits)} {c} " + "".join(map(str, bits)) + letters[len(bits) :])
     stdin, stdout = "\n".join(asked) + "\n", "\n".join(answered) + "\n"
     assert len(stdin) < 65536, len(stdin)
+    assert len(NOT_THE_LEAST) > 40, len(NOT_THE_LEAST)
     return {"stdin": stdin, "stdout": stdout}, len(asked), seen
 
 

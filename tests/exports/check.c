@@ -147,24 +147,28 @@ static const struct {
     const char *what, *text;
     fbs_admission reply;
 } judged[] = {
-    {"document 01's network", "(net 4 8 none)\n(in a)\n(in b)\n(lin 0 (1 0) (1 1))\n(boot 2 001)\n(out y (n 3))\n", {0, 0, 2, 1, 1, 1, 3, 2, 1, 1}},
-    {"the net line alone", "(net 4 8 none)\n", {0, 0, 0, 0, 0, 0, 0, 0, 0, 0}},
-    {"an input counts 1 in the norm", "(net 4 8 none)\n(in a)\n(out y (n 0))\n", {0, 0, 1, 0, 0, 0, 0, 1, 1, 0}},
-    {"and its weight where it has one", "(net 4 8 none)\n(in a 64)\n(out y (n 0))\n", {0, 0, 1, 0, 0, 0, 0, 64, 1, 0}},
-    {"a sum's norm by weights, at its limit", "(net 4 8 3)\n(in a 2)\n(in b)\n(lin 0 (1 0) (1 1))\n", {0, 0, 2, 1, 0, 0, 0, 3, 0, 0}},
-    {"21", NET "(lin 0 (0 0))\n", {21, 3, 0, 0, 0, 0, 0, 0, 0, 0}},
-    {"21, the empty text", "", {21, 1, 0, 0, 0, 0, 0, 0, 0, 0}},
-    {"21, a name repeated", NET "(in a)\n", {21, 3, 0, 0, 0, 0, 0, 0, 0, 0}},
-    {"21, weight 1 is not written", NET "(in b 1)\n", {21, 3, 0, 0, 0, 0, 0, 0, 0, 0}},
-    {"22", NET "(boot 9 01)\n", {22, 3, 0, 0, 0, 0, 0, 0, 0, 0}},
-    {"22, a sum on a sum", NET "(lin 0 (1 0))\n(lin 0 (1 1))\n", {22, 4, 0, 0, 0, 0, 0, 0, 0, 0}},
-    {"23", NET "(boot 0 001)\n", {23, 3, 0, 0, 0, 0, 0, 0, 0, 0}},
-    {"24", "(net 2 4 none)\n(in a)\n(in b)\n(lin 0 (1 0) (2 1))\n(boot 2 0001)\n", {24, 5, 0, 0, 0, 0, 0, 0, 0, 0}},
-    {"25", "(net 4 8 1)\n(in a)\n(in b)\n(lin 0 (1 0) (1 1))\n", {25, 4, 0, 0, 0, 0, 0, 0, 0, 0}},
-    {"25, by weights", "(net 4 8 2)\n(in a 2)\n(in b)\n(lin 0 (1 0) (1 1))\n", {25, 4, 0, 0, 0, 0, 0, 0, 0, 0}},
-    {"26", NET SUM "(out y (n 2))\n", {26, 5, 0, 0, 0, 0, 0, 0, 0, 0}},
-    {"a boot on a boot, which no output needs", NET "(boot 0 10)\n(boot 1 10)\n(out y (n 1))\n", {0, 0, 1, 0, 2, 2, 2, 1, 1, 2}},
-    {"a sum is as deep as its deepest source", NET "(in b)\n(boot 0 10)\n(boot 2 10)\n(lin 0 (1 1) (1 3) (1 2))\n(boot 4 0111)\n", {0, 0, 2, 1, 3, 3, 4, 3, 0, 3}},
+    {"document 01's network", "(net 4 8 none)\n(in a)\n(in b)\n(lin 0 (1 0) (1 1))\n(boot 2 001)\n(out y (n 3))\n", {0, 0, 2, 1, 1, 1, 3, 2, 1, 1, 1, 0, 0}},
+    {"the net line alone", "(net 4 8 none)\n", {0, 0, 0, 0, 0, 0, 0, 0, 0, 0, 0, 0, 0}},
+    {"an input counts 1 in the norm", "(net 4 8 none)\n(in a)\n(out y (n 0))\n", {0, 0, 1, 0, 0, 0, 0, 1, 1, 0, 0, 0, 0}},
+    {"and its weight where it has one", "(net 4 8 none)\n(in a 64)\n(out y (n 0))\n", {0, 0, 1, 0, 0, 0, 0, 64, 1, 0, 0, 0, 0}},
+    {"a sum's norm by weights, at its limit", "(net 4 8 3)\n(in a 2)\n(in b)\n(lin 0 (1 0) (1 1))\n", {0, 0, 2, 1, 0, 0, 0, 3, 0, 0, 0, 0, 0}},
+    {"21", NET "(lin 0 (0 0))\n", {21, 3, 0, 0, 0, 0, 0, 0, 0, 0, 0, 0, 0}},
+    {"21, the empty text", "", {21, 1, 0, 0, 0, 0, 0, 0, 0, 0, 0, 0, 0}},
+    {"21, a name repeated", NET "(in a)\n", {21, 3, 0, 0, 0, 0, 0, 0, 0, 0, 0, 0, 0}},
+    {"21, weight 1 is not written", NET "(in b 1)\n", {21, 3, 0, 0, 0, 0, 0, 0, 0, 0, 0, 0, 0}},
+    {"22", NET "(boot 9 01)\n", {22, 3, 0, 0, 0, 0, 0, 0, 0, 0, 0, 0, 0}},
+    {"22, a sum on a sum", NET "(lin 0 (1 0))\n(lin 0 (1 1))\n", {22, 4, 0, 0, 0, 0, 0, 0, 0, 0, 0, 0, 0}},
+    {"23", NET "(boot 0 001)\n", {23, 3, 0, 0, 0, 0, 0, 0, 0, 0, 0, 0, 0}},
+    {"24", "(net 2 4 none)\n(in a)\n(in b)\n(lin 0 (1 0) (2 1))\n(boot 2 0001)\n", {24, 5, 0, 0, 0, 0, 0, 0, 0, 0, 0, 0, 0}},
+    {"25", "(net 4 8 1)\n(in a)\n(in b)\n(lin 0 (1 0) (1 1))\n", {25, 4, 0, 0, 0, 0, 0, 0, 0, 0, 0, 0, 0}},
+    {"25, by weights", "(net 4 8 2)\n(in a 2)\n(in b)\n(lin 0 (1 0) (1 1))\n", {25, 4, 0, 0, 0, 0, 0, 0, 0, 0, 0, 0, 0}},
+    {"26", NET SUM "(out y (n 2))\n", {26, 5, 0, 0, 0, 0, 0, 0, 0, 0, 0, 0, 0}},
+    {"a boot on a boot, which no output needs", NET "(boot 0 10)\n(boot 1 10)\n(out y (n 1))\n", {0, 0, 1, 0, 2, 2, 2, 1, 1, 2, 2, 0, 0}},
+    {"a sum is as deep as its deepest source", NET "(in b)\n(boot 0 10)\n(boot 2 10)\n(lin 0 (1 1) (1 3) (1 2))\n(boot 4 0111)\n", {0, 0, 2, 1, 3, 3, 4, 3, 0, 3, 3, 0, 0}},
+    {"tables of P + 1 bits of each centre, and one of P bits",
+     "(net 2 4 none)\n(in a)\n(in b)\n(lin 0 (1 0) (1 1))\n(boot 2 010)\n(boot 0 11)\n(boot 2 001)\n(boot 2 100)\n(boot 2 011)\n(boot 2 101)\n(boot 2 111)\n"
+     "(boot 2 101)\n(boot 2 111)\n",
+     {0, 0, 2, 1, 9, 2, 3, 2, 0, 1, 2, 3, 4}},
 };
 
 static void check_admission(void) {
@@ -182,8 +186,9 @@ static void check_admission(void) {
     expect("the largest norm is 5", r.norm == 5);
     expect("7 outputs", r.outputs == 7);
     expect("2 boots one behind the other", r.depth == 2);
+    expect("all tables have at most P bits", r.centre0 == 10 && r.centre1 == 0 && r.centre2 == 0);
     r = fbs_admit(NULL, 0);
-    expect("no text is the empty text", r.number == 21 && r.line == 1 && r.inputs == 0 && r.outputs == 0 && r.depth == 0);
+    expect("no text is the empty text", r.number == 21 && r.line == 1 && r.inputs == 0 && r.outputs == 0 && r.depth == 0 && r.centre0 == 0);
 }
 
 /* ---- The builder. */
@@ -194,27 +199,36 @@ static const struct {
     int32_t values[4];
     uint8_t truths[4];
     const char *table;
-    size_t number;
+    size_t number, centre;
 } built[] = {
-    {"010", 2, 4, 3, 3, {0, 1, 2}, {0, 1, 0}, "010", 0},
-    {"1001", 2, 4, 2, 2, {0, 3}, {1, 1}, "1001", 0},
-    {"001110", 3, 6, 3, 3, {0, 3, 5}, {0, 1, 0}, "001110", 0},
-    {"values below 0", 2, 4, 3, 3, {-1, 0, 1}, {0, 1, 0}, "010", 0},
-    {"2, P is 1", 1, 2, 1, 1, {0}, {0}, NULL, 2},
-    {"2, P is 17", 17, 17, 1, 1, {0}, {0}, NULL, 2},
-    {"2, M below P", 4, 3, 1, 1, {0}, {0}, NULL, 2},
-    {"2, M over 2P", 4, 9, 1, 1, {0}, {0}, NULL, 2},
-    {"2, the largest P", SIZE_MAX, SIZE_MAX, 1, 1, {0}, {0}, NULL, 2},
-    {"2 before 30", 1, 1, 0, 0, {0}, {0}, NULL, 2},
-    {"30, no rows", 2, 4, 0, 0, {0}, {0}, NULL, 30},
-    {"30, lengths differ", 2, 4, 2, 1, {0, 1}, {0, 1}, NULL, 30},
-    {"31", 2, 3, 2, 2, {0, 3}, {0, 0}, NULL, 31},
-    {"31, the widest span", 16, 32, 2, 2, {INT32_MIN, INT32_MAX}, {0, 0}, NULL, 31},
-    {"31 before 32", 2, 3, 2, 2, {0, 3}, {2, 2}, NULL, 31},
-    {"32, one value with two truths", 2, 4, 2, 2, {0, 0}, {0, 1}, NULL, 32},
-    {"32, a truth that is no bit", 2, 4, 1, 1, {0}, {2}, NULL, 32},
-    {"33", 2, 4, 4, 4, {0, 1, 2, 3}, {0, 0, 0, 1}, NULL, 33},
+    {"010", 2, 4, 3, 3, {0, 1, 2}, {0, 1, 0}, "010", 0, 0},
+    {"1001", 2, 4, 2, 2, {0, 3}, {1, 1}, "1001", 0, 1},
+    {"001110", 3, 6, 3, 3, {0, 3, 5}, {0, 1, 0}, "001110", 0, 1},
+    {"111111, though the sum 1 remains too", 3, 6, 2, 2, {0, 5}, {1, 1}, "111111", 0, 2},
+    {"P bits", 3, 6, 3, 3, {0, 1, 2}, {1, 1, 1}, "111", 0, 0},
+    {"P + 1 bits", 3, 6, 4, 4, {0, 1, 2, 3}, {1, 0, 0, 1}, "1001", 0, 2},
+    {"values below 0", 2, 4, 3, 3, {-1, 0, 1}, {0, 1, 0}, "010", 0, 0},
+    {"2, P is 1", 1, 2, 1, 1, {0}, {0}, NULL, 2, 0},
+    {"2, P is 17", 17, 17, 1, 1, {0}, {0}, NULL, 2, 0},
+    {"2, M below P", 4, 3, 1, 1, {0}, {0}, NULL, 2, 0},
+    {"2, M over 2P", 4, 9, 1, 1, {0}, {0}, NULL, 2, 0},
+    {"2, the largest P", SIZE_MAX, SIZE_MAX, 1, 1, {0}, {0}, NULL, 2, 0},
+    {"2 before 30", 1, 1, 0, 0, {0}, {0}, NULL, 2, 0},
+    {"30, no rows", 2, 4, 0, 0, {0}, {0}, NULL, 30, 0},
+    {"30, lengths differ", 2, 4, 2, 1, {0, 1}, {0, 1}, NULL, 30, 0},
+    {"31", 2, 3, 2, 2, {0, 3}, {0, 0}, NULL, 31, 0},
+    {"31, the widest span", 16, 32, 2, 2, {INT32_MIN, INT32_MAX}, {0, 0}, NULL, 31, 0},
+    {"31 before 32", 2, 3, 2, 2, {0, 3}, {2, 2}, NULL, 31, 0},
+    {"32, one value with two truths", 2, 4, 2, 2, {0, 0}, {0, 1}, NULL, 32, 0},
+    {"32, a truth that is no bit", 2, 4, 1, 1, {0}, {2}, NULL, 32, 0},
+    {"33", 2, 4, 4, 4, {0, 1, 2, 3}, {0, 0, 0, 1}, NULL, 33, 0},
 };
+
+static void is_built(const char *what, fbs_table r, size_t number, size_t count, size_t centre) {
+    int good = r.number == number && r.line == 0 && r.count == count && r.centre == centre;
+    if (!good) printf("(%zu %zu %zu %zu), not (%zu 0 %zu %zu):\n", r.number, r.line, r.count, r.centre, number, count, centre);
+    expect(what, good);
+}
 
 static int is_table(const uint8_t *out, const char *table) {
     for (size_t i = 0; table[i]; i++)
@@ -231,16 +245,16 @@ static void check_builder(void) {
             size_t number = table && lent < n ? 34 : built[i].number;
             size_t count = number == 0 ? n : 0;
             uint8_t *out = fresh();
-            fbs_reply r = fbs_build_table(built[i].p, built[i].m, built[i].values, built[i].values_length, built[i].truths, built[i].truths_length, out, lent);
-            if (told) is(built[i].what, r, number, 0, count);
+            fbs_table r = fbs_build_table(built[i].p, built[i].m, built[i].values, built[i].values_length, built[i].truths, built[i].truths_length, out, lent);
+            if (told) is_built(built[i].what, r, number, count, number == 0 ? built[i].centre : 0);
             if (told) expect(built[i].what, kept(count) && (number != 0 || is_table(out, table)));
         }
     }
     int32_t value = 0;
     uint8_t truth = 1;
-    is("30, no lists", fbs_build_table(2, 4, NULL, 0, NULL, 0, NULL, 0), 30, 0, 0);
-    is("30, no truths", fbs_build_table(2, 4, &value, 1, NULL, 0, NULL, 0), 30, 0, 0);
-    is("34, no buffer", fbs_build_table(2, 4, &value, 1, &truth, 1, NULL, 0), 34, 0, 0);
+    is_built("30, no lists", fbs_build_table(2, 4, NULL, 0, NULL, 0, NULL, 0), 30, 0, 0);
+    is_built("30, no truths", fbs_build_table(2, 4, &value, 1, NULL, 0, NULL, 0), 30, 0, 0);
+    is_built("34, no buffer", fbs_build_table(2, 4, &value, 1, &truth, 1, NULL, 0), 34, 0, 0);
 }
 
 /* ---- The runs. */
@@ -448,9 +462,9 @@ static void *job(void *given) {
         }
         uint8_t table[6], bit[1];
         int64_t seen[WANTED];
-        fbs_reply r = fbs_build_table(3, 6, values, 3, truths, 3, table, 6);
-        j->wrong += r.number != 0 || r.count != 6 || !is_table(table, "001110");
-        r = fbs_run_network(bytes(various), strlen(various), bits, 3, seen, WANTED);
+        fbs_table t = fbs_build_table(3, 6, values, 3, truths, 3, table, 6);
+        j->wrong += t.number != 0 || t.count != 6 || t.centre != 1 || !is_table(table, "001110");
+        fbs_reply r = fbs_run_network(bytes(various), strlen(various), bits, 3, seen, WANTED);
         j->wrong += r.number != 0 || seen[0] != 1 || seen[1] != 0 || seen[5] != 1;
         r = fbs_run_circuit(bytes(mapped[0].text), strlen(mapped[0].text), bits, 2, bit, 1);
         j->wrong += r.number != 0 || bit[0] != 1;

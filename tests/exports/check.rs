@@ -12,6 +12,15 @@ mod wonkpecan {
 
     #[repr(C)]
     #[derive(Debug, PartialEq, Clone, Copy)]
+    pub struct Table {
+        pub number: usize,
+        pub line: usize,
+        pub count: usize,
+        pub centre: usize,
+    }
+
+    #[repr(C)]
+    #[derive(Debug, PartialEq, Clone, Copy)]
     pub struct Admission {
         pub number: usize,
         pub line: usize,
@@ -23,6 +32,9 @@ mod wonkpecan {
         pub norm: usize,
         pub outputs: usize,
         pub depth: usize,
+        pub centre0: usize,
+        pub centre1: usize,
+        pub centre2: usize,
     }
 
     #[repr(C)]
@@ -43,7 +55,7 @@ mod wonkpecan {
     }
 
     mod c {
-        use super::{Admission, Reply, Slot, Sum};
+        use super::{Admission, Reply, Slot, Sum, Table};
 
         unsafe extern "C" {
             pub fn fbs_map(text: *const u8, text_length: usize, out: *mut u8, out_length: usize) -> Reply;
@@ -57,7 +69,7 @@ mod wonkpecan {
                 truths_length: usize,
                 out: *mut u8,
                 out_length: usize,
-            ) -> Reply;
+            ) -> Table;
             pub fn fbs_run_circuit(
                 text: *const u8,
                 text_length: usize,
@@ -89,7 +101,7 @@ mod wonkpecan {
         unsafe { c::fbs_admit(text.as_ptr(), text.len()) }
     }
 
-    pub fn build_table(p: usize, m: usize, values: &[i32], truths: &[u8], out: &mut [u8]) -> Reply {
+    pub fn build_table(p: usize, m: usize, values: &[i32], truths: &[u8], out: &mut [u8]) -> Table {
         unsafe { c::fbs_build_table(p, m, values.as_ptr(), values.len(), truths.as_ptr(), truths.len(), out.as_mut_ptr(), out.len()) }
     }
 
@@ -112,7 +124,7 @@ mod wonkpecan {
 
 use std::fmt::Debug;
 use std::sync::atomic::{AtomicUsize, Ordering};
-use wonkpecan::{Admission, Reply, Slot, Sum, admit, build_table, find_slot, map, run_circuit, run_network, sum_reading};
+use wonkpecan::{Admission, Reply, Slot, Sum, Table, admit, build_table, find_slot, map, run_circuit, run_network, sum_reading};
 
 static CHECKS: AtomicUsize = AtomicUsize::new(0);
 
@@ -130,7 +142,7 @@ fn refused(number: usize, line: usize) -> Reply {
 }
 
 fn rejected(number: usize, line: usize) -> Admission {
-    Admission { number, line, inputs: 0, sums: 0, boots: 0, sources: 0, longest: 0, norm: 0, outputs: 0, depth: 0 }
+    Admission { number, line, inputs: 0, sums: 0, boots: 0, sources: 0, longest: 0, norm: 0, outputs: 0, depth: 0, centre0: 0, centre1: 0, centre2: 0 }
 }
 
 const AND: &[u8] = b"(fbs 4 8 10 none span one)\n(in a)\n(in b)\n(gate g 0001 (n 0) (n 1))\n(out y (n 2))\n";
@@ -190,7 +202,7 @@ fn check_map() {
 }
 
 fn check_admit() {
-    let stats = Admission { number: 0, line: 0, inputs: 2, sums: 1, boots: 1, sources: 1, longest: 3, norm: 2, outputs: 1, depth: 1 };
+    let stats = Admission { number: 0, line: 0, inputs: 2, sums: 1, boots: 1, sources: 1, longest: 3, norm: 2, outputs: 1, depth: 1, centre0: 1, centre1: 0, centre2: 0 };
     same("document 01's network", admit(NETWORK), stats);
     same("21, the empty text", admit(&[]), rejected(21, 1));
     same("21", admit(b"(net 4 8 none)\n(in a)\n(lin 0 (0 0))\n"), rejected(21, 3));
@@ -202,18 +214,22 @@ fn check_admit() {
 }
 
 fn check_builder() {
+    let no = |number| Table { number, line: 0, count: 0, centre: 0 };
     let mut out = [7; 32];
-    same("P 3, M 6, values 0, 3, 5", build_table(3, 6, &[0, 3, 5], &[0, 1, 0], &mut out), accepted(6));
+    same("P 3, M 6, values 0, 3, 5", build_table(3, 6, &[0, 3, 5], &[0, 1, 0], &mut out), Table { number: 0, line: 0, count: 6, centre: 1 });
     same("001110", &out[..6], &[0, 0, 1, 1, 1, 0]);
     same("later bytes kept", &out[6..], &[7; 26]);
+    same("P 3, M 6, values 0, 5", build_table(3, 6, &[0, 5], &[1, 1], &mut out), Table { number: 0, line: 0, count: 6, centre: 2 });
+    same("111111", &out[..6], &[1; 6]);
+    same("P bits", build_table(3, 6, &[0, 1, 2], &[1, 1, 1], &mut out), Table { number: 0, line: 0, count: 3, centre: 0 });
     let mut out = [7; 5];
-    same("34", build_table(3, 6, &[0, 3, 5], &[0, 1, 0], &mut out), refused(34, 0));
-    same("2", build_table(1, 2, &[0], &[0], &mut out), refused(2, 0));
-    same("30", build_table(2, 4, &[], &[], &mut out), refused(30, 0));
-    same("31", build_table(2, 3, &[0, 3], &[0, 0], &mut out), refused(31, 0));
-    same("32", build_table(2, 4, &[0, 0], &[0, 1], &mut out), refused(32, 0));
-    same("33", build_table(2, 4, &[0, 1, 2, 3], &[0, 0, 0, 1], &mut out), refused(33, 0));
-    same("34, the empty buffer", build_table(2, 4, &[0], &[1], &mut []), refused(34, 0));
+    same("34", build_table(3, 6, &[0, 3, 5], &[0, 1, 0], &mut out), no(34));
+    same("2", build_table(1, 2, &[0], &[0], &mut out), no(2));
+    same("30", build_table(2, 4, &[], &[], &mut out), no(30));
+    same("31", build_table(2, 3, &[0, 3], &[0, 0], &mut out), no(31));
+    same("32", build_table(2, 4, &[0, 0], &[0, 1], &mut out), no(32));
+    same("33", build_table(2, 4, &[0, 1, 2, 3], &[0, 0, 0, 1], &mut out), no(33));
+    same("34, the empty buffer", build_table(2, 4, &[0], &[1], &mut []), no(34));
     same("refusals keep the buffer", out, [7; 5]);
 }
 

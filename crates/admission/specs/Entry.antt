@@ -6,6 +6,7 @@ use Rattle.laws.specs.Tabulate.{tabulate-length}
 use Rattle.rules.specs.declared.Stats.{Stats}
 use Rattle.rules.specs.Network.{stats}
 use Rattle.rules.specs.NetworkText.{readAdmitted, admitted, rejected, admissionOf, admission}
+use Rattle.nodes.specs.Centre.{Centred}
 use Rattle.nodes.specs.View.{storeOf, IsStore}
 use Rattle.network.specs.View.{outputsOf, networkOf, readingOf, Held}
 use Rattle.network_judge.specs.declared.Header.{Header}
@@ -13,7 +14,7 @@ use Rattle.network.specs.declared.Reading.{Reading}
 use Rattle.network.specs.declared.Reading.the-variants.{Good, Refused}
 use Rattle.admission.specs.Count.{statsAmong, statsOf}
 
-read-stats : (s nodes ports : List ℕ) (h : Header) → statsOf (storeOf nodes (h .count)) (h .outputs) ≡ stats (networkOf s nodes ports h)
+read-stats : (s nodes ports : List ℕ) (h : Header) → statsOf (h .p) (storeOf nodes (h .count)) (h .outputs) ≡ stats (networkOf s nodes ports h)
 unfolding statsOf statsAmong stats networkOf outputsOf
 read-stats s nodes ports h = rw tabulate-length
 
@@ -23,9 +24,12 @@ module _ (s nodes ports : List ℕ) (r : Reading) (e : readingOf s nodes ports r
   admit-refused k i q = sym (ap admissionOf (sym e ∙ ap (readingOf s nodes ports) q))
 
   module _ (h : Header) (q : r ≡ Good h) where
-    pub admit-good : (x : Stats) → x ≡ statsOf (storeOf nodes (h .count)) (h .outputs) → admitted x ≡ admission s
+    pub admit-good : (x : Stats) → x ≡ statsOf (h .p) (storeOf nodes (h .count)) (h .outputs) → admitted x ≡ admission s
     unfolding admission admissionOf
     admit-good x f = ap admitted (f ∙ read-stats s nodes ports h) ∙ sym (ap admissionOf (sym e ∙ ap (readingOf s nodes ports) q))
 
     pub admit-held : Held s nodes ports r → IsStore nodes (h .count)
     admit-held l = subst (Held s nodes ports) q l .0 .store
+
+    pub admit-centred : Held s nodes ports r → Centred (h .p) nodes (h .count)
+    admit-centred l = subst (Held s nodes ports) q l .0 .centred

@@ -1,14 +1,17 @@
 // The statistics, counted over the node store.
 ghost use mathlib.Core.Path.{_≡_};
-ghost use Prim.Native.Nat.{_+_, _≤_};
+ghost use Prim.Native.Nat.{ℕ, _+_, _≤_};
+ghost use lib.Dec.{eqb};
 ghost use lib.ListN.{length};
 ghost use Rattle.laws.specs.Test.{if_then_else_};
 ghost use Rattle.rules.specs.Network.{nodeNorm};
-ghost use Rattle.nodes.specs.View.{nodeOf, storeOf, IsStore};
-ghost use Rattle.admission.specs.Count.{statsOf, noStats, withInput, withSum, withBoot, withDepth, nodeStats, takenWith, Room};
+ghost use Rattle.nodes.specs.Centre.{Centred};
+ghost use Rattle.nodes.specs.View.{nodeOf, storeOf, centreIn, IsStore};
+ghost use Rattle.admission.specs.Count.{statsOf, noStats, withInput, withSum, withBoot, withCentre, withDepth, nodeStats, takenWith, CentreRoom, Room};
 use nodes::depth::larger;
 use nodes::node::INPUT;
 use nodes::node::LINEAR;
+use nodes::node::centre_of;
 use nodes::node::depth_of;
 use nodes::node::kind_of;
 use nodes::node::source_of;
@@ -28,6 +31,9 @@ fn no_stats(outputs: usize) -> Stats
         norm: 0,
         outputs,
         depth: 0,
+        centre0: 0,
+        centre1: 0,
+        centre2: 0,
     }
 }
 
@@ -71,10 +77,29 @@ fn count_boot(s: Stats, norm: usize, taken: bool, len: usize) -> Stats
     r
 }
 
+// One more where the centre is this one.
+fn tables_with(tables: usize, centre: usize, own: usize) -> usize
+    requires { ⌜ tables ≤ 672 ⌝ }
+    ensures { λ r. ⌜ r ≡ (if eqb own centre then (tables + 1) else tables) ⌝ }
+{
+    if own == centre { tables + 1 } else { tables }
+}
+
+fn count_centre(s: Stats, own: usize) -> Stats
+    requires { ⌜ CentreRoom s ⌝ }
+    ensures { λ r. ⌜ r ≡ withCentre s own ⌝ }
+{
+    let mut r = s;
+    r.centre0 = tables_with(s.centre0, 0, own);
+    r.centre1 = tables_with(s.centre1, 1, own);
+    r.centre2 = tables_with(s.centre2, 2, own);
+    r
+}
+
 // Node i counted; `taken` says which nodes a boot before it takes.
-fn count_node(s: Stats, nodes: &[u8; 26880], i: usize, taken: &mut [bool; 672]) -> Stats
+fn count_node(s: Stats, nodes: &[u8; 27552], i: usize, taken: &mut [bool; 672]) -> Stats
     requires { ⌜ IsStore (now nodes) (i + 1) × Room s × (length (now taken) ≡ 672) ⌝ }
-    ensures stats { λ r. ⌜ r ≡ nodeStats s (nodeNorm (storeOf (now (nodes .entry)) i) (nodeOf (now (nodes .entry)) i)) (now (taken .entry)) (nodeOf (now (nodes .entry)) i) ⌝ }
+    ensures stats { λ r. ⌜ r ≡ nodeStats s (nodeNorm (storeOf (now (nodes .entry)) i) (nodeOf (now (nodes .entry)) i)) (centreIn (now (nodes .entry)) i) (now (taken .entry)) (nodeOf (now (nodes .entry)) i) ⌝ }
     ensures taken { λ _. ⌜ now (taken .exit) ≡ takenWith (now (taken .entry)) (nodeOf (now (nodes .entry)) i) ⌝ }
 {
     let norm = node_norm(nodes, i) as usize;
@@ -89,7 +114,7 @@ fn count_node(s: Stats, nodes: &[u8; 26880], i: usize, taken: &mut [bool; 672]) 
     let table = table_of(nodes, i);
     let r = count_boot(s, norm, taken[source], table.len());
     taken[source] = true;
-    r
+    count_centre(r, centre_of(nodes, i))
 }
 
 fn count_depth(s: Stats, depth: usize) -> Stats
@@ -101,9 +126,9 @@ fn count_depth(s: Stats, depth: usize) -> Stats
 }
 
 // The statistics of a network with these nodes and so many outputs.
-pub fn stats_of(nodes: &[u8; 26880], count: usize, outputs: usize) -> Stats
+pub fn stats_of(nodes: &[u8; 27552], count: usize, outputs: usize) -> Stats
     requires { ⌜ IsStore (now nodes) count ⌝ }
-    ensures { λ r. ⌜ r ≡ statsOf (storeOf (now (nodes .entry)) count) outputs ⌝ }
+    ensures { λ r. ⌜ ((p : ℕ) → Centred p (now (nodes .entry)) count → r ≡ statsOf p (storeOf (now (nodes .entry)) count) outputs) ⌝ }
 {
     let mut taken = [false; 672];
     let mut s = no_stats(outputs);

@@ -11,7 +11,7 @@ use rules::AdmitReply;
 pub fn admit(text: &[u8]) -> AdmitReply
     ensures { λ r. ⌜ admitReply r ≡ admission (now (text .entry)) ⌝ }
 {
-    let mut nodes = [0u8; 26880];
+    let mut nodes = [0u8; 27552];
     let mut ports = [0usize; 160];
     let r = network::read(text, true, &mut nodes, &mut ports);
     match r {

@@ -92,7 +92,7 @@ fn find_among(
     second: usize,
     basis: Basis,
     m: Moments,
-    nodes: &[u8; 26880],
+    nodes: &[u8; 27552],
     count: usize,
     n: usize,
     xs: &[i32],
@@ -123,7 +123,7 @@ fn best_pair(
     left: Cone,
     right: Cone,
     basis: Basis,
-    nodes: &[u8; 26880],
+    nodes: &[u8; 27552],
     count: usize,
     rows: usize,
     xs: &mut [i32; 2048],
@@ -180,7 +180,7 @@ fn best_merged(left: Cone, basis: Basis, best: Score) -> Tried
 // The constant, the merged cone, or no composition, where the sources are not too many.
 fn composed(
     s: Settings,
-    nodes: &[u8; 26880],
+    nodes: &[u8; 27552],
     count: usize,
     left: Cone,
     right: Cone,
@@ -220,7 +220,7 @@ fn composed(
 // One attempt: the constant, the merged cone, or no composition.
 pub fn attempt(
     s: Settings,
-    nodes: &[u8; 26880],
+    nodes: &[u8; 27552],
     count: usize,
     left: Cone,
     right: Cone,

@@ -1,5 +1,5 @@
 -- A cone's sum and its bootstrap in the store.
-use mathlib.Core.Path.{_≡_, sym, ap, ap₂, _∙_}
+use mathlib.Core.Path.{_≡_, refl, sym, ap, ap₂, _∙_}
 use mathlib.Core.List.{List, [], _∷_, _++_}
 use mathlib.Core.Logic.{⊎-elim}
 use mathlib.Core.Option.{Option·getD}
@@ -13,7 +13,8 @@ use Rattle.rules.specs.declared.Settings.{Settings}
 use Rattle.rules.specs.Builder.{lastTried}
 use Rattle.rules.specs.Cone as C
 use Rattle.rules.specs.Cone.{identity, values, coneSpan, bootstrapTable, terms}
-use Rattle.rules.specs.Network.{LutNode, Linear, Bootstrap}
+use Rattle.rules.specs.Network.{LutNode, Linear, Bootstrap, nodeCentre}
+use Rattle.rules.specs.Rotation.{centreOf}
 use Rattle.rules.specs.Span.{least}
 use Rattle.rules.specs.Store.{Stored, linearOf, linearTerms, intern, numberOf, bootstrapped}
 use Rattle.scale.specs.Limits.{Within}
@@ -66,7 +67,7 @@ sum-is s d t h = ap₂ Linear (h .constant) (ap (linearTerms (s .many)) (h .are)
 
 -- ---- laws: a node that was interned
 
-module _ (n : LutNode) (bytes : List ℕ) (count : ℕ) (after : List ℕ) (r : Linked) (i : Interns n bytes count after r) where
+module _ {c : ℕ} (n : LutNode) (bytes : List ℕ) (count : ℕ) (after : List ℕ) (r : Linked) (i : Interns c n bytes count after r) where
   count-is : r .count ≡ length (intern n (storeOf bytes count))
   count-is = sym (store-length after (r .count)) ∙ ap length (i .store)
 
@@ -107,8 +108,8 @@ module _ (s : Settings) (bytes : List ℕ) (count : ℕ) (d : Cone) (h : Stands 
   unfolding bootstrapTable
   table-known = ap (λ o. lastTried (s .p) (Option·getD o [])) (sym (h .cone .held))
 
-  module _ (middle : List ℕ) (sum : Linked) (i : Interns (linearOf s (coneOf d)) bytes count middle sum) (source : ℕ) (e : sum .signal ≡ Signals.Node source) (after : List ℕ) (made : Linked)
-      (b : Interns (Bootstrap source (bootstrapTable (s .p) (coneOf d))) middle (sum .count) after made) (node : ℕ) (f : made .signal ≡ Signals.Node node) where
+  module _ (middle : List ℕ) (sum : Linked) (i : Interns 0 (linearOf s (coneOf d)) bytes count middle sum) (source : ℕ) (e : sum .signal ≡ Signals.Node source) (after : List ℕ) (made : Linked)
+      (b : Interns (centreOf (s .p) (bootstrapTable (s .p) (coneOf d))) (Bootstrap source (bootstrapTable (s .p) (coneOf d))) middle (sum .count) after made) (node : ℕ) (f : made .signal ≡ Signals.Node node) where
     abbrev table : List ℕ
     table = bootstrapTable (s .p) (coneOf d)
 
@@ -126,11 +127,12 @@ module _ (s : Settings) (bytes : List ℕ) (count : ℕ) (d : Cone) (h : Stands 
           ∙ built s (coneOf d) (storeOf bytes count) (storeOf middle (sum .count)) (storeOf after (made .count)) source node table (i .store)
           (number-told (linearOf s (coneOf d)) bytes count middle sum i source e) (b .store) (number-told (Bootstrap source table) middle (sum .count) after made b node f)
 
-      pub made-stands : Boots count after (record { count = made .count; cone = c })
+      pub made-stands : Boots (s .p) bytes count after (record { count = made .count; cone = c })
+      unfolding linearOf nodeCentre
       made-stands =
           let x = grown-by-one (linearOf s (coneOf d)) bytes count middle sum i in
           let y = grown-by-one (Bootstrap source table) middle (sum .count) after made b in
           record {
-            grown = record { store = b .still; least = omega (arith, x .0, y .0); most = omega (arith, x .1, y .1) };
+            grown = record { store = b .still; least = omega (arith, x .0, y .0); most = omega (arith, x .1, y .1); centred = record { on = λ z. b .centred (s .p) refl (i .centred (s .p) refl z) } };
             stands = identity-stands (made .count) node c inside is g;
           }

@@ -38,10 +38,10 @@ fn sum_of(d: Cone) -> Terms
 }
 
 // The cone's sum and its bootstrap go into the store. Both are nodes: neither is a constant.
-fn materialize(s: Settings, nodes: &mut [u8; 26880], count: usize, d: Cone) -> Booted
+fn materialize(s: Settings, nodes: &mut [u8; 27552], count: usize, d: Cone) -> Booted
     requires { ⌜ IsStore (now nodes) count × ((count + 2 ≤ 672) × Stands count d) ⌝ }
     ensures is { λ r. ⌜ bootedOf (now (nodes .exit)) r ≡ bootstrapped s (storeOf (now (nodes .entry)) count) (coneOf d) (bootstrapTable (s .p) (coneOf d)) ⌝ }
-    ensures stands { λ r. ⌜ Boots count (now (nodes .exit)) r ⌝ }
+    ensures stands { λ r. ⌜ Boots (s .p) (now (nodes .entry)) count (now (nodes .exit)) r ⌝ }
 {
     let known = d.known;
     let span = d.span();
@@ -62,10 +62,10 @@ fn materialize(s: Settings, nodes: &mut [u8; 26880], count: usize, d: Cone) -> B
 }
 
 // bootstrap_cone: a cone of no source or one source stays as it was.
-pub fn bootstrap_cone(s: Settings, nodes: &mut [u8; 26880], count: usize, c: Cone) -> Booted
+pub fn bootstrap_cone(s: Settings, nodes: &mut [u8; 27552], count: usize, c: Cone) -> Booted
     requires { ⌜ (inLimits s ≡ true) × (IsStore (now nodes) count × ((count + 2 ≤ 672) × Stands count c)) ⌝ }
     ensures is { λ r. ⌜ bootedOf (now (nodes .exit)) r ≡ bootstrapCone s (storeOf (now (nodes .entry)) count) (coneOf c) ⌝ }
-    ensures stands { λ r. ⌜ Boots count (now (nodes .exit)) r ⌝ }
+    ensures stands { λ r. ⌜ Boots (s .p) (now (nodes .entry)) count (now (nodes .exit)) r ⌝ }
 {
     if c.n <= 1 {
         return Booted { count, cone: c };

@@ -63,7 +63,7 @@ fn enter_form(c: Cone, coefs: [i64; 11], span: usize) -> Entered
 }
 
 // Whether a cone may stand.
-fn is_fit(s: Settings, nodes: &[u8; 26880], c: Cone) -> bool
+fn is_fit(s: Settings, nodes: &[u8; 27552], c: Cone) -> bool
     requires { ⌜ IsCone c × AreNodes (now nodes) (coneOf c .support) ⌝ }
     ensures { λ r. ⌜ ((count : ℕ) → Below count (coneOf c) → r ≡ fits s (storeOf (now (nodes .entry)) count) (coneOf c)) ⌝ }
 {
@@ -75,7 +75,7 @@ fn is_fit(s: Settings, nodes: &[u8; 26880], c: Cone) -> bool
 }
 
 // The cone with other coefficients over its sources, where that fits.
-fn form_cone(s: Settings, nodes: &[u8; 26880], c: Cone, coefs: [i64; 11]) -> Form
+fn form_cone(s: Settings, nodes: &[u8; 27552], c: Cone, coefs: [i64; 11]) -> Form
     requires { ⌜ (s .m ≤ 32) × (IsCone c × (AreNodes (now nodes) (coneOf c .support) × Within 31 (take (c .n) coefs))) ⌝ }
     ensures is { λ r. ⌜ ((count : ℕ) → Below count (coneOf c) → candidateIn (storeOf (now (nodes .entry)) count) r ≡ fitting s (storeOf (now (nodes .entry)) count) (reformed (coneOf c) (take (c .n) coefs))) ⌝ }
     ensures kept { λ r. ⌜ Kept c r ⌝ }
@@ -108,7 +108,7 @@ fn form_cone(s: Settings, nodes: &[u8; 26880], c: Cone, coefs: [i64; 11]) -> For
 }
 
 // The better of the best form so far and this one: span, then norm; the first of equals stays.
-fn better_form(nodes: &[u8; 26880], best: Form, f: Form) -> Form
+fn better_form(nodes: &[u8; 27552], best: Form, f: Form) -> Form
     requires { ⌜ (IsCone (best .cone) × AreNodes (now nodes) (coneOf (best .cone) .support)) × (IsCone (f .cone) × AreNodes (now nodes) (coneOf (f .cone) .support)) ⌝ }
     ensures is { λ r. ⌜ ((count : ℕ) → Below count (coneOf (best .cone)) → Below count (coneOf (f .cone)) → candidateIn (storeOf (now (nodes .entry)) count) r ≡ betterOf (candidateIn (storeOf (now (nodes .entry)) count) best) (candidateIn (storeOf (now (nodes .entry)) count) f)) ⌝ }
     ensures kept { λ r. ⌜ ((c : d.Cone) → Kept c best → Kept c f → Kept c r) ⌝ }
@@ -129,7 +129,7 @@ fn better_form(nodes: &[u8; 26880], best: Form, f: Form) -> Form
 }
 
 // The best form so far, and what node i takes if it is a bootstrap. All nodes up to i stand in the store.
-fn consider(s: Settings, nodes: &[u8; 26880], i: usize, c: Cone, best: Form) -> Form
+fn consider(s: Settings, nodes: &[u8; 27552], i: usize, c: Cone, best: Form) -> Form
     requires { ⌜ (s .m ≤ 32) × (NodesTo (now nodes) i × (IsCone c × (AreNodes (now nodes) (coneOf c .support) × Kept c best))) ⌝ }
     ensures is { λ r. ⌜ ((count : ℕ) → Below count (coneOf c) → candidateIn (storeOf (now (nodes .entry)) count) r ≡ turned s (storeOf (now (nodes .entry)) count) (coneOf c) (candidateIn (storeOf (now (nodes .entry)) count) best) (formTerms (now (nodes .entry)) (nodeOf (now (nodes .entry)) i))) ⌝ }
     ensures kept { λ r. ⌜ Kept c r ⌝ }
@@ -145,7 +145,7 @@ fn consider(s: Settings, nodes: &[u8; 26880], i: usize, c: Cone, best: Form) -> 
 }
 
 // reusable_cone_coefficients: with many tables a sum, the cone by the first form of the least span and norm that fits, if there is one.
-pub fn realign(s: Settings, nodes: &[u8; 26880], count: usize, c: Cone) -> Cone
+pub fn realign(s: Settings, nodes: &[u8; 27552], count: usize, c: Cone) -> Cone
     requires { ⌜ (s .m ≤ 32) × (IsStore (now nodes) count × Stands count c) ⌝ }
     ensures is { λ r. ⌜ coneOf r ≡ realigned s (storeOf (now (nodes .entry)) count) (coneOf c) ⌝ }
     ensures stands { λ r. ⌜ Stands count r ⌝ }

@@ -28,6 +28,7 @@ use Rattle.theorems.specs.Members.{member-head, member-left, member-right, amon
 use Rattle.mapped.specs.PrunedLive.{live-outputs}
 use Rattle.circuit.specs.View.{wireIn, nameAt, outputIn, outputsIn}
 use Rattle.lut.specs.Ports.{signalWire, outputAt, portOutput}
+use Rattle.nodes.specs.Centre.{Centred}
 use Rattle.nodes.specs.View.{storeOf, store-length, IsStore}
 use Rattle.writer.specs.declared.Network as W
 use Rattle.writer.specs.Kept.{Numbered, Closed, closed, kept-sourced}
@@ -43,9 +44,10 @@ use Rattle.outputs.specs.Outputs.{PortIn, GoodPorts}
 unfoldable pub concluded : Settings → List ℕ → List ℕ → ℕ → List ℕ → ℕ → Reading Network
 concluded s text ports outs nodes count = checked s (pruned s (record { nodes = storeOf nodes count; outputs = outputsIn text ports outs }))
 
--- What is asked for that: names within the text, and a text that is short.
+-- What is asked for that: each table's centre in its record, names within the text, and a text that is short.
 pub record Finishable (s : Settings) (text ports : List ℕ) (outs : ℕ) (nodes : List ℕ) (count : ℕ) : Type 0 where
   pub store : IsStore nodes count
+  pub centred : Centred (s .p) nodes count
   pub good : GoodPorts ports count outs
   pub name : (i : ℕ) → i < outs → (getD ports (64 + 3 * i) 0 ≤ getD ports (64 + 3 * i + 1) 0) × (getD ports (64 + 3 * i + 1) 0 ≤ length text)
   pub short : (w : Network) → concluded s text ports outs nodes count ≡ Good w → length (networkText w) < 65536

@@ -38,7 +38,7 @@ fn answer(
     s: &[u8],
     n: Network,
     ports: &[usize; 192],
-    nodes: &[u8; 26880],
+    nodes: &[u8; 27552],
     live: &[u16; 672],
 ) -> MapReply
     requires { ⌜ Sourced (now live) (now nodes) (n .count) × (Ported (now live) (now ports) (length (now s)) (n .outs) × Room 0 (networkText (networkOf n (now s) (now ports) (now nodes) (now live)))) ⌝ }
@@ -53,7 +53,7 @@ fn answer(
 }
 
 // Basic's last check is on the largest norm.
-fn is_over_norm(s: Settings, nodes: &[u8; 26880], live: &[u16; 672], count: usize) -> bool
+fn is_over_norm(s: Settings, nodes: &[u8; 27552], live: &[u16; 672], count: usize) -> bool
     requires { ⌜ IsStore (now nodes) count × (length (now live) ≡ 672) ⌝ }
     ensures { λ r. ⌜ ((kept : List ℕ) → Keeps kept count (now (live .entry)) → Closed kept (now (nodes .entry)) count → r ≡ (isBasic (s .policy) && not (withinNorm s (largestNorm (keptFrom kept 0 (storeOf (now (nodes .entry)) count)))))) ⌝ }
 {
@@ -66,14 +66,15 @@ fn is_over_norm(s: Settings, nodes: &[u8; 26880], live: &[u16; 672], count: usiz
     is_over(limit, norm)
 }
 
-// Asks that the outputs' wires are nodes or constants, and that the text is short. The depth in each kept node's record is what the text recounts.
+// Asks that the outputs' wires are nodes or constants, and that the text is short. Depth and centre in each kept node's record are what the text
+// recounts.
 pub fn conclude(
     out: &mut [u8],
     s: &[u8],
     settings: Settings,
     ports: &[usize; 192],
     outs: usize,
-    nodes: &[u8; 26880],
+    nodes: &[u8; 27552],
     count: usize,
 ) -> MapReply
     requires { ⌜ Finishable settings (now s) (now ports) outs (now nodes) count ⌝ }

@@ -36,7 +36,7 @@ fn mark_outputs(ports: &[usize; 192], outs: usize, live: &mut [u16; 672])
 
 // The new numbers, counted from 1, of the nodes that are kept. Asks that nothing is marked.
 pub fn keep(
-    nodes: &[u8; 26880],
+    nodes: &[u8; 27552],
     count: usize,
     ports: &[usize; 192],
     outs: usize,

@@ -12,7 +12,7 @@ ghost use Rattle.conclude.specs.Live.{Keeps};
 ghost use Rattle.conclude.specs.Norm.{largestNorm, largerKept};
 
 // The larger one of the norm so far and node i's, if that is kept.
-fn larger(nodes: &[u8; 26880], live: &[u16; 672], i: usize, norm: u64) -> u64
+fn larger(nodes: &[u8; 27552], live: &[u16; 672], i: usize, norm: u64) -> u64
     requires { ⌜ IsStore (now nodes) (i + 1) × (length (now live) ≡ 672) ⌝ }
     ensures { λ r. ⌜ r ≡ largerKept (now (live .entry)) i (nodeNorm (storeOf (now (nodes .entry)) i) (nodeOf (now (nodes .entry)) i)) norm ⌝ }
 {
@@ -27,7 +27,7 @@ fn larger(nodes: &[u8; 26880], live: &[u16; 672], i: usize, norm: u64) -> u64
 }
 
 // Norms go by the nodes that are kept: what one of them needs is kept too, and weighs the same there.
-pub fn largest_norm(nodes: &[u8; 26880], live: &[u16; 672], count: usize) -> u64
+pub fn largest_norm(nodes: &[u8; 27552], live: &[u16; 672], count: usize) -> u64
     requires { ⌜ IsStore (now nodes) count × (length (now live) ≡ 672) ⌝ }
     ensures { λ r. ⌜ ((kept : List ℕ) → Keeps kept count (now (live .entry)) → Closed kept (now (nodes .entry)) count → r ≡ largestNorm (keptFrom kept 0 (storeOf (now (nodes .entry)) count))) ⌝ }
 {

@@ -98,7 +98,7 @@ impl Cone {
     }
 
     // Each squared coefficient times its source's weight, added.
-    pub fn norm2(self, nodes: &[u8; 26880]) -> u64
+    pub fn norm2(self, nodes: &[u8; 27552]) -> u64
         requires { ⌜ IsCone self × AreNodes (now nodes) (coneOf self .support) ⌝ }
         ensures { λ r. ⌜ ((count : ℕ) → Below count (coneOf self) → r ≡ rules.norm2 (storeOf (now (nodes .entry)) count) (coneOf self)) ⌝ }
     {

@@ -17,7 +17,7 @@ pub struct OrderKey {
     pub norm: u64,
 }
 
-pub fn cone_order_key(nodes: &[u8; 26880], cone: Cone) -> OrderKey
+pub fn cone_order_key(nodes: &[u8; 27552], cone: Cone) -> OrderKey
     requires { ⌜ IsCone cone × AreNodes (now nodes) (coneOf cone .support) ⌝ }
     ensures { λ r. ⌜ ((count : ℕ) → Below count (coneOf cone) → keyOf r ≡ coneOrderKey (storeOf (now (nodes .entry)) count) (coneOf cone)) ⌝ }
 {

@@ -42,7 +42,7 @@ pub fn is_lut_valid(s: Settings, cone: Cone) -> bool
 }
 
 // validate_cone without its encoding check, which no cone of a mapping fails (`never-ten`).
-pub fn validate_cone(s: Settings, nodes: &[u8; 26880], cone: Cone) -> Validity
+pub fn validate_cone(s: Settings, nodes: &[u8; 27552], cone: Cone) -> Validity
     requires { ⌜ IsCone cone × AreNodes (now nodes) (coneOf cone .support) ⌝ }
     ensures { λ r. ⌜ ((count : ℕ) → Below count (coneOf cone) → validityOf (coneOf cone) r ≡ validateCone s (storeOf (now (nodes .entry)) count) (coneOf cone)) ⌝ }
 {

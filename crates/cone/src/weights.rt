@@ -7,7 +7,7 @@ ghost use Rattle.rules.specs.Network.{weightOf};
 ghost use Rattle.nodes.specs.View.{nodeOf, IsNode};
 ghost use Rattle.cone.specs.Sources.{AreNodes, weightsIn};
 
-fn weight_at(nodes: &[u8; 26880], i: usize) -> u8
+fn weight_at(nodes: &[u8; 27552], i: usize) -> u8
     requires { ⌜ IsNode (now nodes) i ⌝ }
     ensures { λ r. ⌜ r ≡ weightOf (nodeOf (now (nodes .entry)) i) ⌝ }
 {
@@ -15,7 +15,7 @@ fn weight_at(nodes: &[u8; 26880], i: usize) -> u8
 }
 
 // A weight for each source; what stands behind them does not matter.
-pub fn weights_of(nodes: &[u8; 26880], sources: &[usize]) -> [u8; 11]
+pub fn weights_of(nodes: &[u8; 27552], sources: &[usize]) -> [u8; 11]
     requires { ⌜ (length (now sources) ≤ 11) × AreNodes (now nodes) (now sources) ⌝ }
     ensures { λ r. ⌜ take (length (now (sources .entry))) r ≡ weightsIn (now (nodes .entry)) (now (sources .entry)) ⌝ }
 {

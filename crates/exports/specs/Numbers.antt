@@ -1,5 +1,6 @@
 -- The answers as numbers: what each place of the reply structs holds.
 use mathlib.Core.Option.{Option, none, some}
+use Rattle.rules.specs.Builder.{TableAnswer}
 use Rattle.rules.specs.Outcome.{Answer, written, refused}
 use Rattle.rules.specs.NetworkText.{Admission}
 use Rattle.rules.specs.Phase.{SlotAnswer}
@@ -12,10 +13,14 @@ use Rattle.exports.specs.declared.FbsReply.{FbsReply}
 use Rattle.exports.specs.declared.FbsAdmission.{FbsAdmission}
 use Rattle.exports.specs.declared.FbsSum.{FbsSum}
 use Rattle.exports.specs.declared.FbsSlot.{FbsSlot}
+use Rattle.exports.specs.declared.FbsTable.{FbsTable}
 
 -- Number, line and count, place by place.
 abbrev pub answer : FbsReply → Answer
 answer r = record { number = r .number; line = r .line; count = r .count }
+
+abbrev pub tableAnswer : FbsTable → TableAnswer
+tableAnswer r = record { number = r .number; line = r .line; count = r .count; centre = r .centre }
 
 -- The three ends of a run that document 01 has no number for, numbered from 100 on; line 0.
 unfoldable pub runNumbers : RunAnswer → Answer
@@ -30,7 +35,7 @@ numbered o = ran (Numbered (runNumbers (o .answer))) (o .buffer)
 
 -- A refusal has no statistics: 0 in each of their places.
 unfoldable pub statistics : Option Stats → Stats
-statistics none = record { inputs = 0; sums = 0; boots = 0; sources = 0; longest = 0; norm = 0; outputs = 0; depth = 0 }
+statistics none = record { inputs = 0; sums = 0; boots = 0; sources = 0; longest = 0; norm = 0; outputs = 0; depth = 0; centre0 = 0; centre1 = 0; centre2 = 0 }
 statistics (some s) = s
 
 unfoldable pub admissionNumbers : Admission → FbsAdmission
@@ -47,6 +52,9 @@ admissionNumbers a =
       norm = s .norm;
       outputs = s .outputs;
       depth = s .depth;
+      centre0 = s .centre0;
+      centre1 = s .centre1;
+      centre2 = s .centre2;
     }
 
 -- A wanted sum that no bits give: 103, a number of ours, line 0.

@@ -9,14 +9,14 @@ use crate::numbers::run_numbers;
 use crate::numbers::slot_numbers;
 use crate::numbers::sum_numbers;
 ghost use mathlib.Core.Path.{_≡_};
-ghost use Rattle.rules.specs.Builder.{builder};
+ghost use Rattle.rules.specs.Builder.{built, builder};
 ghost use Rattle.rules.specs.Mapper.{mapper};
 ghost use Rattle.rules.specs.NetworkText.{admission};
 ghost use Rattle.rules.specs.Outcome.{outcome};
 ghost use Rattle.rules.specs.Phase.{slotAnswer};
 ghost use Rattle.rules.specs.Runs.{Numbered, ran, runCircuit, runNetwork};
 ghost use Rattle.rules.specs.SumReading.{sumReading, sumAnswer};
-ghost use Rattle.exports.specs.Numbers.{answer, admissionNumbers, numbered, sumPlaces, slotNumbers};
+ghost use Rattle.exports.specs.Numbers.{answer, tableAnswer, admissionNumbers, numbered, sumPlaces, slotNumbers};
 
 // 0 and the count of bytes or values written, or the number and the line of the refusal.
 #[repr(C)]
@@ -24,6 +24,15 @@ pub struct FbsReply {
     pub number: usize,
     pub line: usize,
     pub count: usize,
+}
+
+// 0, the count of bits written and the centre of the table, or the number; the line is 0.
+#[repr(C)]
+pub struct FbsTable {
+    pub number: usize,
+    pub line: usize,
+    pub count: usize,
+    pub centre: usize,
 }
 
 // 0 and the statistics, or the number and the line of the refusal.
@@ -41,6 +50,10 @@ pub struct FbsAdmission {
     pub outputs: usize,
     // the largest depth of a node
     pub depth: usize,
+    // tables of centre 0, 1 and 2
+    pub centre0: usize,
+    pub centre1: usize,
+    pub centre2: usize,
 }
 
 // 0 and the count of bits, or the number and the line; the bits of the terms in their order, 0 in each place that is none of theirs.
@@ -78,7 +91,7 @@ pub extern "C" fn fbs_admit(text: &[u8]) -> FbsAdmission
     admission_numbers(r)
 }
 
-// A bootstrap table from rows, a value and a truth each.
+// A bootstrap table from rows, a value and a truth each, and its centre.
 #[no_mangle]
 pub extern "C" fn fbs_build_table(
     p: usize,
@@ -86,8 +99,8 @@ pub extern "C" fn fbs_build_table(
     values: &[i32],
     truths: &[u8],
     out: &mut [u8],
-) -> FbsReply
-    ensures { λ r. ⌜ outcome (answer r) (now (out .exit)) ≡ builder p m (now (values .entry)) (now (truths .entry)) (now (out .entry)) ⌝ }
+) -> FbsTable
+    ensures { λ r. ⌜ built (tableAnswer r) (now (out .exit)) ≡ builder p m (now (values .entry)) (now (truths .entry)) (now (out .entry)) ⌝ }
 {
     let r = builder::composed_bootstrap_table(p, m, values, truths, out);
     builder_numbers(r)

@@ -2,6 +2,7 @@
 use crate::FbsAdmission;
 use crate::FbsReply;
 use crate::FbsSlot;
+use crate::FbsTable;
 use rules::AdmitReply;
 use rules::BuilderReply;
 use rules::MapReply;
@@ -15,7 +16,7 @@ ghost use Rattle.rules.specs.NetworkText.{admitReply};
 ghost use Rattle.rules.specs.Phase.{slotReply};
 ghost use Rattle.rules.specs.Runs.{runReply};
 ghost use Rattle.rules.specs.Outcome.{written, refused};
-ghost use Rattle.exports.specs.Numbers.{answer, runNumbers, admissionNumbers, sumNumbers, slotNumbers};
+ghost use Rattle.exports.specs.Numbers.{answer, tableAnswer, runNumbers, admissionNumbers, sumNumbers, slotNumbers};
 
 fn accepted(count: usize) -> FbsReply
     ensures { λ r. ⌜ answer r ≡ written count ⌝ }
@@ -46,13 +47,14 @@ pub fn map_numbers(reply: MapReply) -> FbsReply
     }
 }
 
-pub fn builder_numbers(reply: BuilderReply) -> FbsReply
-    ensures { λ r. ⌜ answer r ≡ builderReply reply ⌝ }
+pub fn builder_numbers(reply: BuilderReply) -> FbsTable
+    ensures { λ r. ⌜ tableAnswer r ≡ builderReply reply ⌝ }
 {
-    FbsReply {
+    FbsTable {
         number: builder::reply_number(reply),
         line: 0,
         count: builder::reply_count(reply),
+        centre: builder::reply_centre(reply),
     }
 }
 
@@ -105,6 +107,9 @@ pub fn admission_numbers(reply: AdmitReply) -> FbsAdmission
             norm: stats.norm,
             outputs: stats.outputs,
             depth: stats.depth,
+            centre0: stats.centre0,
+            centre1: stats.centre1,
+            centre2: stats.centre2,
         },
         AdmitReply::Refused(number, line) => FbsAdmission {
             number,
@@ -117,6 +122,9 @@ pub fn admission_numbers(reply: AdmitReply) -> FbsAdmission
             norm: 0,
             outputs: 0,
             depth: 0,
+            centre0: 0,
+            centre1: 0,
+            centre2: 0,
         },
     }
 }

@@ -23,7 +23,7 @@ use Rattle.nodes.specs.View.{storeOf, IsStore}
 use Rattle.bootstrap.specs.declared.boot.Booted.{Booted}
 use Rattle.gate.specs.declared.map.Limited.{Limited}
 use Rattle.cone.specs.Sources.{Stands}
-use Rattle.bootstrap.specs.View.{Boots, bootedOf}
+use Rattle.bootstrap.specs.View.{Boots, bootedOf, KeepsCentres, centres-same}
 use Rattle.gate.specs.View.{StandsBoth, limitedOf}
 
 -- ---- Room: a bootstrap may add a sum and a table; a cone of no source or one source stays as it was.
@@ -42,17 +42,19 @@ pub record Ready (bytes : List ℕ) (count : ℕ) (w : Sides) : Type 0 where
   pub fits : count + roomOf w ≤ 672
 
 -- A bootstrap of the cone c, from `count` nodes on: what it adds it no longer asks for.
-pub record Spends (count : ℕ) (c : Cone) (bytes : List ℕ) (b : Booted) : Type 0 where
+pub record Spends (p : ℕ) (old : List ℕ) (count : ℕ) (c : Cone) (bytes : List ℕ) (b : Booted) : Type 0 where
   pub store : IsStore bytes (b .count)
   pub stands : Stands (b .count) (b .cone)
   pub least : count ≤ b .count
   pub most : b .count + room (coneOf (b .cone)) ≤ count + room (coneOf c)
+  pub centred : KeepsCentres p old count bytes (b .count)
 
 -- The same of a step of both sides.
-pub record Steps (count : ℕ) (w : Sides) (bytes : List ℕ) (l : Limited) : Type 0 where
+pub record Steps (p : ℕ) (old : List ℕ) (count : ℕ) (w : Sides) (bytes : List ℕ) (l : Limited) : Type 0 where
   pub ready : Ready bytes (l .count) (l .sides)
   pub least : count ≤ l .count
   pub most : l .count + roomOf (l .sides) ≤ count + roomOf w
+  pub centred : KeepsCentres p old count bytes (l .count)
 
 -- The sides have the two cones and the gate's answers, in one order or the other.
 pub record Same (left right : Cone) (gate : List ℕ) (w : Sides) : Type 0 where
@@ -101,12 +103,12 @@ module _ (s : Settings) (count : ℕ) (c : Cone) where
   unfolding bootedOf
   stays-is bytes h = stays s (storeOf bytes count) (coneOf c) h
 
-  pub stays-spends : (bytes : List ℕ) → IsStore bytes count → Stands count c → Spends count c bytes (record { count = count; cone = c })
+  pub stays-spends : (bytes : List ℕ) → IsStore bytes count → Stands count c → Spends (s .p) bytes count c bytes (record { count = count; cone = c })
   stays-spends bytes store stands =
-      record { store = store; stands = stands; least = omega arith; most = omega arith }
+      record { store = store; stands = stands; least = omega arith; most = omega arith; centred = centres-same }
 
-  pub moves-spends : (bytes : List ℕ) (nodes : List LutNode) (b : Booted) → 1 < length (coneOf c .support) → Boots count bytes b
-      → bootedOf bytes b ≡ bootstrapCone s nodes (coneOf c) → Spends count c bytes b
+  pub moves-spends : {old : List ℕ} (bytes : List ℕ) (nodes : List LutNode) (b : Booted) → 1 < length (coneOf c .support) → Boots (s .p) old count bytes b
+      → bootedOf bytes b ≡ bootstrapCone s nodes (coneOf c) → Spends (s .p) old count c bytes b
   unfolding bootedOf
   moves-spends bytes nodes b h boots e =
       let l = boots .grown .most in
@@ -114,7 +116,7 @@ module _ (s : Settings) (count : ℕ) (c : Cone) where
       let same = ap (λ (x : Stored). length (x .cone .support)) e in
       let one = room-none (coneOf (b .cone)) (omega arith) in
       let two = room-two (coneOf c) h in
-      record { store = boots .grown .store; stands = boots .stands; least = boots .grown .least; most = omega arith }
+      record { store = boots .grown .store; stands = boots .stands; least = boots .grown .least; most = omega arith; centred = boots .grown .centred }
 
 -- Both sides with the bootstrapped one.
 abbrev pub leftBooted : Booted → Sides → Limited
@@ -154,7 +156,7 @@ module _ {count : ℕ} {before : List ℕ} {w : Sides} (r : Ready before count w
   unfolding roomOf
   right-fits = let f = r .fits in omega arith
 
-  pub left-steps : (bytes : List ℕ) (b : Booted) → Spends count (w .left .cone) bytes b → Steps count w bytes (leftBooted b w)
+  pub left-steps : {p : ℕ} (bytes : List ℕ) (b : Booted) → Spends p before count (w .left .cone) bytes b → Steps p before count w bytes (leftBooted b w)
   unfolding roomOf
   left-steps bytes b p =
       record {
@@ -166,9 +168,10 @@ module _ {count : ℕ} {before : List ℕ} {w : Sides} (r : Ready before count w
         };
         least = p .least;
         most = let m = p .most in omega arith;
+        centred = p .centred;
       }
 
-  pub right-steps : (bytes : List ℕ) (b : Booted) → Spends count (w .right .cone) bytes b → Steps count w bytes (rightBooted b w)
+  pub right-steps : {p : ℕ} (bytes : List ℕ) (b : Booted) → Spends p before count (w .right .cone) bytes b → Steps p before count w bytes (rightBooted b w)
   unfolding roomOf
   right-steps bytes b p =
       record {
@@ -180,4 +183,5 @@ module _ {count : ℕ} {before : List ℕ} {w : Sides} (r : Ready before count w
         };
         least = p .least;
         most = let m = p .most in omega arith;
+        centred = p .centred;
       }

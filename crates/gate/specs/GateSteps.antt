@@ -27,7 +27,7 @@ use Rattle.gate.specs.declared.map.Limited.{Limited}
 use Rattle.gate.specs.declared.map.Mapped.{Mapped}
 use Rattle.attempt.specs.declared.Tried.{Tried}
 use Rattle.cone.specs.Sources.{Stands, below-same}
-use Rattle.bootstrap.specs.View.{Grown}
+use Rattle.bootstrap.specs.View.{KeepsCentres, Grown, centres-same, centres-then}
 use Rattle.gate.specs.View.{StandsBoth, Maps, limitedOf, mappedOf}
 use Rattle.attempt.specs.Tried.{triedOf}
 use Rattle.gate.specs.Gate.{room, roomOf, roomOf-most, Ready, Steps, Same}
@@ -88,27 +88,28 @@ module _ (s : Settings) (next : M.Sides → Result M.Mapped) (q : M.Sides) (byte
 
 -- ---- the store grows by no more than the sides ask for
 
-pub grows : {count : ℕ} {w : Sides} {bytes : List ℕ} {l : Limited} → Steps count w bytes l → Grown count (roomOf w) bytes (l .count)
-grows {count} {w} {bytes} {l} st =
+pub grows : {p : ℕ} {old : List ℕ} {count : ℕ} {w : Sides} {bytes : List ℕ} {l : Limited} → Steps p old count w bytes l → Grown p old count (roomOf w) bytes (l .count)
+grows st =
     let m = st .most in
-    record { store = st .ready .store; least = st .least; most = omega arith }
+    record { store = st .ready .store; least = st .least; most = omega arith; centred = st .centred }
 
-pub maps-wider : {before more count less : ℕ} {bytes : List ℕ} {m : Mapped} → before ≤ count → count + less ≤ before + more → Maps count less bytes m → Maps before more bytes m
-maps-wider h k p =
+pub maps-wider : {q before more count less : ℕ} {old mid bytes : List ℕ} {m : Mapped} → before ≤ count → count + less ≤ before + more → KeepsCentres q old before mid count
+    → Maps q mid count less bytes m → Maps q old before more bytes m
+maps-wider h k c p =
     record {
-      grown = λ z. let l = p .grown z .least in let u = p .grown z .most in record { store = p .grown z .store; least = omega arith; most = omega arith };
+      grown = λ z. let l = p .grown z .least in let u = p .grown z .most in record { store = p .grown z .store; least = omega arith; most = omega arith; centred = centres-then c (p .grown z .centred) };
       stands = p .stands;
       first = p .first;
       second = p .second;
     }
 
-pub grown-wider : {before more less : ℕ} {bytes : List ℕ} {count : ℕ} → less ≤ more → Grown before less bytes count → Grown before more bytes count
-grown-wider h p = let u = p .most in record { store = p .store; least = p .least; most = omega arith }
+pub grown-wider : {q before more less : ℕ} {old bytes : List ℕ} {count : ℕ} → less ≤ more → Grown q old before less bytes count → Grown q old before more bytes count
+grown-wider h p = let u = p .most in record { store = p .store; least = p .least; most = omega arith; centred = p .centred }
 
 -- ---- steps of both sides
 
-pub steps-none : {bytes : List ℕ} {count : ℕ} {w : Sides} → Ready bytes count w → Steps count w bytes (record { count = count; sides = w })
-steps-none r = record { ready = r; least = omega arith; most = omega arith }
+pub steps-none : {p : ℕ} {bytes : List ℕ} {count : ℕ} {w : Sides} → Ready bytes count w → Steps p bytes count w bytes (record { count = count; sides = w })
+steps-none r = record { ready = r; least = omega arith; most = omega arith; centred = centres-same }
 
 switched-bits : (gate : List ℕ) → allBits gate ≡ true → allBits (getD gate 0 0 ∷ getD gate 2 0 ∷ getD gate 1 0 ∷ getD gate 3 0 ∷ []) ≡ true
 switched-bits gate e = T-is _ (all-bits-of (getD gate 0 0 ∷ getD gate 2 0 ∷ getD gate 1 0 ∷ getD gate 3 0 ∷ []) at)
@@ -141,12 +142,14 @@ module _ (w v : Sides) (is : (nodes : List LutNode) → sidesOf nodes v ≡ M.sw
       record { store = r .store; both = switched-both count (r .both); bits = switched-gate (r .bits); fits = rw switched-room (r .fits) }
 
   -- a step behind another one
-  pub steps-on : (count more : ℕ) (first : Sides) (bytes : List ℕ) (l : Limited) → count ≤ more → more + roomOf w ≤ count + roomOf first → Steps more v bytes l → Steps count first bytes l
-  steps-on count more first bytes l h k st =
+  pub steps-on : {p : ℕ} {old mid : List ℕ} (count more : ℕ) (first : Sides) (bytes : List ℕ) (l : Limited) → count ≤ more → more + roomOf w ≤ count + roomOf first
+      → KeepsCentres p old count mid more → Steps p mid more v bytes l → Steps p old count first bytes l
+  steps-on count more first bytes l h k c st =
       record {
         ready = st .ready;
         least = let a = st .least in omega arith;
         most = let a = st .most in let e = switched-room in omega arith;
+        centred = centres-then c (st .centred);
       }
 
 -- ---- both sides of a gate at first
@@ -180,16 +183,16 @@ pub refused-is : (m : Mapped) → 0 < m .number → (bytes : List ℕ) → mappe
 unfolding mappedOf
 refused-is m h bytes = rw (ne-eqb (m .number) 0 (λ e. omega arith))
 
-pub refused-maps : (m : Mapped) → 0 < m .number → (before more : ℕ) (bytes : List ℕ) → Maps before more bytes m
-refused-maps m h before more bytes =
+pub refused-maps : (m : Mapped) → 0 < m .number → (p : ℕ) (old : List ℕ) (before more : ℕ) (bytes : List ℕ) → Maps p old before more bytes m
+refused-maps m h p old before more bytes =
     record { grown = λ z. absurd (omega arith); stands = λ z. absurd (omega arith); first = λ z. absurd (omega arith); second = λ z. absurd (omega arith) }
 
-pub kept-maps : (before more : ℕ) (bytes : List ℕ) (m : Mapped) → Grown before more bytes (m .count) → Stands (m .count) (m .cone) → Stands (m .count) (m .first .cone)
-    → Stands (m .count) (m .second .cone) → Maps before more bytes m
+pub kept-maps : {p : ℕ} {old : List ℕ} (before more : ℕ) (bytes : List ℕ) (m : Mapped) → Grown p old before more bytes (m .count) → Stands (m .count) (m .cone) → Stands (m .count) (m .first .cone)
+    → Stands (m .count) (m .second .cone) → Maps p old before more bytes m
 kept-maps before more bytes m g c f s = record { grown = λ z. g; stands = λ z. c; first = λ z. f; second = λ z. s }
 
-pub grown-none : (bytes : List ℕ) (count : ℕ) → IsStore bytes count → Grown count 4 bytes count
-grown-none bytes count st = record { store = st; least = omega arith; most = omega arith }
+pub grown-none : {p : ℕ} (bytes : List ℕ) (count : ℕ) → IsStore bytes count → Grown p bytes count 4 bytes count
+grown-none bytes count st = record { store = st; least = omega arith; most = omega arith; centred = centres-same }
 
 -- an attempt's cone
 module _ (bytes : List ℕ) (count : ℕ) (w : Sides) (c : Cone) where

@@ -38,8 +38,8 @@ mappedOf bytes m =
     })
     else err (m .number)
 
-pub record Maps (before more : ℕ) (bytes : List ℕ) (m : Mapped) : Type 0 where
-  pub grown : m .number ≡ 0 → Grown before more bytes (m .count)
+pub record Maps (p : ℕ) (old : List ℕ) (before more : ℕ) (bytes : List ℕ) (m : Mapped) : Type 0 where
+  pub grown : m .number ≡ 0 → Grown p old before more bytes (m .count)
   pub stands : m .number ≡ 0 → Stands (m .count) (m .cone)
   pub first : m .number ≡ 0 → Stands (m .count) (m .first .cone)
   pub second : m .number ≡ 0 → Stands (m .count) (m .second .cone)

@@ -50,7 +50,7 @@ pub struct Limited {
 // The cone, and no side bootstrapped.
 fn unchanged(count: usize, c: Cone) -> Mapped
     ensures is { λ r. ⌜ ((bytes : List ℕ) → mappedOf bytes r ≡ unchanged (storeOf bytes count) (coneOf c)) ⌝ }
-    ensures stands { λ r. ⌜ ((bytes : List ℕ) → IsStore bytes count → Stands count c → Maps count 4 bytes r) ⌝ }
+    ensures stands { λ r. ⌜ ((p : ℕ) (bytes : List ℕ) → IsStore bytes count → Stands count c → Maps p bytes count 4 bytes r) ⌝ }
 {
     let side = Side {
         cone: c,
@@ -69,7 +69,7 @@ fn unchanged(count: usize, c: Cone) -> Mapped
 fn refused(number: usize, c: Cone) -> Mapped
     requires { ⌜ 0 < number ⌝ }
     ensures is { λ r. ⌜ ((bytes : List ℕ) → mappedOf bytes r ≡ err number) ⌝ }
-    ensures stands { λ r. ⌜ ((before more : ℕ) (bytes : List ℕ) → Maps before more bytes r) ⌝ }
+    ensures stands { λ r. ⌜ ((p : ℕ) (old : List ℕ) (before more : ℕ) (bytes : List ℕ) → Maps p old before more bytes r) ⌝ }
 {
     let side = Side {
         cone: c,
@@ -87,7 +87,7 @@ fn refused(number: usize, c: Cone) -> Mapped
 // map_unary_gate
 pub fn map_unary(
     s: Settings,
-    nodes: &[u8; 26880],
+    nodes: &[u8; 27552],
     count: usize,
     c: Cone,
     zero: u8,
@@ -95,7 +95,7 @@ pub fn map_unary(
 ) -> Mapped
     requires { ⌜ (inLimits s ≡ true) × (IsStore (now nodes) count × (Stands count c × ((zero ≤ 1) × (one ≤ 1)))) ⌝ }
     ensures is { λ r. ⌜ mappedOf (now (nodes .entry)) r ≡ mapUnaryGate s (storeOf (now (nodes .entry)) count) (coneOf c) (zero ∷ one ∷ []) ⌝ }
-    ensures stands { λ r. ⌜ Maps count 4 (now (nodes .entry)) r ⌝ }
+    ensures stands { λ r. ⌜ Maps (s .p) (now (nodes .entry)) count 4 (now (nodes .entry)) r ⌝ }
 {
     let d = apply_unary(c, zero, one);
     if all_equal(d) {
@@ -111,7 +111,7 @@ pub fn map_unary(
 // The attempt's cone; the first input's side is first again.
 fn concluded(count: usize, w: Sides, c: Cone) -> Mapped
     ensures is { λ r. ⌜ ((bytes : List ℕ) → mappedOf bytes r ≡ ok (mapped (sidesOf (storeOf bytes count) w) (coneOf c))) ⌝ }
-    ensures stands { λ r. ⌜ ((before more : ℕ) (bytes : List ℕ) → Grown before more bytes count → StandsBoth count w → Stands count c → Maps before more bytes r) ⌝ }
+    ensures stands { λ r. ⌜ ((p : ℕ) (old : List ℕ) (before more : ℕ) (bytes : List ℕ) → Grown p old before more bytes count → StandsBoth count w → Stands count c → Maps p old before more bytes r) ⌝ }
 {
     let left = w.left;
     let right = w.right;
@@ -134,7 +134,7 @@ fn concluded(count: usize, w: Sides, c: Cone) -> Mapped
 }
 
 // One of map_binary_gate's three attempts.
-fn attempt_sides(s: Settings, nodes: &[u8; 26880], count: usize, w: Sides) -> Tried
+fn attempt_sides(s: Settings, nodes: &[u8; 27552], count: usize, w: Sides) -> Tried
     requires { ⌜ (inLimits s ≡ true) × Ready (now nodes) count w ⌝ }
     ensures is { λ r. ⌜ triedOf r ≡ attempted s (sidesOf (storeOf (now (nodes .entry)) count) w) ⌝ }
     ensures stands { λ r. ⌜ (r .found ≡ true → Stands count (r .cone)) ⌝ }
@@ -148,10 +148,10 @@ fn attempt_sides(s: Settings, nodes: &[u8; 26880], count: usize, w: Sides) -> Tr
 }
 
 // The third attempt, after the right side is bootstrapped too.
-fn third_attempt(s: Settings, nodes: &mut [u8; 26880], count: usize, w: Sides) -> Mapped
+fn third_attempt(s: Settings, nodes: &mut [u8; 27552], count: usize, w: Sides) -> Mapped
     requires { ⌜ (inLimits s ≡ true) × Ready (now nodes) count w ⌝ }
     ensures is { λ r. ⌜ mappedOf (now (nodes .exit)) r ≡ thirdAttempt s (sidesOf (storeOf (now (nodes .entry)) count) w) ⌝ }
-    ensures stands { λ r. ⌜ Maps count (roomOf w) (now (nodes .exit)) r ⌝ }
+    ensures stands { λ r. ⌜ Maps (s .p) (now (nodes .entry)) count (roomOf w) (now (nodes .exit)) r ⌝ }
 {
     let b = bootstrap_right(s, nodes, count, w);
     let v = b.sides;
@@ -164,10 +164,10 @@ fn third_attempt(s: Settings, nodes: &mut [u8; 26880], count: usize, w: Sides) -
 }
 
 // The second attempt, after the left side is bootstrapped.
-fn second_attempt(s: Settings, nodes: &mut [u8; 26880], count: usize, w: Sides) -> Mapped
+fn second_attempt(s: Settings, nodes: &mut [u8; 27552], count: usize, w: Sides) -> Mapped
     requires { ⌜ (inLimits s ≡ true) × Ready (now nodes) count w ⌝ }
     ensures is { λ r. ⌜ mappedOf (now (nodes .exit)) r ≡ secondAttempt s (sidesOf (storeOf (now (nodes .entry)) count) w) ⌝ }
-    ensures stands { λ r. ⌜ Maps count (roomOf w) (now (nodes .exit)) r ⌝ }
+    ensures stands { λ r. ⌜ Maps (s .p) (now (nodes .entry)) count (roomOf w) (now (nodes .exit)) r ⌝ }
 {
     let b = bootstrap_left(s, nodes, count, w);
     let v = b.sides;
@@ -182,7 +182,7 @@ fn second_attempt(s: Settings, nodes: &mut [u8; 26880], count: usize, w: Sides) 
 // map_binary_gate
 pub fn map_binary(
     s: Settings,
-    nodes: &mut [u8; 26880],
+    nodes: &mut [u8; 27552],
     count: usize,
     left: Cone,
     right: Cone,
@@ -190,7 +190,7 @@ pub fn map_binary(
 ) -> Mapped
     requires { ⌜ (inLimits s ≡ true) × (IsStore (now nodes) count × ((count + 4 ≤ 672) × (Stands count left × (Stands count right × (allBits gate ≡ true))))) ⌝ }
     ensures is { λ r. ⌜ mappedOf (now (nodes .exit)) r ≡ mapBinaryGate s (storeOf (now (nodes .entry)) count) (coneOf left) (coneOf right) gate ⌝ }
-    ensures stands { λ r. ⌜ Maps count 4 (now (nodes .exit)) r ⌝ }
+    ensures stands { λ r. ⌜ Maps (s .p) (now (nodes .entry)) count 4 (now (nodes .exit)) r ⌝ }
 {
     let w = sides_of(nodes, left, right, gate);
     let b = limit_sources(s, nodes, count, w);
@@ -206,7 +206,7 @@ pub fn map_binary(
 // map_gate of two wires: a constant side makes it unary.
 pub fn map_two(
     s: Settings,
-    nodes: &mut [u8; 26880],
+    nodes: &mut [u8; 27552],
     count: usize,
     left: Cone,
     right: Cone,
@@ -214,7 +214,7 @@ pub fn map_two(
 ) -> Mapped
     requires { ⌜ (inLimits s ≡ true) × (IsStore (now nodes) count × ((count + 4 ≤ 672) × (Stands count left × (Stands count right × (allBits gate ≡ true))))) ⌝ }
     ensures is { λ r. ⌜ mappedOf (now (nodes .exit)) r ≡ mapGate s (storeOf (now (nodes .entry)) count) (coneOf left ∷ coneOf right ∷ []) gate ⌝ }
-    ensures stands { λ r. ⌜ Maps count 4 (now (nodes .exit)) r ⌝ }
+    ensures stands { λ r. ⌜ Maps (s .p) (now (nodes .entry)) count 4 (now (nodes .exit)) r ⌝ }
 {
     let l = left.constant_value();
     if let Constant::Bit(v) = l {

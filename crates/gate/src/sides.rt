@@ -29,7 +29,7 @@ ghost use Rattle.gate.specs.View.{limitedOf};
 ghost use Rattle.gate.specs.Gate.{room, Spends, Ready, Steps, Same};
 
 // Both sides of a gate, the larger one left.
-pub fn sides_of(nodes: &[u8; 26880], left: Cone, right: Cone, gate: [u8; 4]) -> Sides
+pub fn sides_of(nodes: &[u8; 27552], left: Cone, right: Cone, gate: [u8; 4]) -> Sides
     requires { ⌜ (IsCone left × AreNodes (now nodes) (coneOf left .support)) × (IsCone right × AreNodes (now nodes) (coneOf right .support)) ⌝ }
     ensures is { λ r. ⌜ ((count : ℕ) → Below count (coneOf left) → Below count (coneOf right) → sidesOf (storeOf (now (nodes .entry)) count) r ≡ largerFirst (sides (storeOf (now (nodes .entry)) count) (coneOf left) (coneOf right) gate)) ⌝ }
     ensures same { λ r. ⌜ Same left right gate r ⌝ }
@@ -79,10 +79,10 @@ fn over_limit(s: Settings, w: Sides) -> bool
 }
 
 // bootstrap_cone where a cone that stays as it was asks for no room in the store.
-fn bootstrap_in(s: Settings, nodes: &mut [u8; 26880], count: usize, c: Cone) -> Booted
+fn bootstrap_in(s: Settings, nodes: &mut [u8; 27552], count: usize, c: Cone) -> Booted
     requires { ⌜ (inLimits s ≡ true) × (IsStore (now nodes) count × ((count + room (coneOf c) ≤ 672) × Stands count c)) ⌝ }
     ensures is { λ r. ⌜ bootedOf (now (nodes .exit)) r ≡ bootstrapCone s (storeOf (now (nodes .entry)) count) (coneOf c) ⌝ }
-    ensures spends { λ r. ⌜ Spends count c (now (nodes .exit)) r ⌝ }
+    ensures spends { λ r. ⌜ Spends (s .p) (now (nodes .entry)) count c (now (nodes .exit)) r ⌝ }
 {
     if c.n <= 1 {
         return Booted { count, cone: c };
@@ -91,10 +91,10 @@ fn bootstrap_in(s: Settings, nodes: &mut [u8; 26880], count: usize, c: Cone) -> 
 }
 
 // The left side bootstrapped.
-pub fn bootstrap_left(s: Settings, nodes: &mut [u8; 26880], count: usize, w: Sides) -> Limited
+pub fn bootstrap_left(s: Settings, nodes: &mut [u8; 27552], count: usize, w: Sides) -> Limited
     requires { ⌜ (inLimits s ≡ true) × Ready (now nodes) count w ⌝ }
     ensures is { λ r. ⌜ limitedOf (now (nodes .exit)) r ≡ bootstrapLeft s (sidesOf (storeOf (now (nodes .entry)) count) w) ⌝ }
-    ensures steps { λ r. ⌜ Steps count w (now (nodes .exit)) r ⌝ }
+    ensures steps { λ r. ⌜ Steps (s .p) (now (nodes .entry)) count w (now (nodes .exit)) r ⌝ }
 {
     let left = w.left;
     let right = w.right;
@@ -115,10 +115,10 @@ pub fn bootstrap_left(s: Settings, nodes: &mut [u8; 26880], count: usize, w: Sid
 }
 
 // The right side bootstrapped.
-pub fn bootstrap_right(s: Settings, nodes: &mut [u8; 26880], count: usize, w: Sides) -> Limited
+pub fn bootstrap_right(s: Settings, nodes: &mut [u8; 27552], count: usize, w: Sides) -> Limited
     requires { ⌜ (inLimits s ≡ true) × Ready (now nodes) count w ⌝ }
     ensures is { λ r. ⌜ limitedOf (now (nodes .exit)) r ≡ bootstrapRight s (sidesOf (storeOf (now (nodes .entry)) count) w) ⌝ }
-    ensures steps { λ r. ⌜ Steps count w (now (nodes .exit)) r ⌝ }
+    ensures steps { λ r. ⌜ Steps (s .p) (now (nodes .entry)) count w (now (nodes .exit)) r ⌝ }
 {
     let left = w.left;
     let right = w.right;
@@ -139,10 +139,10 @@ pub fn bootstrap_right(s: Settings, nodes: &mut [u8; 26880], count: usize, w: Si
 }
 
 // The left side bootstrapped if the sources are too many.
-fn limit_second(s: Settings, nodes: &mut [u8; 26880], count: usize, w: Sides) -> Limited
+fn limit_second(s: Settings, nodes: &mut [u8; 27552], count: usize, w: Sides) -> Limited
     requires { ⌜ (inLimits s ≡ true) × Ready (now nodes) count w ⌝ }
     ensures is { λ r. ⌜ limitedOf (now (nodes .exit)) r ≡ limitSecond s (sidesOf (storeOf (now (nodes .entry)) count) w) ⌝ }
-    ensures steps { λ r. ⌜ Steps count w (now (nodes .exit)) r ⌝ }
+    ensures steps { λ r. ⌜ Steps (s .p) (now (nodes .entry)) count w (now (nodes .exit)) r ⌝ }
 {
     if over_limit(s, w) {
         return bootstrap_left(s, nodes, count, w);
@@ -151,10 +151,10 @@ fn limit_second(s: Settings, nodes: &mut [u8; 26880], count: usize, w: Sides) ->
 }
 
 // The inputs limit: the left side bootstrapped, and then the other one too if they are still too many.
-pub fn limit_sources(s: Settings, nodes: &mut [u8; 26880], count: usize, w: Sides) -> Limited
+pub fn limit_sources(s: Settings, nodes: &mut [u8; 27552], count: usize, w: Sides) -> Limited
     requires { ⌜ (inLimits s ≡ true) × Ready (now nodes) count w ⌝ }
     ensures is { λ r. ⌜ limitedOf (now (nodes .exit)) r ≡ limitSources s (sidesOf (storeOf (now (nodes .entry)) count) w) ⌝ }
-    ensures steps { λ r. ⌜ Steps count w (now (nodes .exit)) r ⌝ }
+    ensures steps { λ r. ⌜ Steps (s .p) (now (nodes .entry)) count w (now (nodes .exit)) r ⌝ }
 {
     if !over_limit(s, w) {
         return Limited { count, sides: w };

@@ -34,7 +34,7 @@ use Rattle.bootstrap.specs.declared.boot.Booted.{Booted}
 use Rattle.gate.specs.declared.map.Mapped.{Mapped}
 use Rattle.gates.specs.declared.Work.{Work}
 use Rattle.cone.specs.Sources.{Stands}
-use Rattle.bootstrap.specs.View.{bootedOf, Boots}
+use Rattle.bootstrap.specs.View.{bootedOf, Boots, KeepsCentres, centres-same, centres-then}
 use Rattle.gate.specs.View.{mappedOf, Maps}
 use Rattle.gates.specs.View.{conesIn}
 use Rattle.gates.specs.Wired.{Wired, SlotIn, Settled, stateOf, slot-cone, slot-constant, cones-length, cones-own, renewed-cones, renewed-wired, wired-more, wired-put, stands-more}
@@ -63,9 +63,10 @@ fourOf gs i = getD gs (6 * i + 2) 0 ∷ getD gs (6 * i + 3) 0 ∷ getD gs (6 * i
 unfoldable pub stateRead : List ℕ → List ℕ → ℕ → Work → Reading State
 stateRead nodes wires n w = if eqb (w .number) 0 then Good (stateOf nodes (w .count) wires n) else Refused (w .number) (w .line)
 
-pub record Works (before more : ℕ) (nodes wires : List ℕ) (n : ℕ) (w : Work) : Type 0 where
+pub record Works (p : ℕ) (old : List ℕ) (before more : ℕ) (nodes wires : List ℕ) (n : ℕ) (w : Work) : Type 0 where
   pub wired : w .number ≡ 0 → Wired nodes (w .count) wires n
   pub most : w .number ≡ 0 → w .count ≤ before + more
+  pub centred : w .number ≡ 0 → KeepsCentres p old before nodes (w .count)
 
 -- ---- Which gates are forced.
 
@@ -285,9 +286,9 @@ module _ (s : Settings) (outputs : List Output) (nodes : List ℕ) (count : ℕ)
               ∙ sym (results gs i after m (conesIn wires id)))
 
 -- the slots after a gate
-pub gate-wired : (nodes : List ℕ) (count : ℕ) (wires : List ℕ) (id : ℕ) (after : List ℕ) (m : Mapped) (last : List ℕ) (b : Booted) (slots : List ℕ) (l r : ℕ) (w : Work)
-    → id < 128 → Wired nodes count wires id → Maps count 4 after m → m .number ≡ 0 → Boots (m .count) last b
-    → Settled wires l r id (m .first) (m .second) (b .cone) slots → w .count ≡ b .count → Works count 6 last slots (id + 1) w
+pub gate-wired : {p : ℕ} (nodes : List ℕ) (count : ℕ) (wires : List ℕ) (id : ℕ) (after : List ℕ) (m : Mapped) (last : List ℕ) (b : Booted) (slots : List ℕ) (l r : ℕ) (w : Work)
+    → id < 128 → Wired nodes count wires id → Maps p nodes count 4 after m → m .number ≡ 0 → Boots p after (m .count) last b
+    → Settled wires l r id (m .first) (m .second) (b .cone) slots → w .count ≡ b .count → Works p nodes count 6 last slots (id + 1) w
 gate-wired nodes count wires id after m last b slots l r w few wired maps e boots t q =
     let grown = maps .grown e in
     let more = boots .grown in
@@ -299,10 +300,14 @@ gate-wired nodes count wires id after m last b slots l r w few wired maps e boot
     let w1 = renewed-wired last (b .count) wires l (m .first) (t .between) id (omega arith) w0 (stands-more (m .count) (b .count) _ d (maps .first e)) (t .left) in
     let w2 = renewed-wired last (b .count) (t .between) r (m .second) (t .last) id (omega arith) w1 (stands-more (m .count) (b .count) _ d (maps .second e)) (t .right) in
     let w3 = wired-put (t .last) id (b .cone) slots (t .behind) last (b .count) id (id + 1) w2 (boots .stands) few (omega arith) (λ i l n. omega arith) in
-    record { wired = λ _. subst (λ k. Wired last k slots (id + 1)) (sym q) w3; most = λ _. omega arith }
+    record {
+      wired = λ _. subst (λ k. Wired last k slots (id + 1)) (sym q) w3;
+      most = λ _. omega arith;
+      centred = λ _. subst (KeepsCentres _ nodes count last) (sym q) (centres-then (grown .centred) (more .centred));
+    }
 
-pub works-none : (before more : ℕ) (nodes wires : List ℕ) (n : ℕ) (w : Work) → (w .number ≡ 0 → ⊥) → Works before more nodes wires n w
-works-none before more nodes wires n w h = record { wired = λ e. absurd (h e); most = λ e. absurd (h e) }
+pub works-none : {p : ℕ} {old : List ℕ} (before more : ℕ) (nodes wires : List ℕ) (n : ℕ) (w : Work) → (w .number ≡ 0 → ⊥) → Works p old before more nodes wires n w
+works-none before more nodes wires n w h = record { wired = λ e. absurd (h e); most = λ e. absurd (h e); centred = λ e. absurd (h e) }
 
 -- ---- laws: the settings, and one cone forced
 
@@ -329,8 +334,8 @@ pub forced-no : (force : Bool) (s : Settings) (bytes : List ℕ) (count : ℕ) (
 unfolding forcedCone bootedOf
 forced-no force s bytes count c e = rw e refl
 
-pub boots-self : (bytes : List ℕ) (count : ℕ) (c : Cone) → IsStore bytes count → Stands count c → Boots count bytes (record { count = count; cone = c })
-boots-self bytes count c is stands = record { grown = record { store = is; least = omega arith; most = omega arith }; stands = stands }
+pub boots-self : {p : ℕ} (bytes : List ℕ) (count : ℕ) (c : Cone) → IsStore bytes count → Stands count c → Boots p bytes count bytes (record { count = count; cone = c })
+boots-self bytes count c is stands = record { grown = record { store = is; least = omega arith; most = omega arith; centred = centres-same }; stands = stands }
 
 -- ---- laws: the loop over the gates
 
@@ -378,8 +383,12 @@ walk-start s outputs gates nodes inputs wires = let e : inputs + 0 ≡ inputs = 
 pub wired-at : (nodes : List ℕ) (count : ℕ) (wires : List ℕ) (m n : ℕ) → m ≡ n → Wired nodes count wires m → Wired nodes count wires n
 wired-at nodes count wires m n e w = subst (Wired nodes count wires) e w
 
-pub works-done : (nodes wires : List ℕ) (inputs n i k : ℕ) (w : Work) → n ≤ i → i ≤ n → Wired nodes k wires (inputs + i) → k ≤ inputs + 6 * i → w .count ≡ k
-    → Works inputs (6 * n) nodes wires (inputs + n) w
-works-done nodes wires inputs n i k w a b wired most e =
+pub works-done : {p : ℕ} {old : List ℕ} (nodes wires : List ℕ) (inputs n i k : ℕ) (w : Work) → n ≤ i → i ≤ n → Wired nodes k wires (inputs + i) → k ≤ inputs + 6 * i → KeepsCentres p old inputs nodes k → w .count ≡ k
+    → Works p old inputs (6 * n) nodes wires (inputs + n) w
+works-done nodes wires inputs n i k w a b wired most c e =
     let same : inputs + i ≡ inputs + n = omega arith in
-    record { wired = λ _. subst (λ c. Wired nodes c wires (inputs + n)) (sym e) (wired-at nodes k wires (inputs + i) (inputs + n) same wired); most = λ _. omega arith }
+    record {
+      wired = λ _. subst (λ c. Wired nodes c wires (inputs + n)) (sym e) (wired-at nodes k wires (inputs + i) (inputs + n) same wired);
+      most = λ _. omega arith;
+      centred = λ _. subst (KeepsCentres _ _ inputs nodes) (sym e) c;
+    }

@@ -19,6 +19,7 @@ use Rattle.circuit.specs.Fits.{NameFits}
 use Rattle.cone.specs.declared.Cone.{Cone}
 use Rattle.cone.specs.View.{coneOf, IsCone}
 use Rattle.cone_wires.specs.Wires.{coneIn, IsPut}
+use Rattle.nodes.specs.Centre.{Centred, none-centred}
 use Rattle.nodes.specs.View.{given, storeOf, IsStore, no-nodes}
 use Rattle.cone.specs.Sources.{Stands, constant-stands, identity-stands}
 use Rattle.gates.specs.View.{conesIn}
@@ -40,6 +41,7 @@ pub record Constants (wires : List ℕ) : Type 0 where
 -- The first n inputs are the first nodes, and each is its own cone.
 pub record Started (s ps : List ℕ) (n : ℕ) (nodes wires : List ℕ) : Type 0 where
   pub wired : Wired nodes n wires n
+  pub centred : (p : ℕ) → Centred p nodes n
   pub state : stateOf nodes n wires n ≡ record { nodes = map Input (inputsIn s ps n); cones = tabulate n identity }
 
 -- ---- laws: the constants
@@ -60,7 +62,7 @@ module _ (wires between after : List ℕ) (off on : Cone) (p : IsPut wires 128 o
 
 -- ---- laws: the inputs
 
-pub started-none : (s ps nodes wires : List ℕ) → length nodes ≡ 26880 → Constants wires → Started s ps 0 nodes wires
+pub started-none : (s ps nodes wires : List ℕ) → length nodes ≡ 27552 → Constants wires → Started s ps 0 nodes wires
 unfolding stateOf storeOf conesIn inputsIn tabulate
 started-none s ps nodes wires long c =
     record {
@@ -71,6 +73,7 @@ started-none s ps nodes wires long c =
             at = at;
             constants = c .seen;
           };
+      centred = λ p. none-centred p nodes;
       state = refl;
     }
   where
@@ -105,6 +108,6 @@ module _ (s ps nodes wires : List ℕ) (i : ℕ) (h : Started s ps i nodes wires
       cones-own wires i c slots put (omega arith) ∙ ap₂ {C = List C.Cone} (λ l x. l ++ (x ∷ [])) (ap (λ st. st .cones) (h .state)) own
       ∙ sym (rw (add-one i) (tabulate-snoc i identity))
 
-  pub started-next : storeOf store (i + 1) ≡ storeOf nodes i ++ (Input (given (nameAt s ps (2 * i)) (getD ps (160 + i) 0)) ∷ []) → Started s ps (i + 1) store slots
+  pub started-next : ((p : ℕ) → Centred p store (i + 1)) → storeOf store (i + 1) ≡ storeOf nodes i ++ (Input (given (nameAt s ps (2 * i)) (getD ps (160 + i) 0)) ∷ []) → Started s ps (i + 1) store slots
   unfolding stateOf
-  started-next e = record { wired = next-wired; state = ap₂ {C = State} (λ ns cs. record { nodes = ns; cones = cs }) (next-nodes e) next-cones }
+  started-next z e = record { wired = next-wired; centred = z; state = ap₂ {C = State} (λ ns cs. record { nodes = ns; cones = cs }) (next-nodes e) next-cones }

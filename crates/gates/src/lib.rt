@@ -128,7 +128,7 @@ fn answers_of(gates: &[u8; 576], i: usize) -> [u8; 4]
 // map_gate: gate i, whose number among the nodes is id.
 fn map_gate(
     s: Settings,
-    nodes: &mut [u8; 26880],
+    nodes: &mut [u8; 27552],
     count: usize,
     wires: &[u8; 8580],
     gates: &[u8; 576],
@@ -137,7 +137,7 @@ fn map_gate(
 ) -> Mapped
     requires { ⌜ (inLimits s ≡ true) × ((count + 4 ≤ 672) × (Wired (now nodes) count (now wires) id × GoodGate (now gates) id i)) ⌝ }
     ensures is { λ r. ⌜ mappedOf (now (nodes .exit)) r ≡ mapGate s (storeOf (now (nodes .entry)) count) (map (coneAt (conesIn (now (wires .entry)) id)) (wiresIn (now (gates .entry)) i)) (answersIn (now (gates .entry)) i) ⌝ }
-    ensures stands { λ r. ⌜ Maps count 4 (now (nodes .exit)) r ⌝ }
+    ensures stands { λ r. ⌜ Maps (s .p) (now (nodes .entry)) count 4 (now (nodes .exit)) r ⌝ }
 {
     let l = slot_of(gates, 6 * i);
     let r = slot_of(gates, 6 * i + 1);
@@ -151,10 +151,10 @@ fn map_gate(
 }
 
 // The gate's own cone, bootstrapped where the policy or an output asks for it.
-fn forced(s: Settings, nodes: &mut [u8; 26880], count: usize, c: Cone, force: bool) -> Booted
+fn forced(s: Settings, nodes: &mut [u8; 27552], count: usize, c: Cone, force: bool) -> Booted
     requires { ⌜ (inLimits s ≡ true) × (IsStore (now nodes) count × ((count + 2 ≤ 672) × Stands count c)) ⌝ }
     ensures is { λ r. ⌜ bootedOf (now (nodes .exit)) r ≡ forcedCone force s (storeOf (now (nodes .entry)) count) (coneOf c) ⌝ }
-    ensures stands { λ r. ⌜ Boots count (now (nodes .exit)) r ⌝ }
+    ensures stands { λ r. ⌜ Boots (s .p) (now (nodes .entry)) count (now (nodes .exit)) r ⌝ }
 {
     if force {
         return bootstrap_cone(s, nodes, count, c);
@@ -226,7 +226,7 @@ fn refused(number: usize, line: usize, count: usize) -> Work
 // One gate: gate i is node id.
 fn map_one(
     s: Settings,
-    nodes: &mut [u8; 26880],
+    nodes: &mut [u8; 27552],
     count: usize,
     wires: &mut [u8; 8580],
     gates: &[u8; 576],
@@ -236,7 +236,7 @@ fn map_one(
 ) -> Work
     requires { ⌜ (inLimits s ≡ true) × ((count + 6 ≤ 672) × ((id < 128) × (Wired (now nodes) count (now wires) id × GoodGate (now gates) id i))) ⌝ }
     ensures is { λ r. ⌜ ((outputs : List Output) (inputs : ℕ) → force ≡ isForced s outputs id → stateRead (now (nodes .exit)) (now (wires .exit)) (id + 1) r ≡ atLine (id + 2) (mapNext s outputs (stateOf (now (nodes .entry)) count (now (wires .entry)) id) (gateIn (now (gates .entry)) inputs i))) ⌝ }
-    ensures works { λ r. ⌜ Works count 6 (now (nodes .exit)) (now (wires .exit)) (id + 1) r ⌝ }
+    ensures works { λ r. ⌜ Works (s .p) (now (nodes .entry)) count 6 (now (nodes .exit)) (now (wires .exit)) (id + 1) r ⌝ }
 {
     let m = map_gate(s, nodes, count, wires, gates, i, id);
     if m.number != 0 {
@@ -258,7 +258,7 @@ fn map_one(
 // The loop of map_once over the gates. Asks that the inputs are the first nodes, each in its slot.
 pub fn map_gates(
     s: Settings,
-    nodes: &mut [u8; 26880],
+    nodes: &mut [u8; 27552],
     wires: &mut [u8; 8580],
     gates: &[u8; 576],
     ports: &[usize; 192],
@@ -268,7 +268,7 @@ pub fn map_gates(
 ) -> Work
     requires { ⌜ (inLimits s ≡ true) × ((inputs ≤ 32) × (Wired (now nodes) inputs (now wires) inputs × (GoodGates (now gates) inputs n × ((length (now ports) ≡ 192) × (outs ≤ 32))))) ⌝ }
     ensures is { λ r. ⌜ ((text : List ℕ) → stateRead (now (nodes .exit)) (now (wires .exit)) (inputs + n) r ≡ mapGates s (outputsIn text (now (ports .entry)) outs) (stateOf (now (nodes .entry)) inputs (now (wires .entry)) inputs) (gatesIn (now (gates .entry)) inputs n)) ⌝ }
-    ensures works { λ r. ⌜ Works inputs (6 * n) (now (nodes .exit)) (now (wires .exit)) (inputs + n) r ⌝ }
+    ensures works { λ r. ⌜ Works (s .p) (now (nodes .entry)) inputs (6 * n) (now (nodes .exit)) (now (wires .exit)) (inputs + n) r ⌝ }
 {
     let mut k = inputs;
     let mut i = 0;

@@ -21,7 +21,7 @@ fn put_constants(wires: &mut [u8; 8580])
 // Input i: its name and its weight are node i, and slot i holds that node's cone.
 fn put_next(
     s: &[u8],
-    nodes: &mut [u8; 26880],
+    nodes: &mut [u8; 27552],
     wires: &mut [u8; 8580],
     ports: &[usize; 192],
     i: usize,
@@ -39,12 +39,12 @@ fn put_next(
 
 pub fn start(
     s: &[u8],
-    nodes: &mut [u8; 26880],
+    nodes: &mut [u8; 27552],
     wires: &mut [u8; 8580],
     ports: &[usize; 192],
     n: usize,
 )
-    requires { ⌜ (length (now nodes) ≡ 26880) × ((length (now wires) ≡ 8580) × Inputs (now s) (now ports) n) ⌝ }
+    requires { ⌜ (length (now nodes) ≡ 27552) × ((length (now wires) ≡ 8580) × Inputs (now s) (now ports) n) ⌝ }
     ensures { λ _. ⌜ Started (now (s .entry)) (now (ports .entry)) n (now (nodes .exit)) (now (wires .exit)) ⌝ }
 {
     put_constants(wires);

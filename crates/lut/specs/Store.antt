@@ -10,7 +10,7 @@ use lib.IntN.{natAbs}
 use lib.ListN.{length, drop}
 use Rattle.rules.specs.Builder.{Entries, opposed, completion, lastTried}
 use Rattle.rules.specs.CircuitText.{sameName}
-use Rattle.rules.specs.Network.{LutNode, Linear, Bootstrap, nodeAt, nodeDepth}
+use Rattle.rules.specs.Network.{LutNode, Linear, Bootstrap, nodeAt, nodeDepth, nodeCentre}
 use Rattle.rules.specs.Store.{sameNode, numberOf, intern, linearTerms}
 use Rattle.theorems.specs.Interned.{number-here, number-on, number-end, number-new}
 use Rattle.theorems.specs.Bits.{bit-at}
@@ -19,9 +19,10 @@ use Rattle.lut.specs.declared.Linked.{Linked}
 use Rattle.lut.specs.declared.Signal.the-variants as Signals
 use Rattle.nodes.specs.declared.record.Terms.{Terms}
 use Rattle.lut.specs.Order.{Arranged}
+use Rattle.nodes.specs.Centre.{Centred, centre-store, centre-is-store, put-centred}
 use Rattle.nodes.specs.Depth.{put-still, put-is-node, put-store, put-is-store}
 use Rattle.nodes.specs.Sums.{in-length, fine-linear, fine-more}
-use Rattle.nodes.specs.View.{GoodTerms, FineTerms, termsIn, Fine, IsStore, nodeIn, nodeOf, recordOf, recordAt, storeOf, putAt, depthIn, putDepth, IsNode, record-length, node-back, same-record, at-store, store-length}
+use Rattle.nodes.specs.View.{GoodTerms, FineTerms, termsIn, Fine, IsStore, nodeIn, nodeOf, recordOf, recordAt, storeOf, putAt, depthIn, putDepth, putCentre, IsNode, record-length, node-back, same-record, at-store, store-length}
 
 -- 38 bytes that are the record of a node that may stand at a place
 pub record IsRecord (i : ℕ) (r : List ℕ) : Type 0 where
@@ -29,16 +30,18 @@ pub record IsRecord (i : ℕ) (r : List ℕ) : Type 0 where
   pub fine : Fine i (nodeIn r)
   pub kept : r ≡ recordOf (nodeIn r)
 
--- One node more, with its depth.
-pub record Adds (n : LutNode) (bytes : List ℕ) (count : ℕ) (after : List ℕ) : Type 0 where
+-- One node more, with its depth and the centre c: with a P that gives its table this centre, all keep theirs.
+pub record Adds (c : ℕ) (n : LutNode) (bytes : List ℕ) (count : ℕ) (after : List ℕ) : Type 0 where
   pub store : storeOf after (count + 1) ≡ storeOf bytes count ++ (n ∷ [])
   pub still : IsStore after (count + 1)
+  pub centred : (p : ℕ) → c ≡ nodeCentre p n → Centred p bytes count → Centred p after (count + 1)
 
--- The node is among the nodes or was appended, and its number is told.
-pub record Interns (n : LutNode) (bytes : List ℕ) (count : ℕ) (after : List ℕ) (r : Linked) : Type 0 where
+-- The node is among the nodes or was appended with the centre c, and its number is told.
+pub record Interns (c : ℕ) (n : LutNode) (bytes : List ℕ) (count : ℕ) (after : List ℕ) (r : Linked) : Type 0 where
   pub store : storeOf after (r .count) ≡ intern n (storeOf bytes count)
   pub signal : r .signal ≡ Signals.Node (numberOf n (intern n (storeOf bytes count)))
   pub still : IsStore after (r .count)
+  pub centred : (p : ℕ) → c ≡ nodeCentre p n → Centred p bytes count → Centred p after (r .count)
 
 -- ---- laws
 
@@ -73,15 +76,15 @@ module _ (bytes : List ℕ) (count : ℕ) (r : List ℕ) (s : IsStore bytes coun
   find-end i h = number-end (nodeIn r) (storeOf bytes count) i (rw (store-length bytes count) h)
 
   -- it was found, or is put at the end
-  module _ (at : ℕ) (e : at ≡ numberOf (nodeIn r) (storeOf bytes count)) where
-    pub interns-old : at < count → Interns (nodeIn r) bytes count bytes (record { count = count; signal = Signals.Node at })
+  module _ (c at : ℕ) (e : at ≡ numberOf (nodeIn r) (storeOf bytes count)) where
+    pub interns-old : at < count → Interns c (nodeIn r) bytes count bytes (record { count = count; signal = Signals.Node at })
     interns-old h =
         let l : numberOf (nodeIn r) (storeOf bytes count) < length (storeOf bytes count) = rw (store-length bytes count, ← e) h in
         let i = intern-old (nodeIn r) (storeOf bytes count) l in
-        record { store = sym i; signal = ap Signals.Node (rw i e); still = s }
+        record { store = sym i; signal = ap Signals.Node (rw i e); still = s; centred = λ p f z. z }
 
-    pub interns-new : count ≤ at → (after : List ℕ) → Adds (nodeIn r) bytes count after
-        → Interns (nodeIn r) bytes count after (record { count = count + 1; signal = Signals.Node count })
+    pub interns-new : count ≤ at → (after : List ℕ) → Adds c (nodeIn r) bytes count after
+        → Interns c (nodeIn r) bytes count after (record { count = count + 1; signal = Signals.Node count })
     interns-new h after a =
         let l : length (storeOf bytes count) ≤ numberOf (nodeIn r) (storeOf bytes count) = rw (store-length bytes count, ← e) h in
         let i = intern-new (nodeIn r) (storeOf bytes count) l in
@@ -89,21 +92,35 @@ module _ (bytes : List ℕ) (count : ℕ) (r : List ℕ) (s : IsStore bytes coun
           store = rw i (a .store);
           signal = ap Signals.Node (rw i (sym (number-new (nodeIn r) (storeOf bytes count) l ∙ store-length bytes count)));
           still = a .still;
+          centred = a .centred;
         }
 
-  -- its record put behind the others, then its depth
-  pub adds-node : count < 672 → (put after : List ℕ) → put ≡ putAt bytes count r → after ≡ putDepth put count (nodeDepth (depthIn put) (nodeOf put count))
-      → Adds (nodeIn r) bytes count after
-  adds-node h put after e f =
-      let g = subst (λ b. after ≡ putDepth b count (nodeDepth (depthIn b) (nodeOf b count))) e f in
-      record { store = put-store bytes count r s h (q .size) after g; still = put-is-store bytes count r s h (q .size) after g (q .fine) (q .kept) }
+  -- its record put behind the others, then its depth, then its centre
+  module _ (h : count < 672) (put deep : List ℕ) (e : put ≡ putAt bytes count r) (f : deep ≡ putDepth put count (nodeDepth (depthIn put) (nodeOf put count))) where
+    deepened : deep ≡ putDepth (putAt bytes count r) count (nodeDepth (depthIn (putAt bytes count r)) (nodeOf (putAt bytes count r) count))
+    deepened = subst (λ b. deep ≡ putDepth b count (nodeDepth (depthIn b) (nodeOf b count))) e f
+
+    with-depth : IsStore deep (count + 1)
+    with-depth = put-is-store bytes count r s h (q .size) deep deepened (q .fine) (q .kept)
+
+    pub deep-long : length deep ≡ 27552
+    deep-long = with-depth .long
+
+    pub adds-node : (c : ℕ) (after : List ℕ) → after ≡ putCentre deep count c → Adds c (nodeIn r) bytes count after
+    adds-node c after g =
+        subst (Adds c (nodeIn r) bytes count) (sym g)
+        (record {
+          store = centre-store deep count c ∙ put-store bytes count r s h (q .size) deep deepened;
+          still = centre-is-store deep count c with-depth;
+          centred = λ p z. put-centred bytes count r s h (q .size) deep deepened deep-long c p z;
+        })
 
   pub put-ready : count < 672 → (put : List ℕ) → put ≡ putAt bytes count r → IsStore put count × IsNode put count
   put-ready h put e = rw e (put-still bytes count r s h (q .size), put-is-node bytes count r s h (q .size) (q .fine) (q .kept))
 
 -- a node that is added, by its record
-pub adds-record : (bytes : List ℕ) (count : ℕ) (n : LutNode) (r after : List ℕ) → Fine count n → r ≡ recordOf n → Adds (nodeIn r) bytes count after → Adds n bytes count after
-adds-record bytes count n r after f e a = subst (λ m. Adds m bytes count after) (is-record count n r f e .1) a
+pub adds-record : (bytes : List ℕ) (count : ℕ) (n : LutNode) (r after : List ℕ) → Fine count n → r ≡ recordOf n → {c : ℕ} → Adds c (nodeIn r) bytes count after → Adds c n bytes count after
+adds-record bytes count n r after f e {c} a = subst (λ m. Adds c m bytes count after) (is-record count n r f e .1) a
 
 -- ---- laws: a sum, a bootstrap
 
@@ -126,9 +143,10 @@ summed count many t s g h a e f =
       is = ap₂ Linear (a .same) (a .are);
     }
 
--- an interned record, by its node
-pub interns-node : (n m : LutNode) (bytes : List ℕ) (count : ℕ) (after : List ℕ) (r : Linked) → Interns n bytes count after r → n ≡ m → Interns m bytes count after r
-interns-node n m bytes count after r i e = subst (λ x. Interns x bytes count after r) e i
+-- an interned record, by its node and its centre
+pub interns-node : (n m : LutNode) (bytes : List ℕ) (count : ℕ) (after : List ℕ) (r : Linked) {c d : ℕ} → Interns c n bytes count after r → n ≡ m → c ≡ d
+    → Interns d m bytes count after r
+interns-node n m bytes count after r {c} i e f = subst (λ d. Interns d m bytes count after r) f (subst (λ x. Interns c x bytes count after r) e i)
 
 -- whichever filling was tried last, it has a bit for each entry
 tried-completes : (p : ℕ) (known : List ℕ) → Entries known → Completes known (lastTried p known)

@@ -19,7 +19,7 @@ pub struct Aligned {
 }
 
 // How many terms a node has; 0 where it is no sum.
-fn term_count(nodes: &[u8; 26880], i: usize) -> usize
+fn term_count(nodes: &[u8; 27552], i: usize) -> usize
     requires { ⌜ IsNode (now nodes) i ⌝ }
     ensures { λ r. ⌜ r ≡ length (termsOf (nodeOf (now (nodes .entry)) i)) ⌝ }
 {
@@ -30,7 +30,7 @@ fn term_count(nodes: &[u8; 26880], i: usize) -> usize
 }
 
 // Where a source stands among the n terms of node i; n where it does not.
-fn term_place(nodes: &[u8; 26880], i: usize, n: usize, source: usize) -> usize
+fn term_place(nodes: &[u8; 27552], i: usize, n: usize, source: usize) -> usize
     requires { ⌜ IsNode (now nodes) i × (n ≡ length (termsOf (nodeOf (now nodes) i))) ⌝ }
     ensures { λ r. ⌜ r ≡ placeOf (termsOf (nodeOf (now (nodes .entry)) i)) source ⌝ }
 {
@@ -45,7 +45,7 @@ fn term_place(nodes: &[u8; 26880], i: usize, n: usize, source: usize) -> usize
 }
 
 // Node i as a form over a support.
-fn align(nodes: &[u8; 26880], i: usize, support: &[usize]) -> Aligned
+fn align(nodes: &[u8; 27552], i: usize, support: &[usize]) -> Aligned
     requires { ⌜ IsNode (now nodes) i × (length (now support) ≤ 11) ⌝ }
     ensures { λ r. ⌜ AlignedTo (now (support .entry)) (termsOf (nodeOf (now (nodes .entry)) i)) r ⌝ }
 {
@@ -67,7 +67,7 @@ fn align(nodes: &[u8; 26880], i: usize, support: &[usize]) -> Aligned
 }
 
 // What bootstrap i takes, as a form over a support; not ok where node i is no bootstrap. All nodes up to i stand in the store.
-pub fn form_at(nodes: &[u8; 26880], i: usize, support: &[usize]) -> Aligned
+pub fn form_at(nodes: &[u8; 27552], i: usize, support: &[usize]) -> Aligned
     requires { ⌜ NodesTo (now nodes) i × (length (now support) ≤ 11) ⌝ }
     ensures { λ r. ⌜ FormOf (now (support .entry)) (formTerms (now (nodes .entry)) (nodeOf (now (nodes .entry)) i)) r ⌝ }
 {

@@ -17,7 +17,7 @@ use nodes::record;
 use nodes::record::Terms;
 
 // Whether node i is a bootstrap of the node with this record.
-fn takes(nodes: &[u8; 26880], i: usize, bytes: &[u8; 38]) -> bool
+fn takes(nodes: &[u8; 27552], i: usize, bytes: &[u8; 38]) -> bool
     requires { ⌜ IsNode (now nodes) i × (length (now bytes) ≡ 38) ⌝ }
     ensures { λ r. ⌜ r ≡ takesRecord (now (bytes .entry)) (now (nodes .entry)) (nodeOf (now (nodes .entry)) i) ⌝ }
 {
@@ -29,7 +29,7 @@ fn takes(nodes: &[u8; 26880], i: usize, bytes: &[u8; 38]) -> bool
 }
 
 // Whether a bootstrap takes the node with this record.
-fn is_taken(nodes: &[u8; 26880], count: usize, bytes: &[u8; 38]) -> bool
+fn is_taken(nodes: &[u8; 27552], count: usize, bytes: &[u8; 38]) -> bool
     requires { ⌜ IsStore (now nodes) count × IsRecord count (now bytes) ⌝ }
     ensures { λ r. ⌜ r ≡ hasBootstrap (storeOf (now (nodes .entry)) count) (nodeIn (now (bytes .entry))) ⌝ }
 {
@@ -44,7 +44,7 @@ fn is_taken(nodes: &[u8; 26880], count: usize, bytes: &[u8; 38]) -> bool
 }
 
 // has_bootstrap, of the sum with these terms (there are many tables a sum).
-pub fn has_bootstrap(nodes: &[u8; 26880], count: usize, t: Terms) -> bool
+pub fn has_bootstrap(nodes: &[u8; 27552], count: usize, t: Terms) -> bool
     requires { ⌜ IsStore (now nodes) count × GoodTerms count t ⌝ }
     ensures { λ r. ⌜ r ≡ hasBootstrap (storeOf (now (nodes .entry)) count) (Linear (t .constant) (linearTerms true (termsIn t))) ⌝ }
 {

@@ -32,6 +32,7 @@ pub mod PrunedPasses
 pub mod PrunedRuns
 pub mod Pruned
 pub mod PrunedDepths
+pub mod PrunedCentres
 pub mod TextLines
 pub mod TextReadBack
 pub mod TextLength

@@ -14,7 +14,7 @@ use Rattle.rules.specs.declared.Settings.{Settings}
 use Rattle.rules.specs.Form.{Reading, Good, Refused}
 use Rattle.rules.specs.CircuitText.{readCircuit}
 use Rattle.rules.specs.Mapper.{isBasic, usedSettings, andThen, pruned, mapCircuit, answerWith, mapper}
-use Rattle.rules.specs.Network.{LutNode, Network, depth, stats}
+use Rattle.rules.specs.Network.{LutNode, Network, nodeAt, depth, nodeCentre, stats}
 use Rattle.rules.specs.NetworkText.{admissionOf, admission}
 use Rattle.rules.specs.Outcome.{Answer, Outcome, outcome, written, refused}
 use Rattle.rules.specs.Service.{answerText, mapperAnswer}
@@ -25,8 +25,9 @@ use Rattle.theorems.specs.Depths.{depth-stays}
 use Rattle.theorems.specs.EarlierNodes.{Ordered, pass-ordered}
 use Rattle.theorems.specs.SoundCircuits.{read-sound}
 use Rattle.mapped.specs.Agrees.{Delivered, delivered, text-agrees}
-use Rattle.mapped.specs.Statements.{MapsTo, MappedAgrees, MapperAgrees, MappedFits, DepthKept, MappedDepth, MapperDepth, RefusedKeeps, LaterKept, EarlierBytes, ServiceAnswer, Whole, is-written, is-unreadable, is-refused, is-over, is-too-long, MapperWhole, CapUnmet, TwoSourcesRefused}
+use Rattle.mapped.specs.Statements.{MapsTo, MappedAgrees, MapperAgrees, MappedFits, DepthKept, MappedDepth, MapperDepth, MappedCentre, MapperCentre, RefusedKeeps, LaterKept, EarlierBytes, ServiceAnswer, Whole, is-written, is-unreadable, is-refused, is-over, is-too-long, MapperWhole, CapUnmet, TwoSourcesRefused}
 use Rattle.mapped.specs.Whole.{used-span, Comes, comes, whole}
+use Rattle.mapped.specs.PrunedCentres.{pruning-keeps-centre}
 use Rattle.mapped.specs.PrunedDepths.{pruning-keeps-depth}
 use Rattle.mapped.specs.SharedDepths.{sharing-keeps-depth}
 use Rattle.mapped.specs.Store.{netFor}
@@ -126,6 +127,35 @@ network-depth text w m =
 
 pub mapped-depth : MapperDepth
 mapped-depth text buffer n e = let t = written-text text buffer n e in subst (MappedDepth text) (t .2) (network-depth text (t .0) (t .1))
+
+network-centre : (text : List ℕ) (w : Network) → MapsTo text w → MappedCentre text (networkText w)
+unfolding admission admissionOf pruned stats
+network-centre text w m =
+    record {
+      circuit = c .circuit;
+      read = c .read;
+      state = c .state;
+      gates = c .gates;
+      done = c .done;
+      outputs = c .outputs;
+      network = w;
+      readBack = admitted-read (networkText w) w (d .readBack);
+      recounted = λ i l h.
+          ap (λ (v : Network). nodeCentre (v .p) (nodeAt (v .nodes) (renumbered (live (c .done .nodes) (c .done .outputs)) i))) (sym (c .is))
+          ∙ pruning-keeps-centre (usedSettings (c .circuit .settings) .p) (c .done .nodes) (c .done .outputs) i l h;
+      stats = stats w;
+      admits = ap admissionOf (d .readBack);
+      shown = (refl, refl, refl);
+    }
+  where
+    c : Comes text w
+    c = comes text w m
+
+    d : Delivered text (c .circuit) w
+    d = mapped-delivered text w m
+
+pub mapped-centre : MapperCentre
+mapped-centre text buffer n e = let t = written-text text buffer n e in subst (MappedCentre text) (t .2) (network-centre text (t .0) (t .1))
 
 pub cap-unmet : (text : List ℕ) → CapUnmet text
 cap-unmet text = record { attempts = attempts text; idle = mapper-same text }

@@ -28,6 +28,7 @@ use Rattle.circuit.specs.View.{gatesIn, inputIn, inputsIn, outputsIn, circuitOf
 use Rattle.gates.specs.declared.Work.{Work}
 use Rattle.gates.specs.Wired.{SlotIn, stateOf}
 use Rattle.gates.specs.Gates.{GoodGates}
+use Rattle.bootstrap.specs.View.{KeepsCentres}
 use Rattle.outputs.specs.Outputs.{PortIn, GoodPorts, outputsRead, Done}
 use Rattle.gates.specs.Start.{Inputs, Started}
 use Rattle.mapper.specs.Once.{outputsAfter, mapOnce, doneRead}
@@ -125,21 +126,22 @@ module _ (s gs ps : List ℕ) (c : Circuit) (u : Settings) (eu : u ≡ usedSetti
   unfolding concluded doneRead andThen closing outputsRead
   steps-done n = sym (rw (steps-are, eq-eqb (w .number) 0 n) refl)
 
-  pub steps-finishable : Read s gs ps c → Done ps (c .outs) after ports (w .count) → w .number ≡ 0 → Finishable u s ports (c .outs) after (w .count)
+  pub steps-finishable : Read s gs ps c → Done ps (c .outs) after ports (w .count) × KeepsCentres (u .p) nodes (c .inputs) after (w .count) → w .number ≡ 0 → Finishable u s ports (c .outs) after (w .count)
   unfolding andThen
   steps-finishable r d n =
       record {
-        store = d .store;
-        good = d .good;
+        store = d .0 .store;
+        centred = d .1 .on (h .centred (u .p));
+        good = d .0 .good;
         name = λ i l. name i l;
         short = λ v q. mapped-fits s .short v (ap (λ x. andThen x mapCircuit) (r .is) ∙ sym (steps-done n) ∙ q);
       }
     where
       begins : (i : ℕ) → getD ports (64 + 3 * i) 0 ≡ getD ps (64 + 3 * i) 0
-      begins i = d .kept (64 + 3 * i) (λ j b q. omega arith)
+      begins i = d .0 .kept (64 + 3 * i) (λ j b q. omega arith)
 
       ends : (i : ℕ) → getD ports (64 + 3 * i + 1) 0 ≡ getD ps (64 + 3 * i + 1) 0
-      ends i = d .kept (64 + 3 * i + 1) (λ j b q. omega arith)
+      ends i = d .0 .kept (64 + 3 * i + 1) (λ j b q. omega arith)
 
       name : (i : ℕ) → i < c .outs → (getD ports (64 + 3 * i) 0 ≤ getD ports (64 + 3 * i + 1) 0) × (getD ports (64 + 3 * i + 1) 0 ≤ length s)
       name i l =

@@ -28,7 +28,7 @@ fn map_circuit(
 {
     let given = c.settings;
     let settings = used(given);
-    let mut nodes = [0u8; 26880];
+    let mut nodes = [0u8; 27552];
     let mut wires = [0u8; 8580];
     start(s, &mut nodes, &mut wires, ports, c.inputs);
     let w = map_once(

@@ -9,6 +9,7 @@ ghost use mathlib.Core.List.{List};
 ghost use Prim.Native.Nat.{ℕ, _+_, _≤_};
 ghost use Rattle.rules.specs.CircuitText.{inLimits};
 ghost use Rattle.circuit.specs.View.{gatesIn, outputsIn};
+ghost use Rattle.bootstrap.specs.View.{KeepsCentres};
 ghost use Rattle.gates.specs.Wired.{Wired, stateOf};
 ghost use Rattle.gates.specs.Gates.{GoodGates};
 ghost use Rattle.outputs.specs.Outputs.{GoodPorts, Done};
@@ -17,7 +18,7 @@ ghost use Rattle.mapper.specs.Once.{mapOnce, doneRead};
 // Asks that the inputs are the first nodes, each in its slot.
 pub fn map_once(
     s: Settings,
-    nodes: &mut [u8; 26880],
+    nodes: &mut [u8; 27552],
     wires: &mut [u8; 8580],
     gates: &[u8; 576],
     ports: &mut [usize; 192],
@@ -27,7 +28,7 @@ pub fn map_once(
 ) -> Work
     requires { ⌜ (inLimits s ≡ true) × ((inputs ≤ 32) × (Wired (now nodes) inputs (now wires) inputs × (GoodGates (now gates) inputs n × GoodPorts (now ports) (inputs + n) outs))) ⌝ }
     ensures is { λ r. ⌜ ((text : List ℕ) → doneRead text (now (nodes .exit)) (now (ports .exit)) outs r ≡ mapOnce s (outputsIn text (now (ports .entry)) outs) (stateOf (now (nodes .entry)) inputs (now (wires .entry)) inputs) (gatesIn (now (gates .entry)) inputs n)) ⌝ }
-    ensures done { λ r. ⌜ (r .number ≡ 0 → Done (now (ports .entry)) outs (now (nodes .exit)) (now (ports .exit)) (r .count)) ⌝ }
+    ensures done { λ r. ⌜ (r .number ≡ 0 → Done (now (ports .entry)) outs (now (nodes .exit)) (now (ports .exit)) (r .count) × KeepsCentres (s .p) (now (nodes .entry)) inputs (now (nodes .exit)) (r .count)) ⌝ }
 {
     let w = map_gates(s, nodes, wires, gates, ports, inputs, n, outs);
     if w.number != 0 {

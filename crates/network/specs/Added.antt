@@ -1,11 +1,11 @@
 -- A line with no fault added: the arrays stand for the lines with it.
-use mathlib.Core.Path.{_≡_, refl, sym, ap, _∙_}
-use mathlib.Core.Bool.{Bool, true, false, not, _&&_}
+use mathlib.Core.Path.{_≡_, refl, sym, ap, subst, _∙_}
+use mathlib.Core.Bool.{Bool, true, false, not, _&&_, true≢false}
 use mathlib.Core.List.{List, [], _∷_, _++_}
 use mathlib.Core.Option.{Option, none, some, Option·some-injective, Option·none-ne-some}
 use Prim.Native.Nat.{ℕ, _+_, _*_, _-_, _<_, _≤_}
 use native.Mathlib.Omega.{arith}
-use borrow.Author.Tests.{ne-eqb, eqb-true}
+use borrow.Author.Tests.{eq-eqb, ne-eqb, eqb-true}
 use lib.Dec.{leb, eqb, leb→le}
 use lib.ListN.{length, take, drop}
 use Rattle.laws.specs.Tabulate.{tabulate-length}
@@ -15,13 +15,15 @@ use Rattle.rules.specs.declared.Wire.{Wire}
 use Rattle.rules.specs.Builder.{tableLimits}
 use Rattle.rules.specs.Circuit.{Given, Output}
 use Rattle.rules.specs.CircuitText.{noNode}
-use Rattle.rules.specs.Network.{LutNode, Input, Linear, Bootstrap, isInput}
+use Rattle.rules.specs.Network.{LutNode, Input, Linear, Bootstrap, isInput, nodeCentre}
 use Rattle.rules.specs.NetworkText as N
 use Rattle.rules.specs.NetworkText.{Net, NetworkLine, NetLine, NodeLine, OutLine, networkLine, allInputs, settingsOf, withNetworkLine}
+use Rattle.rules.specs.Rotation.{centreOf}
 use Rattle.text.specs.Name.{Named}
 use Rattle.theorems.specs.LineBits.{WireBit, LineBits, line-bits}
 use Rattle.lut.specs.Ports.{portOutput}
 use Rattle.lut.specs.Store.{Adds}
+use Rattle.nodes.specs.Centre.{Centred, none-centred}
 use Rattle.nodes.specs.View.{storeOf, store-length}
 use Rattle.network_text.specs.Lines.{lineIn, lineOf, goodLine, Within, LineRead}
 use Rattle.network_text.specs.Terms.{termsOf}
@@ -32,7 +34,7 @@ use Rattle.network_text.specs.declared.sum.Lin.{Lin}
 use Rattle.network.specs.Numbers.{Says}
 use Rattle.network.specs.Put.{signalOf, withPort, withNet, withNode, withInput, withOutput, Follows}
 use Rattle.network_bounds.specs.Table.{table-length}
-use Rattle.network.specs.Verdict.{refusal, good-same, net-limits, inputs-only, sum-sound, out-known}
+use Rattle.network.specs.Verdict.{refusal, good-same, net-limits, net-first, node-started, inputs-only, sum-sound, out-known}
 use Rattle.network.specs.View.{outputsOf, netOf, prefixOf, Sound, Holds}
 use Rattle.network_judge.specs.declared.Header.{Header}
 use Rattle.network.specs.NodeAdded.{holds-node, holds-input}
@@ -88,6 +90,7 @@ module _ (judge : Bool) {text nodes ports : List ℕ} {h : Header} (k : Holds te
       → Added text nodes ports h (NetLine (record { p = p; m = m; norm = n })) (withNet h p m n) nodes ports
   unfolding withNet prefixOf withNetworkLine
   net-added p m n e =
+      let unstarted : h .p ≡ 0 = eqb-true (h .p) 0 (holds-says k .unstarted ∙ ap not (net-first judge (prefixOf text nodes ports h) (record { p = p; m = m; norm = n }) e)) in
       let t = net-limits judge (prefixOf text nodes ports h) (record { p = p; m = m; norm = n }) e in
       record {
         prefix = λ i. ap (λ (x : Option Net). record { net = x; nodes = storeOf nodes (h .count); outputs = outputsOf text ports (h .outputs) }) (net-some (withNet h p m n) (limits-positive p m t));
@@ -102,42 +105,49 @@ module _ (judge : Bool) {text nodes ports : List ℕ} {h : Header} (k : Holds te
           name = k .name;
           signal = k .signal;
           limits = λ _. t;
+          unstarted = λ z. absurd (limits-positive p m t z);
+          centred = subst (Centred p nodes) (sym (k .unstarted unstarted)) (none-centred p nodes);
         };
       }
 
-  node-prefix : (n : LutNode) (after : List ℕ) → Adds n nodes (h .count) after → (s : Header) → netOf s ≡ netOf h → s .count ≡ h .count + 1 → s .outputs ≡ h .outputs
+  -- a node stands behind the `net` line
+  has-net : (n : LutNode) → refusal judge (prefixOf text nodes ports h) (some (NodeLine n)) ≡ 0 → h .p ≡ 0 → ⊥
+  has-net n e z = true≢false (sym (eq-eqb (h .p) 0 z) ∙ holds-says k .unstarted ∙ ap not (node-started judge (prefixOf text nodes ports h) n e))
+
+  node-prefix : (n : LutNode) (after : List ℕ) → Adds (nodeCentre (h .p) n) n nodes (h .count) after → (s : Header) → netOf s ≡ netOf h → s .count ≡ h .count + 1 → s .outputs ≡ h .outputs
       → (i : ℕ) → prefixOf text after ports s ≡ withNetworkLine i (prefixOf text nodes ports h) (NodeLine n)
   unfolding prefixOf withNetworkLine
   node-prefix n after a s e f g i =
       rw (e, f, g) (ap (λ (x : List LutNode). record { net = netOf h; nodes = x; outputs = outputsOf text ports (h .outputs) }) (a .store))
 
-  in-added : (n : Given) (after : List ℕ) → Adds (Input n) nodes (h .count) after → refusal judge (prefixOf text nodes ports h) (some (NodeLine (Input n))) ≡ 0
+  in-added : (n : Given) (after : List ℕ) → Adds 0 (Input n) nodes (h .count) after → refusal judge (prefixOf text nodes ports h) (some (NodeLine (Input n))) ≡ 0
       → Added text nodes ports h (NodeLine (Input n)) (withInput h) after ports
-  unfolding isInput Sound netOf allInputs prefixOf withInput
+  unfolding isInput Sound netOf allInputs prefixOf withInput nodeCentre
   in-added n after a e =
       let o = inputs-only judge (prefixOf text nodes ports h) n e in
       let l = store-length nodes (h .count) in
       let all : h .inputs ≡ h .count = k .inputs ∙ eqb-true _ _ (o .0) ∙ l in
       record {
         prefix = node-prefix (Input n) after a (withInput h) refl refl refl;
-        holds = holds-input k after (Input n) a tt refl all (omega (arith, o .1));
+        holds = holds-input k (has-net (Input n) e) after (Input n) a tt refl all (omega (arith, o .1));
       }
 
-  sum-added : (v : Lin) (after : List ℕ) → Adds (Linear (v .constant) (termsOf v)) nodes (h .count) after
+  sum-added : (v : Lin) (after : List ℕ) → Adds 0 (Linear (v .constant) (termsOf v)) nodes (h .count) after
       → refusal judge (prefixOf text nodes ports h) (some (NodeLine (Linear (v .constant) (termsOf v)))) ≡ 0
       → Added text nodes ports h (NodeLine (Linear (v .constant) (termsOf v))) (withNode h) after ports
-  unfolding isInput Sound netOf prefixOf withNode
+  unfolding isInput Sound netOf prefixOf withNode nodeCentre
   sum-added v after a e =
       record {
         prefix = node-prefix (Linear (v .constant) (termsOf v)) after a (withNode h) refl refl refl;
-        holds = holds-node k after (Linear (v .constant) (termsOf v)) a (sum-sound judge (prefixOf text nodes ports h) (v .constant) (termsOf v) e) refl;
+        holds = holds-node k (has-net (Linear (v .constant) (termsOf v)) e) after (Linear (v .constant) (termsOf v)) a (sum-sound judge (prefixOf text nodes ports h) (v .constant) (termsOf v) e) refl;
       }
 
-  boot-added : (i : ℕ) (table after : List ℕ) → 1 ≤ length table → Adds (Bootstrap i table) nodes (h .count) after
+  boot-added : (i : ℕ) (table after : List ℕ) → 1 ≤ length table → Adds (centreOf (h .p) table) (Bootstrap i table) nodes (h .count) after
+      → refusal judge (prefixOf text nodes ports h) (some (NodeLine (Bootstrap i table))) ≡ 0
       → Added text nodes ports h (NodeLine (Bootstrap i table)) (withNode h) after ports
-  unfolding isInput Sound netOf withNode
-  boot-added i table after t a =
-      record { prefix = node-prefix (Bootstrap i table) after a (withNode h) refl refl refl; holds = holds-node k after (Bootstrap i table) a t refl }
+  unfolding isInput Sound netOf withNode nodeCentre
+  boot-added i table after t a e =
+      record { prefix = node-prefix (Bootstrap i table) after a (withNode h) refl refl refl; holds = holds-node k (has-net (Bootstrap i table) e) after (Bootstrap i table) a t refl }
 
   out-added : (at end a e : ℕ) (u : Wire) → (at ≤ end) × (end ≤ length text) → Named (length (take (end - at) (drop at text))) a e → WireBit u
       → refusal judge (prefixOf text nodes ports h) (some (OutLine (record { name = take (e - a) (drop a (take (end - at) (drop at text))); wire = u }))) ≡ 0
@@ -177,7 +187,7 @@ module _ (judge : Bool) {text nodes ports : List ℕ} {h : Header} (k : Holds te
       rw (← d, f .0, f .2) (sum-added v nodes₁ (f .1) (rw (← d) at z))
   line-added at end o (Boot j a t) v m s nodes₁ ports₁ i b z e f =
       let d = Option·some-injective _ _ e in
-      rw (← d, f .0, f .2) (boot-added j _ nodes₁ (rw (table-length i) (i .some)) (f .1))
+      rw (← d, f .0, f .2) (boot-added j _ nodes₁ (rw (table-length i) (i .some)) (f .1) (rw (← d) at z))
   line-added at end o (Out a t u) v m s nodes₁ ports₁ i b z e f =
       let d = Option·some-injective _ _ e in
       rw (← d, f .0, f .1, f .2) (out-added at end a t u o i (rw (← d) at b) (rw (← d) at z))

@@ -1,5 +1,5 @@
 -- The store with one node more: what holds of the arrays.
-use mathlib.Core.Path.{_≡_, sym, ap, _∙_}
+use mathlib.Core.Path.{_≡_, refl, sym, ap, _∙_}
 use mathlib.Core.Bool.{true, false}
 use mathlib.Core.List.{List, [], _∷_}
 use mathlib.Core.Logic.{⊎-elim}
@@ -9,7 +9,7 @@ use borrow.Author.Tests.{lt-ltb, le-ltb}
 use Rattle.laws.specs.Tabulate.{tabulate-same}
 use Rattle.laws.specs.Test.{if_then_else_, lt-or-le}
 use Rattle.rules.specs.Network as W
-use Rattle.rules.specs.Network.{LutNode, isInput, nodeAt}
+use Rattle.rules.specs.Network.{LutNode, isInput, nodeAt, nodeCentre}
 use Rattle.theorems.specs.Counts.{count-snoc, count-most}
 use Rattle.theorems.specs.NodesAt.{node-before, node-next}
 use Rattle.nodes.specs.View.{nodeOf, storeOf, at-store, store-length}
@@ -18,7 +18,7 @@ use Rattle.network.specs.Put.{withNode, withInput}
 use Rattle.network.specs.View.{Sound, IsSignal, Holds}
 use Rattle.network_judge.specs.declared.Header.{Header}
 
-module _ (nodes after : List ℕ) (count : ℕ) (n : LutNode) (k : Adds n nodes count after) where
+module _ (nodes after : List ℕ) (count : ℕ) {c : ℕ} (n : LutNode) (k : Adds c n nodes count after) where
   old-node : (i : ℕ) → i < count → nodeOf after i ≡ nodeOf nodes i
   old-node i h =
       sym (at-store after i (count + 1) (omega arith))
@@ -46,7 +46,8 @@ module _ (nodes after : List ℕ) (count : ℕ) (n : LutNode) (k : Adds n nodes 
 signal-more : {count n : ℕ} → IsSignal count n → IsSignal (count + 1) n
 signal-more s = record { most = s .most; node = λ h. omega (arith, s .node h) }
 
-module _ {text nodes ports : List ℕ} {h : Header} (k : Holds text nodes ports h) (after : List ℕ) (n : LutNode) (a : Adds n nodes (h .count) after) (s : Sound (storeOf nodes (h .count)) n) where
+module _ {text nodes ports : List ℕ} {h : Header} (k : Holds text nodes ports h) (b : h .p ≡ 0 → ⊥) (after : List ℕ) (n : LutNode)
+    (a : Adds (nodeCentre (h .p) n) n nodes (h .count) after) (s : Sound (storeOf nodes (h .count)) n) where
   input-count : W.count isInput (storeOf after (h .count + 1)) ≡ h .inputs + (if isInput n then 1 else 0)
   input-count = ap (W.count isInput) (a .store) ∙ count-snoc isInput (storeOf nodes (h .count)) n ∙ ap (λ m. m + (if isInput n then 1 else 0)) (sym (k .inputs))
 
@@ -69,6 +70,8 @@ module _ {text nodes ports : List ℕ} {h : Header} (k : Holds text nodes ports 
         name = k .name;
         signal = λ i l. signal-more (k .signal i l);
         limits = k .limits;
+        unstarted = λ z. absurd (b z);
+        centred = a .centred (h .p) refl (k .centred);
       }
 
   pub holds-input : isInput n ≡ true → h .inputs ≡ h .count → h .count < 32 → Holds text after ports (withInput h)
@@ -87,4 +90,6 @@ module _ {text nodes ports : List ℕ} {h : Header} (k : Holds text nodes ports 
         name = k .name;
         signal = λ i l. signal-more (k .signal i l);
         limits = k .limits;
+        unstarted = λ z. absurd (b z);
+        centred = a .centred (h .p) refl (k .centred);
       }

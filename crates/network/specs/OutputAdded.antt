@@ -114,4 +114,6 @@ module _ {text nodes ports : List ℕ} {h : Header} (k : Holds text nodes ports 
         name = port-more (λ x y z. Named (length text) x y) (k .name) (record { later = omega (arith, n .later); short = omega (arith, n .short); inside = omega arith });
         signal = port-more (λ x y z. IsSignal (h .count) z) (k .signal) (signal-wire (h .count) u (k .store .most) q t .1);
         limits = k .limits;
+        unstarted = k .unstarted;
+        centred = k .centred;
       }

@@ -4,6 +4,7 @@ use mathlib.Core.List.{List, _∷_, zipWith}
 use Prim.Native.Nat.{ℕ, zero, suc, _+_, _*_, _-_, _<_, _≤_, _^_}
 use native.Mathlib.Numerals.{add-one}
 use native.Mathlib.Omega.{arith}
+use lib.Dec.{T}
 use lib.IntN.{ℤ, pos}
 use lib.ListN.{length, getD, set, take, drop}
 use lib.Seq.{drop-cons}
@@ -12,6 +13,8 @@ use Rattle.rules.specs.declared.Wire.{Wire}
 use Rattle.rules.specs.declared.Wire.the-variants.{Const, Node}
 use Rattle.rules.specs.Form.{bitsFrom}
 use Rattle.rules.specs.Network.{Term, Input, Linear, Bootstrap}
+use Rattle.rules.specs.Rotation.{centreOf}
+use Rattle.rules.specs.Runs.{allBits}
 use Rattle.nodes.specs.declared.record.Terms.{Terms}
 use Rattle.text.specs.Name.{Named}
 use Rattle.theorems.specs.Bits.{bit-at}
@@ -70,9 +73,12 @@ pub record Ready (h : Header) (at : ℕ) (l : List ℕ) (line : Line) (v : Lin) 
 unfoldable pub Follows : Header → ℕ → List ℕ → Line → Lin → List ℕ → List ℕ → Header → List ℕ → List ℕ → Type 0
 Follows h at l Bad v nodes ports s nodes₁ ports₁ = (s ≡ h) × (nodes₁ ≡ nodes) × (ports₁ ≡ ports)
 Follows h at l (NetRead p m n) v nodes ports s nodes₁ ports₁ = (s ≡ withNet h p m n) × (nodes₁ ≡ nodes) × (ports₁ ≡ ports)
-Follows h at l (In a e w) v nodes ports s nodes₁ ports₁ = (s ≡ withInput h) × Adds (Input (givenAt l a e w)) nodes (h .count) nodes₁ × (ports₁ ≡ ports)
-Follows h at l Sum v nodes ports s nodes₁ ports₁ = (s ≡ withNode h) × Adds (Linear (v .constant) (termsOf v)) nodes (h .count) nodes₁ × (ports₁ ≡ ports)
-Follows h at l (Boot i a e) v nodes ports s nodes₁ ports₁ = (s ≡ withNode h) × Adds (Bootstrap i (bitsFrom (take (e - a) (drop a l)))) nodes (h .count) nodes₁ × (ports₁ ≡ ports)
+Follows h at l (In a e w) v nodes ports s nodes₁ ports₁ = (s ≡ withInput h) × Adds 0 (Input (givenAt l a e w)) nodes (h .count) nodes₁ × (ports₁ ≡ ports)
+Follows h at l Sum v nodes ports s nodes₁ ports₁ = (s ≡ withNode h) × Adds 0 (Linear (v .constant) (termsOf v)) nodes (h .count) nodes₁ × (ports₁ ≡ ports)
+Follows h at l (Boot i a e) v nodes ports s nodes₁ ports₁ =
+    (s ≡ withNode h)
+    × Adds (centreOf (h .p) (bitsFrom (take (e - a) (drop a l)))) (Bootstrap i (bitsFrom (take (e - a) (drop a l)))) nodes (h .count) nodes₁
+    × (ports₁ ≡ ports)
 Follows h at l (Out a e w) v nodes ports s nodes₁ ports₁ = (s ≡ withOutput h) × (nodes₁ ≡ nodes) × (ports₁ ≡ withPort ports (h .outputs) (at + a) (at + e) (signalOf w))
 
 -- ---- A sum's terms.
@@ -116,10 +122,13 @@ module _ (v : Lin) (s : Small v) (e : length (v .coefs) ≡ 11) (f : length (v .
       pub sum-record : IsRecord count r
       sum-record = is-record count (Linear (v .constant) (termsOf v)) r sum-fine sum-is .0
 
-      pub sum-added : (nodes after : List ℕ) → Adds (nodeIn r) nodes count after → Adds (Linear (v .constant) (termsOf v)) nodes count after
+      pub sum-added : (nodes after : List ℕ) → Adds 0 (nodeIn r) nodes count after → Adds 0 (Linear (v .constant) (termsOf v)) nodes count after
       sum-added nodes after a = adds-record nodes count (Linear (v .constant) (termsOf v)) r after sum-fine sum-is a
 
 -- ---- A boot's table.
+
+pub boot-bits : {l t : List ℕ} {a e : ℕ} → TablePlace l a e → TableIs l a e t → T (allBits (take (e - a - 0) t))
+boot-bits p q = subst (λ b. T (allBits b)) (sym (lent q)) (p .bits)
 
 module _ (count i : ℕ) (l : List ℕ) (a e : ℕ) (p : TablePlace l a e) (k : i < count) (r t : List ℕ) (q : TableIs l a e t) (f : r ≡ recordOf (Bootstrap i (take (e - a - 0) t))) where
   boot-fine : Fine count (Bootstrap i (bitsFrom (take (e - a) (drop a l))))
@@ -132,13 +141,16 @@ module _ (count i : ℕ) (l : List ℕ) (a e : ℕ) (p : TablePlace l a e) (k : 
   pub boot-record : IsRecord count r
   boot-record = is-record count (Bootstrap i (bitsFrom (take (e - a) (drop a l)))) r boot-fine boot-is .0
 
-  pub boot-added : (nodes after : List ℕ) → Adds (nodeIn r) nodes count after → Adds (Bootstrap i (bitsFrom (take (e - a) (drop a l)))) nodes count after
-  boot-added nodes after x = adds-record nodes count (Bootstrap i (bitsFrom (take (e - a) (drop a l)))) r after boot-fine boot-is x
+  pub boot-added : (nodes after : List ℕ) {x : ℕ} (y : ℕ) → x ≡ centreOf y (take (e - a - 0) t) → Adds x (nodeIn r) nodes count after
+      → Adds (centreOf y (bitsFrom (take (e - a) (drop a l)))) (Bootstrap i (bitsFrom (take (e - a) (drop a l)))) nodes count after
+  boot-added nodes after {x} y z g =
+      subst (λ c. Adds c (Bootstrap i (bitsFrom (take (e - a) (drop a l)))) nodes count after) (z ∙ ap (centreOf y) (lent q))
+      (adds-record nodes count (Bootstrap i (bitsFrom (take (e - a) (drop a l)))) r after boot-fine boot-is g)
 
 -- ---- An input's weight.
 
-pub input-added : {nodes after name : List ℕ} {count v w : ℕ} → v ≡ w → Adds (Input (given name v)) nodes count after → Adds (Input (given name w)) nodes count after
-input-added {nodes = nodes} {after = after} {name = name} {count = count} e a = subst (λ w. Adds (Input (given name w)) nodes count after) e a
+pub input-added : {nodes after name : List ℕ} {count v w : ℕ} → v ≡ w → Adds 0 (Input (given name v)) nodes count after → Adds 0 (Input (given name w)) nodes count after
+input-added {nodes = nodes} {after = after} {name = name} {count = count} e a = subst (λ w. Adds 0 (Input (given name w)) nodes count after) e a
 
 -- ---- A wire's signal.
 
@@ -182,15 +194,16 @@ module _ (h : Header) (at : ℕ) (l : List ℕ) (line : Line) (v : Lin) (nodes p
   follows-net q = rw q (refl, refl, refl)
 
   module _ {s : Header} {nodes₁ : List ℕ} where
-    pub follows-in : {a e w : ℕ} → line ≡ In a e w → s ≡ withInput h → Adds (Input (givenAt l a e w)) nodes (h .count) nodes₁ → Follows h at l line v nodes ports s nodes₁ ports
+    pub follows-in : {a e w : ℕ} → line ≡ In a e w → s ≡ withInput h → Adds 0 (Input (givenAt l a e w)) nodes (h .count) nodes₁ → Follows h at l line v nodes ports s nodes₁ ports
     unfolding Follows
     follows-in q f k = rw q (f, k, refl)
 
-    pub follows-sum : line ≡ Sum → s ≡ withNode h → Adds (Linear (v .constant) (termsOf v)) nodes (h .count) nodes₁ → Follows h at l line v nodes ports s nodes₁ ports
+    pub follows-sum : line ≡ Sum → s ≡ withNode h → Adds 0 (Linear (v .constant) (termsOf v)) nodes (h .count) nodes₁ → Follows h at l line v nodes ports s nodes₁ ports
     unfolding Follows
     follows-sum q f k = rw q (f, k, refl)
 
-    pub follows-boot : {i a e : ℕ} → line ≡ Boot i a e → s ≡ withNode h → Adds (Bootstrap i (bitsFrom (take (e - a) (drop a l)))) nodes (h .count) nodes₁
+    pub follows-boot : {i a e : ℕ} → line ≡ Boot i a e → s ≡ withNode h
+        → Adds (centreOf (h .p) (bitsFrom (take (e - a) (drop a l)))) (Bootstrap i (bitsFrom (take (e - a) (drop a l)))) nodes (h .count) nodes₁
         → Follows h at l line v nodes ports s nodes₁ ports
     unfolding Follows
     follows-boot q f k = rw q (f, k, refl)

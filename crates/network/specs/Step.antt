@@ -16,6 +16,7 @@ use Rattle.rules.specs.NetworkText.{NetworkLine, networkLine, noNetwork, withNe
 use Rattle.laws.specs.Tabulate.{tabulate}
 use Rattle.text.specs.Judged.{lowest}
 use Rattle.text.specs.Line.{LineEnd}
+use Rattle.nodes.specs.Centre.{none-centred}
 use Rattle.nodes.specs.View.{storeOf, no-nodes}
 use Rattle.network_text.specs.Lines.{LineRead}
 use Rattle.network_text.specs.declared.line.Read.{Read}
@@ -32,7 +33,7 @@ use Rattle.network.specs.declared.put.Step.{Step}
 -- The line from `at` to `end` was read; r has the number that it is refused with, or the header with it.
 pub record Stepped (judge : Bool) (text : List ℕ) (at end : ℕ) (h : Header) (nodes ports : List ℕ) (r : Step) (nodes₁ ports₁ : List ℕ) : Type 0 where
   pub number : r .number ≡ refusal judge (prefixOf text nodes ports h) (networkLine (take (end - at) (drop at text)))
-  pub nodes-long : length nodes₁ ≡ 26880
+  pub nodes-long : length nodes₁ ≡ 27552
   pub ports-long : length ports₁ ≡ 160
   pub next : r .number ≡ 0
       → (m : NetworkLine)
@@ -92,7 +93,7 @@ pub record Lines (judge : Bool) (text nodes ports : List ℕ) (h : Header) (line
 unfoldable pub noLines : Header
 noLines = record { p = 0; m = 0; norm = Unlimited; count = 0; inputs = 0; outputs = 0 }
 
-pub lines-start : (judge : Bool) (text nodes ports : List ℕ) → length nodes ≡ 26880 → length ports ≡ 160 → Lines judge text nodes ports noLines 1 0
+pub lines-start : (judge : Bool) (text nodes ports : List ℕ) → length nodes ≡ 27552 → length ports ≡ 160 → Lines judge text nodes ports noLines 1 0
 unfolding noLines prefixOf noNetwork netOf storeOf outputsOf tabulate count
 lines-start judge text nodes ports e f =
     record {
@@ -107,6 +108,8 @@ lines-start judge text nodes ports e f =
         name = λ i l. absurd (not-suc-le-zero l);
         signal = λ i l. absurd (not-suc-le-zero l);
         limits = λ z. absurd (z refl);
+        unstarted = λ z. refl;
+        centred = none-centred 0 nodes;
       };
       inside = omega arith;
       counted = omega arith;

@@ -283,6 +283,17 @@ module _ (judge : Bool) (w : NetPrefix) where
   unfolding textConditions
   net-limits n e = not-false (tableLimits (n .p) (n .m)) (unmet _ _ (omega arith) (free (NetLine n) e) .0)
 
+  -- the `net` line stands before all others
+  pub net-first : (n : Net) → refusal judge w (some (NetLine n)) ≡ 0 → started w ≡ false
+  unfolding textConditions
+  net-first n e = unmet _ _ (omega arith) (unmet _ _ (omega arith) (free (NetLine n) e) .1) .0
+
+  pub node-started : (n : LutNode) → refusal judge w (some (NodeLine n)) ≡ 0 → started w ≡ true
+  unfolding textConditions
+  node-started (Input n) e = not-false (started w) (unmet _ _ (omega arith) (free (NodeLine (Input n)) e) .0)
+  node-started (Linear c ts) e = not-false (started w) (unmet _ _ (omega arith) (free (NodeLine (Linear c ts)) e) .0)
+  node-started (Bootstrap i table) e = not-false (started w) (unmet _ _ (omega arith) (free (NodeLine (Bootstrap i table)) e) .0)
+
   pub inputs-only : (n : Given) → refusal judge w (some (NodeLine (Input n))) ≡ 0 → (allInputs (w .nodes) ≡ true) × (length (w .nodes) < 32)
   unfolding textConditions
   inputs-only n e =

@@ -15,6 +15,7 @@ use Rattle.rules.specs.Network.{LutNode, Input, Linear, Bootstrap, Network, isI
 use Rattle.rules.specs.NetworkText.{Net, NetPrefix, sources, goodSum, anyBadSource}
 use Rattle.text.specs.Name.{Named}
 use Rattle.lut.specs.Ports.{portOutput}
+use Rattle.nodes.specs.Centre.{Centred}
 use Rattle.nodes.specs.View.{nodeOf, storeOf, IsStore}
 use Rattle.network_judge.specs.declared.Header.{Header}
 use Rattle.network_judge.specs.Conditions.{InputsFirst}
@@ -56,7 +57,7 @@ pub record IsSignal (count n : ℕ) : Type 0 where
 abbrev pub SignalsIn : List ℕ → Header → Type 0
 SignalsIn ports h = (i : ℕ) → i < h .outputs → IsSignal (h .count) (getD ports (64 + 3 * i + 2) 0)
 
--- Inputs come first; outputs have a name of the text and a signal.
+-- Inputs come first; outputs have a name of the text and a signal; each table has its centre.
 pub record Holds (text nodes ports : List ℕ) (h : Header) : Type 0 where
   pub store : IsStore nodes (h .count)
   pub long : length ports ≡ 160
@@ -68,8 +69,10 @@ pub record Holds (text nodes ports : List ℕ) (h : Header) : Type 0 where
   pub name : (i : ℕ) → i < h .outputs → Named (length text) (getD ports (64 + 3 * i) 0) (getD ports (64 + 3 * i + 1) 0)
   pub signal : SignalsIn ports h
   pub limits : (h .p ≡ 0 → ⊥) → tableLimits (h .p) (h .m) ≡ true
+  pub unstarted : h .p ≡ 0 → h .count ≡ 0
+  pub centred : Centred (h .p) nodes (h .count)
 
 -- A good reading has its `net` line.
 abbrev pub Held : List ℕ → List ℕ → List ℕ → Reading → Type 0
 Held text nodes ports (Good h) = Holds text nodes ports h × (tableLimits (h .p) (h .m) ≡ true)
-Held text nodes ports (Refused k i) = (length nodes ≡ 26880) × (length ports ≡ 160)
+Held text nodes ports (Refused k i) = (length nodes ≡ 27552) × (length ports ≡ 160)

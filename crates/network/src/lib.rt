@@ -19,8 +19,8 @@ pub enum Reading {
 // The network that a text describes: its nodes in the store; among the ports from 64 on three numbers an output, where its name starts and
 // ends in the text, and its signal: a node's number, or 1000 and 1001 for the constants. 23 to 26 only where `judge` says so.
 // A refusal leaves anything in the arrays.
-pub fn read(text: &[u8], judge: bool, nodes: &mut [u8; 26880], ports: &mut [usize; 160]) -> Reading
-    requires { ⌜ (length (now nodes) ≡ 26880) × (length (now ports) ≡ 160) ⌝ }
+pub fn read(text: &[u8], judge: bool, nodes: &mut [u8; 27552], ports: &mut [usize; 160]) -> Reading
+    requires { ⌜ (length (now nodes) ≡ 27552) × (length (now ports) ≡ 160) ⌝ }
     ensures is { λ r. ⌜ readingOf (now (text .entry)) (now (nodes .exit)) (now (ports .exit)) r ≡ (if judge then readAdmitted (now (text .entry)) else readNetwork (now (text .entry))) ⌝ }
     ensures held { λ r. ⌜ Held (now (text .entry)) (now (nodes .exit)) (now (ports .exit)) r ⌝ }
 {

@@ -4,6 +4,7 @@ ghost use Prim.Native.Nat.{_+_, _-_, _<_, _≤_};
 ghost use lib.ListN.{length, take, drop};
 ghost use Rattle.rules.specs.Form.{bitsFrom};
 ghost use Rattle.rules.specs.Network.{Input, Linear, Bootstrap};
+ghost use Rattle.rules.specs.Rotation.{centreOf};
 ghost use Rattle.text.specs.Name.{Named};
 ghost use Rattle.text.specs.Line.{LineEnd};
 ghost use Rattle.nodes.specs.View.{FineTerms, IsStore};
@@ -65,22 +66,33 @@ fn terms_of(lin: Lin) -> nodes::record::Terms
     }
 }
 
-fn put_sum(nodes: &mut [u8; 26880], count: usize, lin: Lin)
+fn put_sum(nodes: &mut [u8; 27552], count: usize, lin: Lin)
     requires { ⌜ IsStore (now nodes) count × (count < 672) × Small lin × FineTerms count (termsOf lin) ⌝ }
-    ensures { λ _. ⌜ Adds (Linear (lin .constant) (termsOf lin)) (now (nodes .entry)) count (now (nodes .exit)) ⌝ }
+    ensures { λ _. ⌜ Adds 0 (Linear (lin .constant) (termsOf lin)) (now (nodes .entry)) count (now (nodes .exit)) ⌝ }
 {
     let bytes = nodes::record::sum(terms_of(lin));
-    lut::store::put_node(nodes, count, &bytes);
+    lut::store::put_node(nodes, count, &bytes, 0);
 }
 
-fn put_boot(nodes: &mut [u8; 26880], count: usize, source: usize, l: &[u8], a: usize, e: usize)
+// With the period p of the text.
+fn put_boot(
+    nodes: &mut [u8; 27552],
+    p: usize,
+    count: usize,
+    source: usize,
+    l: &[u8],
+    a: usize,
+    e: usize,
+)
     requires { ⌜ IsStore (now nodes) count × (count < 672) × (source < count) × TablePlace (now l) a e ⌝ }
-    ensures { λ _. ⌜ Adds (Bootstrap source (bitsFrom (take (e - a) (drop a (now (l .entry)))))) (now (nodes .entry)) count (now (nodes .exit)) ⌝ }
+    ensures { λ _. ⌜ Adds (centreOf p (bitsFrom (take (e - a) (drop a (now (l .entry)))))) (Bootstrap source (bitsFrom (take (e - a) (drop a (now (l .entry)))))) (now (nodes .entry)) count (now (nodes .exit)) ⌝ }
 {
     let table = network_bounds::table::table_of(l, a, e);
     let t = &table[..];
-    let bytes = nodes::record::boot(source, &t[0..e - a]);
-    lut::store::put_node(nodes, count, &bytes);
+    let bits = &t[0..e - a];
+    let centre = rotation::centre_of(bits, p);
+    let bytes = nodes::record::boot(source, bits);
+    lut::store::put_node(nodes, count, &bytes, centre);
 }
 
 fn wide(b: u8) -> usize
@@ -89,9 +101,9 @@ fn wide(b: u8) -> usize
     b as usize
 }
 
-fn put_in(nodes: &mut [u8; 26880], count: usize, l: &[u8], a: usize, e: usize, weight: u8)
+fn put_in(nodes: &mut [u8; 27552], count: usize, l: &[u8], a: usize, e: usize, weight: u8)
     requires { ⌜ IsStore (now nodes) count × (count < 672) × Named (length (now l)) a e × GoodWeight weight ⌝ }
-    ensures { λ _. ⌜ Adds (Input (givenAt (now (l .entry)) a e weight)) (now (nodes .entry)) count (now (nodes .exit)) ⌝ }
+    ensures { λ _. ⌜ Adds 0 (Input (givenAt (now (l .entry)) a e weight)) (now (nodes .entry)) count (now (nodes .exit)) ⌝ }
 {
     lut::store::put_input(nodes, count, &l[a..e], wide(weight));
 }
@@ -122,7 +134,7 @@ fn put_line(
     at: usize,
     l: &[u8],
     r: Read,
-    nodes: &mut [u8; 26880],
+    nodes: &mut [u8; 27552],
     ports: &mut [usize; 160],
 ) -> Header
     requires { ⌜ Ready h at (now l) (r .line) (r .lin) (now nodes) (now ports) ⌝ }
@@ -149,7 +161,7 @@ fn put_line(
             with_node(h)
         }
         Line::Boot(source, a, e) => {
-            put_boot(nodes, h.count, source, l, a, e);
+            put_boot(nodes, h.p, h.count, source, l, a, e);
             with_node(h)
         }
         Line::Out(a, e, w) => {
@@ -172,7 +184,7 @@ pub fn take_line(
     text: &[u8],
     at: usize,
     end: usize,
-    nodes: &mut [u8; 26880],
+    nodes: &mut [u8; 27552],
     ports: &mut [usize; 160],
 ) -> Step
     requires { ⌜ Holds (now text) (now nodes) (now ports) h × LineEnd (now text) at end ⌝ }

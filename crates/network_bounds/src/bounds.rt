@@ -27,7 +27,7 @@ fn extreme_part(low: bool, coef: i64) -> i64
     }
 }
 
-pub fn is_sum(nodes: &[u8; 26880], i: usize) -> bool
+pub fn is_sum(nodes: &[u8; 27552], i: usize) -> bool
     requires { ⌜ IsNode (now nodes) i ⌝ }
     ensures { λ r. ⌜ r ≡ isLinear (nodeOf (now (nodes .entry)) i) ⌝ }
 {
@@ -35,7 +35,7 @@ pub fn is_sum(nodes: &[u8; 26880], i: usize) -> bool
 }
 
 // The least or the greatest that a sum can be.
-fn extreme_sum(low: bool, nodes: &[u8; 26880], i: usize) -> i64
+fn extreme_sum(low: bool, nodes: &[u8; 27552], i: usize) -> i64
     requires { ⌜ IsNode (now nodes) i × (isLinear (nodeOf (now nodes) i) ≡ true) ⌝ }
     ensures { λ r. ⌜ (r ≡ extremeOf low (nodeOf (now (nodes .entry)) i)) × (natAbs r ≤ 372) ⌝ }
 {
@@ -50,7 +50,7 @@ fn extreme_sum(low: bool, nodes: &[u8; 26880], i: usize) -> i64
 }
 
 // Each squared coefficient times its source's weight, added.
-pub fn norm_of(nodes: &[u8; 26880], lin: Lin) -> usize
+pub fn norm_of(nodes: &[u8; 27552], lin: Lin) -> usize
     requires { ⌜ Small lin × Stored (now nodes) (termsOf lin) ⌝ }
     ensures { λ r. ⌜ r ≡ storedNorm (now (nodes .entry)) (termsOf lin) ⌝ }
 {
@@ -78,7 +78,7 @@ fn fit(low: i64, high: i64) -> usize
 }
 
 // The length of the tables that a node's bounds fit.
-pub fn node_fit(nodes: &[u8; 26880], i: usize) -> usize
+pub fn node_fit(nodes: &[u8; 27552], i: usize) -> usize
     requires { ⌜ IsNode (now nodes) i ⌝ }
     ensures { λ r. ⌜ r ≡ nodeFit (nodeOf (now (nodes .entry)) i) ⌝ }
 {
@@ -89,7 +89,7 @@ pub fn node_fit(nodes: &[u8; 26880], i: usize) -> usize
 }
 
 // A node's bounds are within 0..1.
-pub fn is_bit(nodes: &[u8; 26880], i: usize) -> bool
+pub fn is_bit(nodes: &[u8; 27552], i: usize) -> bool
     requires { ⌜ IsNode (now nodes) i ⌝ }
     ensures { λ r. ⌜ r ≡ isBit (nodeOf (now (nodes .entry)) i) ⌝ }
 {

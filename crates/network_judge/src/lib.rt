@@ -30,7 +30,7 @@ pub struct Header {
 }
 
 // Input i has the name from a to e.
-fn is_name(nodes: &[u8; 26880], i: usize, l: &[u8], a: usize, e: usize) -> bool
+fn is_name(nodes: &[u8; 27552], i: usize, l: &[u8], a: usize, e: usize) -> bool
     requires { ⌜ IsNode (now nodes) i × (isLinear (nodeOf (now nodes) i) ≡ false) × Named (length (now l)) a e ⌝ }
     ensures { λ r. ⌜ r ≡ sameName (take (e - a) (drop a (now (l .entry)))) (bytesIn (nodeOf (now (nodes .entry)) i)) ⌝ }
 {
@@ -39,7 +39,7 @@ fn is_name(nodes: &[u8; 26880], i: usize, l: &[u8], a: usize, e: usize) -> bool
 }
 
 // One of these inputs has the name from a to e.
-fn is_known_name(nodes: &[u8; 26880], count: usize, l: &[u8], a: usize, e: usize) -> bool
+fn is_known_name(nodes: &[u8; 27552], count: usize, l: &[u8], a: usize, e: usize) -> bool
     requires { ⌜ Inputs (now nodes) count × Named (length (now l)) a e ⌝ }
     ensures { λ r. ⌜ r ≡ listed (take (e - a) (drop a (now (l .entry)))) (names (storeOf (now (nodes .entry)) count)) ⌝ }
 {
@@ -54,7 +54,7 @@ fn is_known_name(nodes: &[u8; 26880], count: usize, l: &[u8], a: usize, e: usize
 }
 
 // An input.
-fn in_number(h: Header, nodes: &[u8; 26880], l: &[u8], a: usize, e: usize) -> usize
+fn in_number(h: Header, nodes: &[u8; 27552], l: &[u8], a: usize, e: usize) -> usize
     requires { ⌜ Kept (now nodes) h × Named (length (now l)) a e ⌝ }
     ensures { λ r. ⌜ r ≡ lowest (inConditions h (storeOf (now (nodes .entry)) (h .count)) (take (e - a) (drop a (now (l .entry))))) ⌝ }
 {
@@ -91,7 +91,7 @@ fn node_number(h: Header) -> usize
 }
 
 // Not an earlier node, or a sum on a sum.
-fn has_bad_source(nodes: &[u8; 26880], count: usize, lin: Lin) -> bool
+fn has_bad_source(nodes: &[u8; 27552], count: usize, lin: Lin) -> bool
     requires { ⌜ IsStore (now nodes) count × Small lin ⌝ }
     ensures { λ r. ⌜ r ≡ anyBadSource (storeOf (now (nodes .entry)) count) (sources (termsOf lin)) ⌝ }
 {
@@ -118,7 +118,7 @@ fn is_over(limit: Limit, norm: usize) -> bool
     }
 }
 
-fn lin_number(judge: bool, h: Header, nodes: &[u8; 26880], lin: Lin) -> usize
+fn lin_number(judge: bool, h: Header, nodes: &[u8; 27552], lin: Lin) -> usize
     requires { ⌜ IsStore (now nodes) (h .count) × Small lin ⌝ }
     ensures { λ r. ⌜ r ≡ lowest (linConditions judge h (storeOf (now (nodes .entry)) (h .count)) (termsOf lin)) ⌝ }
 {
@@ -143,7 +143,7 @@ fn lin_number(judge: bool, h: Header, nodes: &[u8; 26880], lin: Lin) -> usize
 fn boot_number(
     judge: bool,
     h: Header,
-    nodes: &[u8; 26880],
+    nodes: &[u8; 27552],
     l: &[u8],
     source: usize,
     a: usize,
@@ -175,7 +175,7 @@ fn boot_number(
     }
 }
 
-fn wire_number(judge: bool, count: usize, nodes: &[u8; 26880], w: Wire) -> usize
+fn wire_number(judge: bool, count: usize, nodes: &[u8; 27552], w: Wire) -> usize
     requires { ⌜ IsStore (now nodes) count ⌝ }
     ensures { λ r. ⌜ r ≡ lowest (wireConditions judge count (storeOf (now (nodes .entry)) count) w) ⌝ }
 {
@@ -195,7 +195,7 @@ fn wire_number(judge: bool, count: usize, nodes: &[u8; 26880], w: Wire) -> usize
     }
 }
 
-fn out_number(judge: bool, h: Header, nodes: &[u8; 26880], w: Wire) -> usize
+fn out_number(judge: bool, h: Header, nodes: &[u8; 27552], w: Wire) -> usize
     requires { ⌜ IsStore (now nodes) (h .count) ⌝ }
     ensures { λ r. ⌜ r ≡ lowest (outConditions judge h (storeOf (now (nodes .entry)) (h .count)) w) ⌝ }
 {
@@ -209,7 +209,7 @@ fn out_number(judge: bool, h: Header, nodes: &[u8; 26880], w: Wire) -> usize
 }
 
 // The lowest number that a line meets, 0 for none; 23 to 26 only where they are judged.
-pub fn line_number(judge: bool, h: Header, nodes: &[u8; 26880], l: &[u8], r: Read) -> usize
+pub fn line_number(judge: bool, h: Header, nodes: &[u8; 27552], l: &[u8], r: Read) -> usize
     requires { ⌜ Kept (now nodes) h ⌝ }
     requires { ⌜ Small (r .lin) × Within (now l) (r .line) ⌝ }
     ensures { λ n. ⌜ n ≡ lowest (lineConditions judge h (storeOf (now (nodes .entry)) (h .count)) (now (l .entry)) (r .line) (r .lin)) ⌝ }

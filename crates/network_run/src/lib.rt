@@ -20,7 +20,7 @@ pub use walk::run_rotatable;
 // A network that was read, run on a bit for each input. Its names do not matter.
 pub fn run_read(
     h: Header,
-    nodes: &[u8; 26880],
+    nodes: &[u8; 27552],
     ports: &[usize; 160],
     bits: &[u8],
     values: &mut [i64],
@@ -48,7 +48,7 @@ pub fn run_read(
 pub fn run_network(text: &[u8], bits: &[u8], values: &mut [i64]) -> RunReply
     ensures { λ r. ⌜ ran (runReply r) (now (values .exit)) ≡ runNetwork (now (text .entry)) (now (bits .entry)) (now (values .entry)) ⌝ }
 {
-    let mut nodes = [0u8; 26880];
+    let mut nodes = [0u8; 27552];
     let mut ports = [0usize; 160];
     let r = network::read(text, false, &mut nodes, &mut ports);
     match r {

@@ -46,7 +46,7 @@ fn term_value(coef: i64, v: i64) -> i64
 }
 
 // CONST plus each COEF times its node.
-fn sum_of(nodes: &[u8; 26880], i: usize, values: &[i64; 672]) -> i64
+fn sum_of(nodes: &[u8; 27552], i: usize, values: &[i64; 672]) -> i64
     requires { ⌜ Before (now nodes) i (now values) × (isLinear (nodeOf (now nodes) i) ≡ true) ⌝ }
     ensures { λ r. ⌜ r ≡ sumFrom (now (values .entry)) (constantOf (nodeOf (now (nodes .entry)) i)) (termsOf (nodeOf (now (nodes .entry)) i)) ⌝ }
 {
@@ -77,7 +77,7 @@ fn look_up(table: &[u8], v: i64) -> Value
 }
 
 // The value of node i where a rotation gives its table.
-pub fn node_value(nodes: &[u8; 26880], i: usize, bits: &[u8], values: &[i64; 672]) -> Value
+pub fn node_value(nodes: &[u8; 27552], i: usize, bits: &[u8], values: &[i64; 672]) -> Value
     requires { ⌜ Before (now nodes) i (now values) ⌝ }
     ensures { λ r. ⌜ Valued (now (nodes .entry)) i (now (bits .entry)) (now (values .entry)) r ⌝ }
 {

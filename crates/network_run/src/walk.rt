@@ -16,7 +16,7 @@ use nodes::node::kind_of;
 use nodes::node::table_of;
 
 // A rotation of period p gives the node's table, if it has one.
-fn is_rotatable(nodes: &[u8; 26880], i: usize, p: usize) -> bool
+fn is_rotatable(nodes: &[u8; 27552], i: usize, p: usize) -> bool
     requires { ⌜ IsNode (now nodes) i ⌝ }
     ensures { λ r. ⌜ r ≡ turns p (nodeOf (now (nodes .entry)) i) ⌝ }
 {
@@ -27,7 +27,7 @@ fn is_rotatable(nodes: &[u8; 26880], i: usize, p: usize) -> bool
 }
 
 // A rotation of period p gives every table. Where it does not, a run breaks off for all bits.
-pub fn are_rotatable(nodes: &[u8; 26880], count: usize, p: usize) -> bool
+pub fn are_rotatable(nodes: &[u8; 27552], count: usize, p: usize) -> bool
     requires { ⌜ IsStore (now nodes) count ⌝ }
     ensures { λ r. ⌜ r ≡ all (turns p) (storeOf (now (nodes .entry)) count) ⌝ }
 {
@@ -44,7 +44,7 @@ pub fn are_rotatable(nodes: &[u8; 26880], count: usize, p: usize) -> bool
 // The values of the nodes of a network whose tables a rotation gives; false where a boot breaks off. No table is judged here, so that a
 // network is judged once and run for many bits.
 pub fn run_rotatable(
-    nodes: &[u8; 26880],
+    nodes: &[u8; 27552],
     count: usize,
     bits: &[u8],
     values: &mut [i64; 672],
@@ -66,7 +66,7 @@ pub fn run_rotatable(
 
 // The values of the nodes; false where a boot breaks off.
 pub fn run_nodes(
-    nodes: &[u8; 26880],
+    nodes: &[u8; 27552],
     count: usize,
     p: usize,
     bits: &[u8],

@@ -114,8 +114,8 @@ recorded-next bytes count s i h =
 
 -- ---- laws: the depth put behind a record
 
-module _ (bytes : List ℕ) (i d : ℕ) (e : length bytes ≡ 26880) (h : i < 672) where
-  pub deep-length : length (putDepth bytes i d) ≡ 26880
+module _ (bytes : List ℕ) (i d : ℕ) (e : length bytes ≡ 27552) (h : i < 672) where
+  pub deep-length : length (putDepth bytes i d) ≡ 27552
   unfolding putDepth
   deep-length = rw (length-set, length-set) e
 
@@ -123,10 +123,10 @@ module _ (bytes : List ℕ) (i d : ℕ) (e : length bytes ≡ 26880) (h : i < 67
   deep-record : (j : ℕ) → j ≤ i → recordAt (putDepth bytes i d) j ≡ recordAt bytes j
   unfolding putDepth recordAt
   deep-record j k =
-      part-drop 38 (40 * j) _
-      ∙ ap (λ (l : List ℕ). drop (40 * j) l)
-      (take-set-le (40 * j + 38) (set bytes (40 * i + 38) (d / 256)) (40 * i + 39) (d % 256) (omega arith) ∙ take-set-le (40 * j + 38) bytes (40 * i + 38) (d / 256) (omega arith))
-      ∙ sym (part-drop 38 (40 * j) bytes)
+      part-drop 38 (41 * j) _
+      ∙ ap (λ (l : List ℕ). drop (41 * j) l)
+      (take-set-le (41 * j + 38) (set bytes (41 * i + 38) (d / 256)) (41 * i + 39) (d % 256) (omega arith) ∙ take-set-le (41 * j + 38) bytes (41 * i + 38) (d / 256) (omega arith))
+      ∙ sym (part-drop 38 (41 * j) bytes)
 
   deep-node : (j : ℕ) → j ≤ i → nodeOf (putDepth bytes i d) j ≡ nodeOf bytes j
   unfolding nodeOf
@@ -136,34 +136,34 @@ module _ (bytes : List ℕ) (i d : ℕ) (e : length bytes ≡ 26880) (h : i < 67
   unfolding putDepth depthIn
   deep-before j k =
       ap₂ (λ a b. 256 * a + b)
-      (getD-set-other (set bytes (40 * i + 38) (d / 256)) (40 * i + 39) (40 * j + 38) (d % 256) 0 (λ q. omega arith) ∙ getD-set-other bytes (40 * i + 38) (40 * j + 38) (d / 256) 0 (λ q. omega arith))
-      (getD-set-other (set bytes (40 * i + 38) (d / 256)) (40 * i + 39) (40 * j + 39) (d % 256) 0 (λ q. omega arith) ∙ getD-set-other bytes (40 * i + 38) (40 * j + 39) (d / 256) 0 (λ q. omega arith))
+      (getD-set-other (set bytes (41 * i + 38) (d / 256)) (41 * i + 39) (41 * j + 38) (d % 256) 0 (λ q. omega arith) ∙ getD-set-other bytes (41 * i + 38) (41 * j + 38) (d / 256) 0 (λ q. omega arith))
+      (getD-set-other (set bytes (41 * i + 38) (d / 256)) (41 * i + 39) (41 * j + 39) (d % 256) 0 (λ q. omega arith) ∙ getD-set-other bytes (41 * i + 38) (41 * j + 39) (d / 256) 0 (λ q. omega arith))
 
   deep-same : depthIn (putDepth bytes i d) i ≡ d
   unfolding putDepth depthIn
   deep-same =
-      let l : List ℕ = set bytes (40 * i + 38) (d / 256) in
+      let l : List ℕ = set bytes (41 * i + 38) (d / 256) in
       ap₂ (λ a b. 256 * a + b)
-      (getD-set-other l (40 * i + 39) (40 * i + 38) (d % 256) 0 (λ q. omega arith) ∙ getD-set-same bytes (40 * i + 38) (d / 256) 0 (omega arith))
-      (getD-set-same l (40 * i + 39) (d % 256) 0 (rw length-set (omega arith)))
+      (getD-set-other l (41 * i + 39) (41 * i + 38) (d % 256) 0 (λ q. omega arith) ∙ getD-set-same bytes (41 * i + 38) (d / 256) 0 (omega arith))
+      (getD-set-same l (41 * i + 39) (d % 256) 0 (rw length-set (omega arith)))
       ∙ omega arith
 
 -- ---- laws: a node put behind the others
 
 module _ (bytes : List ℕ) (count : ℕ) (r : List ℕ) (s : IsStore bytes count) (h : count < 672) (l : length r ≡ 38) where
-  put-node : (i : ℕ) → i < count → nodeOf (putAt bytes count r) i ≡ nodeOf bytes i
+  pub put-node : (i : ℕ) → i < count → nodeOf (putAt bytes count r) i ≡ nodeOf bytes i
   unfolding nodeOf
   put-node i k = ap nodeIn (put-before bytes count r (s .long) h l i k)
 
-  put-byte : (k : ℕ) → k < 40 * count → getD (putAt bytes count r) k 0 ≡ getD bytes k 0
+  pub put-byte : (k : ℕ) → k < 41 * count → getD (putAt bytes count r) k 0 ≡ getD bytes k 0
   unfolding putAt
   put-byte k m =
-      let a : length (take (40 * count) bytes) ≡ 40 * count = length-take-le (40 * count) bytes (omega (arith, s .long)) in
-      rw append-assoc (List·getD-append (take (40 * count) bytes) (take 38 r ++ drop (40 * count + 38) bytes) 0 k (omega arith) ∙ getD-take (40 * count) bytes k 0 m)
+      let a : length (take (41 * count) bytes) ≡ 41 * count = length-take-le (41 * count) bytes (omega (arith, s .long)) in
+      rw append-assoc (List·getD-append (take (41 * count) bytes) (take 38 r ++ drop (41 * count + 38) bytes) 0 k (omega arith) ∙ getD-take (41 * count) bytes k 0 m)
 
   put-depth-before : (i : ℕ) → i < count → depthIn (putAt bytes count r) i ≡ depthIn bytes i
   unfolding depthIn
-  put-depth-before i k = ap₂ (λ a b. 256 * a + b) (put-byte (40 * i + 38) (omega arith)) (put-byte (40 * i + 39) (omega arith))
+  put-depth-before i k = ap₂ (λ a b. 256 * a + b) (put-byte (41 * i + 38) (omega arith)) (put-byte (41 * i + 39) (omega arith))
 
   -- those before it stay
   pub put-still : IsStore (putAt bytes count r) count
@@ -180,7 +180,7 @@ module _ (bytes : List ℕ) (count : ℕ) (r : List ℕ) (s : IsStore bytes coun
             ∙ ap (nodeDepth (depthIn (putAt bytes count r))) (sym (put-node i k));
       }
 
-  put-new : nodeOf (putAt bytes count r) count ≡ nodeIn r
+  pub put-new : nodeOf (putAt bytes count r) count ≡ nodeIn r
   unfolding nodeOf
   put-new = ap nodeIn (put-same bytes count r (s .long) h l)
 
@@ -201,10 +201,10 @@ module _ (bytes : List ℕ) (count : ℕ) (r : List ℕ) (s : IsStore bytes coun
     abbrev own : ℕ
     own = nodeDepth (depthIn put) (nodeOf put count)
 
-    put-long : length put ≡ 26880
+    put-long : length put ≡ 27552
     put-long = put-length bytes count r (s .long) h l
 
-    node-same : (i : ℕ) → i ≤ count → nodeOf after i ≡ nodeOf put i
+    pub node-same : (i : ℕ) → i ≤ count → nodeOf after i ≡ nodeOf put i
     node-same i k = ap (λ b. nodeOf b i) q ∙ deep-node put count own put-long h i k
 
     depth-same : (i : ℕ) → i < count → depthIn after i ≡ depthIn put i

@@ -6,3 +6,4 @@ pub mod Nodes
 pub mod Kinds
 pub mod Norm
 pub mod Depth
+pub mod Centre

@@ -145,43 +145,43 @@ weight-good i (Bootstrap j table) f = (omega arith, omega arith)
 -- ---- laws: bytes of the store
 
 module _ (bytes : List ℕ) (i : ℕ) (s : IsNode bytes i) where
-  pub node-byte : (k : ℕ) → k < 38 → getD bytes (40 * i + k) 0 ≡ getD (recordOf (nodeOf bytes i)) k 0
+  pub node-byte : (k : ℕ) → k < 38 → getD bytes (41 * i + k) 0 ≡ getD (recordOf (nodeOf bytes i)) k 0
   node-byte k h = sym (byte-at bytes i k h) ∙ ap (λ (r : List ℕ). getD r k 0) (s .kept)
 
-  pub kind-at : getD bytes (40 * i) 0 ≡ kindOf (nodeOf bytes i)
-  kind-at = ap (λ k. getD bytes k 0) (sym (add-zero (40 * i))) ∙ node-byte 0 (omega arith) ∙ first-byte (nodeOf bytes i)
+  pub kind-at : getD bytes (41 * i) 0 ≡ kindOf (nodeOf bytes i)
+  kind-at = ap (λ k. getD bytes k 0) (sym (add-zero (41 * i))) ∙ node-byte 0 (omega arith) ∙ first-byte (nodeOf bytes i)
 
-  pub size-at : getD bytes (40 * i + 1) 0 ≡ length (needs (nodeOf bytes i))
+  pub size-at : getD bytes (41 * i + 1) 0 ≡ length (needs (nodeOf bytes i))
   size-at = node-byte 1 (omega arith) ∙ second-byte (nodeOf bytes i)
 
-  pub constant-at : isLinear (nodeOf bytes i) ≡ true → unbiased (getD bytes (40 * i + 2) 0) ≡ constantOf (nodeOf bytes i)
+  pub constant-at : isLinear (nodeOf bytes i) ≡ true → unbiased (getD bytes (41 * i + 2) 0) ≡ constantOf (nodeOf bytes i)
   constant-at e = rw (node-byte 2 (omega arith)) (constant-byte i (nodeOf bytes i) (s .fine) e)
 
   pub coefficient-at : (k : ℕ) → k < length (termsOf (nodeOf bytes i))
-      → unbiased (getD bytes (40 * i + (3 + 3 * k)) 0) ≡ getD (termsOf (nodeOf bytes i)) k (term (pos 0) 0) .coef
+      → unbiased (getD bytes (41 * i + (3 + 3 * k)) 0) ≡ getD (termsOf (nodeOf bytes i)) k (term (pos 0) 0) .coef
   coefficient-at k h =
       let l = few-terms i (nodeOf bytes i) (s .fine) in
       rw (node-byte (3 + 3 * k) (omega arith)) (coefficient-byte i (nodeOf bytes i) (s .fine) k h)
 
-  pub source-at : (k : ℕ) → k < length (needs (nodeOf bytes i)) → 256 * getD bytes (40 * i + (4 + 3 * k)) 0 + getD bytes (40 * i + (5 + 3 * k)) 0 ≡ getD (needs (nodeOf bytes i)) k 0
+  pub source-at : (k : ℕ) → k < length (needs (nodeOf bytes i)) → 256 * getD bytes (41 * i + (4 + 3 * k)) 0 + getD bytes (41 * i + (5 + 3 * k)) 0 ≡ getD (needs (nodeOf bytes i)) k 0
   source-at k h =
       let l = few-sources i (nodeOf bytes i) (s .fine) in
       let b = source-bytes i (nodeOf bytes i) (s .fine) k h in
       rw (node-byte (4 + 3 * k) (omega arith), node-byte (5 + 3 * k) (omega arith), b .0, b .1) (omega arith)
 
-  pub weight-at : kindOf (nodeOf bytes i) ≡ 0 → getD bytes (40 * i + 3) 0 ≡ weightOf (nodeOf bytes i)
+  pub weight-at : kindOf (nodeOf bytes i) ≡ 0 → getD bytes (41 * i + 3) 0 ≡ weightOf (nodeOf bytes i)
   weight-at e = node-byte 3 (omega arith) ∙ weight-byte (nodeOf bytes i) e
 
-  pub table-fits : isLinear (nodeOf bytes i) ≡ false → getD bytes (40 * i + 2) 0 ≤ 32
+  pub table-fits : isLinear (nodeOf bytes i) ≡ false → getD bytes (41 * i + 2) 0 ≤ 32
   table-fits e = rw (node-byte 2 (omega arith)) (table-bytes i (nodeOf bytes i) (s .fine) e .0)
 
-  pub table-at : isLinear (nodeOf bytes i) ≡ false → take (getD bytes (40 * i + 2) 0) (drop (40 * i + 6) bytes) ≡ bytesIn (nodeOf bytes i)
+  pub table-at : isLinear (nodeOf bytes i) ≡ false → take (getD bytes (41 * i + 2) 0) (drop (41 * i + 6) bytes) ≡ bytesIn (nodeOf bytes i)
   unfolding recordAt
   table-at e =
-      let n = getD bytes (40 * i + 2) 0 in
+      let n = getD bytes (41 * i + 2) 0 in
       let h = table-fits e in
-      let d : drop 6 (recordAt bytes i) ≡ take 32 (drop (40 * i + 6) bytes) = sym (part-drop 32 6 (drop (40 * i) bytes)) ∙ ap (λ (l : List ℕ). take 32 l) (drop-drop 6 (40 * i) bytes) in
-      let t : take n (drop 6 (recordAt bytes i)) ≡ take n (drop (40 * i + 6) bytes) = ap (λ (l : List ℕ). take n l) d ∙ take-take n 32 (drop (40 * i + 6) bytes) h in
+      let d : drop 6 (recordAt bytes i) ≡ take 32 (drop (41 * i + 6) bytes) = sym (part-drop 32 6 (drop (41 * i) bytes)) ∙ ap (λ (l : List ℕ). take 32 l) (drop-drop 6 (41 * i) bytes) in
+      let t : take n (drop 6 (recordAt bytes i)) ≡ take n (drop (41 * i + 6) bytes) = ap (λ (l : List ℕ). take n l) d ∙ take-take n 32 (drop (41 * i + 6) bytes) h in
       sym t ∙ rw (node-byte 2 (omega arith), s .kept) (table-bytes i (nodeOf bytes i) (s .fine) e .1)
 
 -- sources come before the node

@@ -69,10 +69,10 @@ nodeIn r =
     else if eqb (getD r 0 0) 1 then Linear (unbiased (getD r 2 0)) (termsFrom (getD r 1 0) (drop 3 r))
     else Bootstrap (256 * getD r 4 0 + getD r 5 0) (take (getD r 2 0) (drop 6 r))
 
--- ---- The store: 40 bytes a node.
+-- ---- The store: 41 bytes a node.
 
 unfoldable pub recordAt : List ℕ → ℕ → List ℕ
-recordAt bytes i = take 38 (drop (40 * i) bytes)
+recordAt bytes i = take 38 (drop (41 * i) bytes)
 
 unfoldable pub nodeOf : List ℕ → ℕ → LutNode
 nodeOf bytes i = nodeIn (recordAt bytes i)
@@ -81,7 +81,10 @@ unfoldable pub storeOf : List ℕ → ℕ → List LutNode
 storeOf bytes count = tabulate count (nodeOf bytes)
 
 unfoldable pub depthIn : List ℕ → ℕ → ℕ
-depthIn bytes i = 256 * getD bytes (40 * i + 38) 0 + getD bytes (40 * i + 39) 0
+depthIn bytes i = 256 * getD bytes (41 * i + 38) 0 + getD bytes (41 * i + 39) 0
+
+unfoldable pub centreIn : List ℕ → ℕ → ℕ
+centreIn bytes i = getD bytes (41 * i + 40) 0
 
 -- ---- What may stand at a place: sources come before it, numbers fit their bytes.
 
@@ -96,14 +99,14 @@ Fine i (Bootstrap j table) = (j < i) × (length table ≤ 32) × ((k : ℕ) → 
 
 -- one node: its record is what the node is written as
 pub record IsNode (bytes : List ℕ) (i : ℕ) : Type 0 where
-  pub long : length bytes ≡ 26880
+  pub long : length bytes ≡ 27552
   pub inside : i < 672
   pub fine : Fine i (nodeOf bytes i)
   pub kept : recordAt bytes i ≡ recordOf (nodeOf bytes i)
 
 -- these nodes: each with the depth that its sources give (`recorded-depth`: which the definition gives them)
 pub record IsStore (bytes : List ℕ) (count : ℕ) : Type 0 where
-  pub long : length bytes ≡ 26880
+  pub long : length bytes ≡ 27552
   pub most : count ≤ 672
   pub fine : (i : ℕ) → i < count → Fine i (nodeOf bytes i)
   pub kept : (i : ℕ) → i < count → recordAt bytes i ≡ recordOf (nodeOf bytes i)
@@ -198,9 +201,9 @@ same-record i j n m f g = ⊎-elim (λ e. yes e) (λ e. no e) (decide (sameName 
 -- ---- laws: what stands at a place
 
 module _ (bytes : List ℕ) (i : ℕ) where
-  pub byte-at : (k : ℕ) → k < 38 → getD (recordAt bytes i) k 0 ≡ getD bytes (40 * i + k) 0
+  pub byte-at : (k : ℕ) → k < 38 → getD (recordAt bytes i) k 0 ≡ getD bytes (41 * i + k) 0
   unfolding recordAt
-  byte-at k h = getD-take 38 (drop (40 * i) bytes) k 0 h ∙ getD-drop (40 * i) bytes k 0
+  byte-at k h = getD-take 38 (drop (41 * i) bytes) k 0 h ∙ getD-drop (41 * i) bytes k 0
 
   pub at-store : (count : ℕ) → i < count → nodeAt (storeOf bytes count) i ≡ nodeOf bytes i
   unfolding nodeAt storeOf
@@ -220,7 +223,7 @@ store-from bytes count i h =
 pub is-node : (bytes : List ℕ) (count i : ℕ) → IsStore bytes count → i < count → IsNode bytes i
 is-node bytes count i s h = record { long = s .long; inside = omega (arith, s .most); fine = s .fine i h; kept = s .kept i h }
 
-pub no-nodes : (bytes : List ℕ) → length bytes ≡ 26880 → IsStore bytes 0
+pub no-nodes : (bytes : List ℕ) → length bytes ≡ 27552 → IsStore bytes 0
 no-nodes bytes e = record { long = e; most = omega arith; fine = λ i l. absurd (omega arith); kept = λ i l. absurd (omega arith); deep = λ i l. absurd (omega arith) }
 
 pub store-below : (bytes : List ℕ) (count k : ℕ) → IsStore bytes count → k ≤ count → IsStore bytes k
@@ -241,28 +244,31 @@ part-drop m (suc a) [] = rw (take-nil m, take-nil (suc a + m))
 part-drop m (suc a) (x ∷ l) = rw (suc-add a m) (part-drop m a l)
 
 unfoldable pub putAt : List ℕ → ℕ → List ℕ → List ℕ
-putAt bytes i r = paste bytes (40 * i) r 38
+putAt bytes i r = paste bytes (41 * i) r 38
 
 unfoldable pub putDepth : List ℕ → ℕ → ℕ → List ℕ
-putDepth bytes i d = set (set bytes (40 * i + 38) (d / 256)) (40 * i + 39) (d % 256)
+putDepth bytes i d = set (set bytes (41 * i + 38) (d / 256)) (41 * i + 39) (d % 256)
 
-module _ (bytes : List ℕ) (i : ℕ) (r : List ℕ) (e : length bytes ≡ 26880) (h : i < 672) (l : length r ≡ 38) where
-  pub put-length : length (putAt bytes i r) ≡ 26880
+abbrev pub putCentre : List ℕ → ℕ → ℕ → List ℕ
+putCentre bytes i c = set bytes (41 * i + 40) c
+
+module _ (bytes : List ℕ) (i : ℕ) (r : List ℕ) (e : length bytes ≡ 27552) (h : i < 672) (l : length r ≡ 38) where
+  pub put-length : length (putAt bytes i r) ≡ 27552
   unfolding putAt
-  put-length = length-paste bytes (40 * i) r 38 (omega arith) (omega arith) ∙ e
+  put-length = length-paste bytes (41 * i) r 38 (omega arith) (omega arith) ∙ e
 
   pub put-same : recordAt (putAt bytes i r) i ≡ r
   unfolding putAt recordAt
   put-same =
-      let a : length (take (40 * i) bytes) ≡ 40 * i = length-take-le (40 * i) bytes (omega arith) in
-      rw (append-assoc, drop-at (take (40 * i) bytes) (take 38 r ++ drop (40 * i + 38) bytes) (40 * i) a, take-all 38 r (omega arith)) (take-at r _ 38 l)
+      let a : length (take (41 * i) bytes) ≡ 41 * i = length-take-le (41 * i) bytes (omega arith) in
+      rw (append-assoc, drop-at (take (41 * i) bytes) (take 38 r ++ drop (41 * i + 38) bytes) (41 * i) a, take-all 38 r (omega arith)) (take-at r _ 38 l)
 
   -- at an earlier place
   pub put-before : (j : ℕ) → j < i → recordAt (putAt bytes i r) j ≡ recordAt bytes j
   unfolding putAt recordAt
   put-before j k =
-      let a : 40 * j + 38 ≤ length (take (40 * i) bytes) = rw (length-take-le (40 * i) bytes (omega arith)) (omega arith) in
-      let t : take (40 * j + 38) (take (40 * i) bytes ++ take 38 r ++ drop (40 * i + 38) bytes) ≡ take (40 * j + 38) bytes
+      let a : 41 * j + 38 ≤ length (take (41 * i) bytes) = rw (length-take-le (41 * i) bytes (omega arith)) (omega arith) in
+      let t : take (41 * j + 38) (take (41 * i) bytes ++ take 38 r ++ drop (41 * i + 38) bytes) ≡ take (41 * j + 38) bytes
       = rw append-assoc
-      (take-append-le (40 * j + 38) (take (40 * i) bytes) _ a ∙ take-take (40 * j + 38) (40 * i) bytes (omega arith)) in
-      part-drop 38 (40 * j) _ ∙ ap (λ (x : List ℕ). drop (40 * j) x) t ∙ sym (part-drop 38 (40 * j) bytes)
+      (take-append-le (41 * j + 38) (take (41 * i) bytes) _ a ∙ take-take (41 * j + 38) (41 * i) bytes (omega arith)) in
+      part-drop 38 (41 * j) _ ∙ ap (λ (x : List ℕ). drop (41 * j) x) t ∙ sym (part-drop 38 (41 * j) bytes)

@@ -17,7 +17,7 @@ pub fn larger(a: usize, b: usize) -> usize
 }
 
 // The depth of the deepest of its sources, which stand before it.
-fn deepest_source(nodes: &[u8; 26880], i: usize) -> usize
+fn deepest_source(nodes: &[u8; 27552], i: usize) -> usize
     requires { ⌜ IsStore (now nodes) i × IsNode (now nodes) i ⌝ }
     ensures { λ r. ⌜ r ≡ largest (depthIn (now (nodes .entry))) (needs (nodeOf (now (nodes .entry)) i)) ⌝ }
 {
@@ -31,7 +31,7 @@ fn deepest_source(nodes: &[u8; 26880], i: usize) -> usize
 }
 
 // What its sources give: one more for a bootstrap.
-fn depth_from(nodes: &[u8; 26880], i: usize) -> usize
+fn depth_from(nodes: &[u8; 27552], i: usize) -> usize
     requires { ⌜ IsStore (now nodes) i × IsNode (now nodes) i ⌝ }
     ensures { λ r. ⌜ (r ≡ nodeDepth (depthIn (now (nodes .entry))) (nodeOf (now (nodes .entry)) i)) × (r ≤ i) ⌝ }
 {
@@ -43,11 +43,11 @@ fn depth_from(nodes: &[u8; 26880], i: usize) -> usize
 }
 
 // Asks that the nodes before it have their depths.
-pub fn put_depth(nodes: &mut [u8; 26880], i: usize)
+pub fn put_depth(nodes: &mut [u8; 27552], i: usize)
     requires { ⌜ IsStore (now nodes) i × IsNode (now nodes) i ⌝ }
     ensures { λ _. ⌜ now (nodes .exit) ≡ putDepth (now (nodes .entry)) i (nodeDepth (depthIn (now (nodes .entry))) (nodeOf (now (nodes .entry)) i)) ⌝ }
 {
     let depth = depth_from(nodes, i);
-    nodes[40 * i + 38] = (depth / 256) as u8;
-    nodes[40 * i + 39] = (depth % 256) as u8;
+    nodes[41 * i + 38] = (depth / 256) as u8;
+    nodes[41 * i + 39] = (depth % 256) as u8;
 }

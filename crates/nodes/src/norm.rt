@@ -22,7 +22,7 @@ fn square(x: i64) -> usize
 }
 
 // What a source with this coefficient adds to a norm.
-pub fn source_norm(nodes: &[u8; 26880], source: usize, coef: i64) -> usize
+pub fn source_norm(nodes: &[u8; 27552], source: usize, coef: i64) -> usize
     requires { ⌜ IsNode (now nodes) source × (natAbs coef ≤ 31) ⌝ }
     ensures { λ r. ⌜ (r ≡ (natAbs coef * natAbs coef) * weightOf (nodeOf (now (nodes .entry)) source)) × (r ≤ 61504) ⌝ }
 {
@@ -30,7 +30,7 @@ pub fn source_norm(nodes: &[u8; 26880], source: usize, coef: i64) -> usize
 }
 
 // What term k adds.
-fn term_norm(nodes: &[u8; 26880], i: usize, k: usize) -> usize
+fn term_norm(nodes: &[u8; 27552], i: usize, k: usize) -> usize
     requires { ⌜ IsStore (now nodes) (i + 1) × (k < length (termsOf (nodeOf (now nodes) i))) ⌝ }
     ensures { λ r. ⌜ (r ≡ termNorm (storeOf (now (nodes .entry)) i) (getD (termsOf (nodeOf (now (nodes .entry)) i)) k (term (pos 0) 0))) × (r ≤ 61504) ⌝ }
 {
@@ -39,7 +39,7 @@ fn term_norm(nodes: &[u8; 26880], i: usize, k: usize) -> usize
 }
 
 // Its sources stand before it (`norm-among`: its norm stays as nodes come after it).
-pub fn node_norm(nodes: &[u8; 26880], i: usize) -> u64
+pub fn node_norm(nodes: &[u8; 27552], i: usize) -> u64
     requires { ⌜ IsStore (now nodes) (i + 1) ⌝ }
     ensures { λ r. ⌜ r ≡ nodeNorm (storeOf (now (nodes .entry)) i) (nodeOf (now (nodes .entry)) i) ⌝ }
 {

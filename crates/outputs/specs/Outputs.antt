@@ -17,7 +17,7 @@ use Rattle.rules.specs.declared.Settings.{Settings}
 use Rattle.rules.specs.Cone as C
 use Rattle.rules.specs.Cone.{identity}
 use Rattle.rules.specs.Mapper.{Signal, Outputs, coneAt, wireOf, outputSignal}
-use Rattle.rules.specs.Network.{LutNode, Linear}
+use Rattle.rules.specs.Network.{LutNode, Linear, nodeCentre}
 use Rattle.rules.specs.Store.{Stored, isUsed, insert, sorted, linearTerms, intern, numberOf, bootstrapped, bootstrapCone}
 use Rattle.cone.specs.declared.Cone.{Cone}
 use Rattle.cone.specs.View.{coneOf}
@@ -30,7 +30,7 @@ use Rattle.lut.specs.Store.{Interns}
 use Rattle.nodes.specs.View.{term, termsIn, FineTerms, GoodTerms, storeOf, IsStore}
 use Rattle.bootstrap.specs.declared.boot.Booted.{Booted}
 use Rattle.cone.specs.Sources.{Stands}
-use Rattle.bootstrap.specs.View.{Grown, Boots, bootedOf}
+use Rattle.bootstrap.specs.View.{KeepsCentres, Grown, Boots, bootedOf, centres-same}
 use Rattle.gates.specs.View.{conesIn}
 use Rattle.bootstrap.specs.Boot.{grown-by-one, told-inside}
 use Rattle.gates.specs.Wired.{Wired, SlotIn, slot-cone}
@@ -63,8 +63,8 @@ unfoldable pub SignalIn : ℕ → LutSignal → Type 0
 SignalIn n (Signals.Const b) = b ≤ 1
 SignalIn n (Signals.Node k) = k < n
 
-pub record Finishes (before more : ℕ) (bytes : List ℕ) (l : Linked) : Type 0 where
-  pub grown : Grown before more bytes (l .count)
+pub record Finishes (p : ℕ) (old : List ℕ) (before more : ℕ) (bytes : List ℕ) (l : Linked) : Type 0 where
+  pub grown : Grown p old before more bytes (l .count)
   pub inside : SignalIn (l .count) (l .signal)
 
 pub record GoodPorts (ps : List ℕ) (n outs : ℕ) : Type 0 where
@@ -90,10 +90,11 @@ pub record Done (before : List ℕ) (outs : ℕ) (nodes ports : List ℕ) (k : �
   pub kept : (j : ℕ) → ((i : ℕ) → i < outs → j ≢ 64 + 3 * i + 2) → getD ports j 0 ≡ getD before j 0
 
 -- The same with at most two nodes more an output.
-pub record Outs (before : List ℕ) (count outs : ℕ) (nodes ports : List ℕ) (k : ℕ) : Type 0 where
+pub record Outs (p : ℕ) (old before : List ℕ) (count outs : ℕ) (nodes ports : List ℕ) (k : ℕ) : Type 0 where
   pub done : Done before outs nodes ports k
   pub least : count ≤ k
   pub most : k ≤ count + 2 * outs
+  pub centred : KeepsCentres p old count nodes k
 
 -- The sum of one term: 1 less the node.
 pub record Negated (node : ℕ) (t : Terms) : Type 0 where
@@ -147,11 +148,11 @@ pub idle-signal : (s : Settings) (nodes : List LutNode) (c : C.Cone) → length 
 unfolding outputSignal bootstrapCone
 idle-signal s nodes c h = rw (le-leb (length (c .support)) 1 h) refl
 
-pub finishes-more : (before : ℕ) (bytes : List ℕ) (l : Linked) → Finishes before 1 bytes l → Finishes before 2 bytes l
+pub finishes-more : {p : ℕ} {old : List ℕ} (before : ℕ) (bytes : List ℕ) (l : Linked) → Finishes p old before 1 bytes l → Finishes p old before 2 bytes l
 finishes-more before bytes l h =
     let g = h .grown in
     let b = g .most in
-    record { grown = record { store = g .store; least = g .least; most = omega arith }; inside = h .inside }
+    record { grown = record { store = g .store; least = g .least; most = omega arith; centred = g .centred }; inside = h .inside }
 
 no-source : (c : Cone) → c .n ≡ 0 → coneOf c .support ≡ []
 unfolding coneOf
@@ -163,9 +164,9 @@ pub wire-constant : (bytes : List ℕ) (count : ℕ) (c : Cone) (first : ℕ) �
 unfolding signalRead wireOfSignal wireOf
 wire-constant bytes count c first h q = rw (no-source c h, q) refl
 
-pub finishes-self : (bytes : List ℕ) (count : ℕ) (signal : LutSignal) → IsStore bytes count → SignalIn count signal
-    → Finishes count 1 bytes (record { count = count; signal = signal })
-finishes-self bytes count signal is inside = record { grown = record { store = is; least = omega arith; most = omega arith }; inside = inside }
+pub finishes-self : {p : ℕ} (bytes : List ℕ) (count : ℕ) (signal : LutSignal) → IsStore bytes count → SignalIn count signal
+    → Finishes p bytes count 1 bytes (record { count = count; signal = signal })
+finishes-self bytes count signal is inside = record { grown = record { store = is; least = omega arith; most = omega arith; centred = centres-same }; inside = inside }
 
 first-of : (l : List ℕ) → 0 < length l → take 1 l ≡ getD l 0 0 ∷ []
 first-of [] h = absurd (omega arith)
@@ -205,17 +206,17 @@ pub negated-is : (many : Bool) (node : ℕ) (t : Terms) → Negated node t
     → Linear (t .constant) (linearTerms many (termsIn t)) ≡ Linear (pos 1) (term (negsuc 0) node ∷ [])
 negated-is many node t h = ap₂ Linear (h .constant) (ap (linearTerms many) (h .are) ∙ one-term many node)
 
-module _ (n : LutNode) (bytes : List ℕ) (count : ℕ) (after : List ℕ) (r : Linked) (i : Interns n bytes count after r) where
+module _ {c : ℕ} (n : LutNode) (bytes : List ℕ) (count : ℕ) (after : List ℕ) (r : Linked) (i : Interns c n bytes count after r) where
   pub node-signal : signalRead after r ≡ signalOf n (storeOf bytes count)
   unfolding signalRead wireOfSignal signalOf
   node-signal = ap₂ {C = Signal} (λ l w. record { nodes = l; wire = wireOfSignal w }) (i .store) (i .signal)
 
-  pub node-finishes : Finishes count 1 after r
+  pub node-finishes : (p : ℕ) → c ≡ nodeCentre p n → Finishes p bytes count 1 after r
   unfolding SignalIn
-  node-finishes =
+  node-finishes p e =
       let g = grown-by-one n bytes count after r i in
       record {
-        grown = record { store = i .still; least = g .0; most = g .1 };
+        grown = record { store = i .still; least = g .0; most = g .1; centred = record { on = i .centred p e } };
         inside = subst (SignalIn (r .count)) (sym (i .signal)) (told-inside n bytes count after r i _ (i .signal));
       }
 
@@ -244,8 +245,8 @@ pub support-more : (c : Cone) → length (c .support) ≡ 11 → 1 < c .n → 1 
 unfolding coneOf
 support-more c long h = rw (length-take (c .n) (c .support), long) (omega arith)
 
-module _ (s : Settings) (nodes : List LutNode) (c : C.Cone) (more : 1 < length (c .support)) (count : ℕ) (after : List ℕ) (b : Booted)
-    (is : bootedOf after b ≡ bootstrapCone s nodes c) (boots : Boots count after b) where
+module _ (s : Settings) (nodes : List LutNode) (c : C.Cone) (more : 1 < length (c .support)) {p : ℕ} {old : List ℕ} (count : ℕ) (after : List ℕ) (b : Booted)
+    (is : bootedOf after b ≡ bootstrapCone s nodes c) (boots : Boots p old count after b) where
   abbrev told : Linked
   told = record { count = b .count; signal = Signals.Node (getD (b .cone .support) 0 0) }
 
@@ -271,6 +272,6 @@ module _ (s : Settings) (nodes : List LutNode) (c : C.Cone) (more : 1 < length (
   unfolding signalRead wireOfSignal outputSignal bootedOf
   boot-signal = wire-own ∙ ap (λ (x : Stored). wireOf (x .nodes) (x .cone .support) (x .cone .truth)) is
 
-  pub boot-finishes : Finishes count 2 after told
+  pub boot-finishes : Finishes p old count 2 after told
   unfolding SignalIn
   boot-finishes = record { grown = boots .grown; inside = source-inside }

@@ -15,6 +15,7 @@ use Rattle.rules.specs.Cone as C
 use Rattle.rules.specs.Mapper.{Signal, Outputs, coneAt, outputSignal, mapOutputs}
 use Rattle.nodes.specs.View.{storeOf, IsStore}
 use Rattle.lut.specs.declared.Linked.{Linked}
+use Rattle.bootstrap.specs.View.{KeepsCentres}
 use Rattle.outputs.specs.Outputs.{signalRead, portOf, PortIn, SignalIn, signal-wire, GoodPorts, started, outputsRead, Outs}
 use Rattle.circuit.specs.View.{portWire, nameAt, outputIn, outputsIn}
 
@@ -148,9 +149,9 @@ outputs-done s cones text before outs i nodes k ports a b =
 
 -- ---- laws: what is left in the ports
 
-pub outs-done : (before : List ℕ) (count outs k i : ℕ) (nodes ports : List ℕ) → Written before k i ports → outs ≤ i → i ≤ outs → outs ≤ 32 → IsStore nodes k → count ≤ k
-    → k ≤ count + 2 * i → Outs before count outs nodes ports k
-outs-done before count outs k i nodes ports w a b few is least most =
+pub outs-done : {p : ℕ} {old : List ℕ} (before : List ℕ) (count outs k i : ℕ) (nodes ports : List ℕ) → Written before k i ports → outs ≤ i → i ≤ outs → outs ≤ 32 → IsStore nodes k → count ≤ k
+    → k ≤ count + 2 * i → KeepsCentres p old count nodes k → Outs p old before count outs nodes ports k
+outs-done before count outs k i nodes ports w a b few is least most centred =
     record {
       done = record {
         store = is;
@@ -159,4 +160,5 @@ outs-done before count outs k i nodes ports w a b few is least most =
       };
       least = least;
       most = omega arith;
+      centred = centred;
     }

@@ -40,19 +40,19 @@ fn negated(node: usize) -> Terms
 }
 
 // 1 less the node.
-fn negation(nodes: &mut [u8; 26880], count: usize, node: usize, many: bool) -> Linked
+fn negation(nodes: &mut [u8; 27552], count: usize, node: usize, many: bool) -> Linked
     requires { ⌜ IsStore (now nodes) count × ((count < 672) × (node < count)) ⌝ }
     ensures is { λ r. ⌜ signalRead (now (nodes .exit)) r ≡ signalOf (Linear (pos 1) (term (negsuc 0) node ∷ [])) (storeOf (now (nodes .entry)) count) ⌝ }
-    ensures finishes { λ r. ⌜ Finishes count 1 (now (nodes .exit)) r ⌝ }
+    ensures finishes { λ r. ⌜ ((p : ℕ) → Finishes p (now (nodes .entry)) count 1 (now (nodes .exit)) r) ⌝ }
 {
     lut::linear(nodes, count, many, negated(node))
 }
 
 // A cone of no source or one source as a signal.
-fn wire_of(nodes: &mut [u8; 26880], count: usize, c: Cone, many: bool) -> Linked
+fn wire_of(nodes: &mut [u8; 27552], count: usize, c: Cone, many: bool) -> Linked
     requires { ⌜ IsStore (now nodes) count × ((count < 672) × (Stands count c × (c .n ≤ 1))) ⌝ }
     ensures is { λ r. ⌜ signalRead (now (nodes .exit)) r ≡ wireOf (storeOf (now (nodes .entry)) count) (coneOf c .support) (coneOf c .truth) ⌝ }
-    ensures finishes { λ r. ⌜ Finishes count 1 (now (nodes .exit)) r ⌝ }
+    ensures finishes { λ r. ⌜ ((p : ℕ) → Finishes p (now (nodes .entry)) count 1 (now (nodes .exit)) r) ⌝ }
 {
     let first = first_truth(c);
     let support = c.support;
@@ -73,10 +73,10 @@ fn wire_of(nodes: &mut [u8; 26880], count: usize, c: Cone, many: bool) -> Linked
 }
 
 // output_signal: a cone of more sources is bootstrapped, and what comes of that is a node's own cone.
-fn output_signal(s: Settings, nodes: &mut [u8; 26880], count: usize, c: Cone) -> Linked
+fn output_signal(s: Settings, nodes: &mut [u8; 27552], count: usize, c: Cone) -> Linked
     requires { ⌜ (inLimits s ≡ true) × (IsStore (now nodes) count × ((count + 2 ≤ 672) × Stands count c)) ⌝ }
     ensures is { λ r. ⌜ signalRead (now (nodes .exit)) r ≡ outputSignal s (storeOf (now (nodes .entry)) count) (coneOf c) ⌝ }
-    ensures finishes { λ r. ⌜ Finishes count 2 (now (nodes .exit)) r ⌝ }
+    ensures finishes { λ r. ⌜ Finishes (s .p) (now (nodes .entry)) count 2 (now (nodes .exit)) r ⌝ }
 {
     if c.n <= 1 {
         return wire_of(nodes, count, c, s.many);
@@ -105,7 +105,7 @@ fn slot_of(wire: usize) -> usize
 // One output.
 fn map_output(
     s: Settings,
-    nodes: &mut [u8; 26880],
+    nodes: &mut [u8; 27552],
     count: usize,
     wires: &[u8; 8580],
     n: usize,
@@ -113,7 +113,7 @@ fn map_output(
 ) -> Linked
     requires { ⌜ (inLimits s ≡ true) × ((count + 2 ≤ 672) × ((n ≤ 128) × (Wired (now nodes) count (now wires) n × PortIn n wire))) ⌝ }
     ensures is { λ r. ⌜ signalRead (now (nodes .exit)) r ≡ outputSignal s (storeOf (now (nodes .entry)) count) (coneAt (conesIn (now (wires .entry)) n) (portWire wire)) ⌝ }
-    ensures finishes { λ r. ⌜ Finishes count 2 (now (nodes .exit)) r ⌝ }
+    ensures finishes { λ r. ⌜ Finishes (s .p) (now (nodes .entry)) count 2 (now (nodes .exit)) r ⌝ }
 {
     let c = cone_at(wires, slot_of(wire));
     output_signal(s, nodes, count, c)
@@ -132,7 +132,7 @@ fn port_of(signal: Signal) -> usize
 // The outputs in turn, and how many nodes there are then. Asks that their wires are nodes below n or constants.
 pub fn map_outputs(
     s: Settings,
-    nodes: &mut [u8; 26880],
+    nodes: &mut [u8; 27552],
     count: usize,
     ports: &mut [usize; 192],
     wires: &[u8; 8580],
@@ -141,7 +141,7 @@ pub fn map_outputs(
 ) -> usize
     requires { ⌜ (inLimits s ≡ true) × ((count + 2 * outs ≤ 672) × ((n ≤ 128) × (Wired (now nodes) count (now wires) n × GoodPorts (now ports) n outs))) ⌝ }
     ensures is { λ r. ⌜ ((text : List ℕ) → outputsRead text (now (nodes .exit)) (now (ports .exit)) outs r ≡ mapOutputs s (conesIn (now (wires .entry)) n) (started (storeOf (now (nodes .entry)) count)) (outputsIn text (now (ports .entry)) outs)) ⌝ }
-    ensures outs { λ r. ⌜ Outs (now (ports .entry)) count outs (now (nodes .exit)) (now (ports .exit)) r ⌝ }
+    ensures outs { λ r. ⌜ Outs (s .p) (now (nodes .entry)) (now (ports .entry)) count outs (now (nodes .exit)) (now (ports .exit)) r ⌝ }
 {
     let mut k = count;
     let mut i = 0;

@@ -12,7 +12,7 @@ use nodes::node::size_of;
 use nodes::node::source_of;
 
 // The sources of node i are marked.
-fn mark_sources(nodes: &[u8; 26880], i: usize, live: &mut [u16; 672])
+fn mark_sources(nodes: &[u8; 27552], i: usize, live: &mut [u16; 672])
     requires { ⌜ IsNode (now nodes) i × (length (now live) ≡ 672) ⌝ }
     ensures { λ _. ⌜ Marking (adding (needs (nodeOf (now (nodes .entry)) i))) (now (live .entry)) (now (live .exit)) ⌝ }
 {
@@ -25,7 +25,7 @@ fn mark_sources(nodes: &[u8; 26880], i: usize, live: &mut [u16; 672])
 }
 
 // They are if node i is.
-fn mark_needed(nodes: &[u8; 26880], i: usize, live: &mut [u16; 672])
+fn mark_needed(nodes: &[u8; 27552], i: usize, live: &mut [u16; 672])
     requires { ⌜ IsNode (now nodes) i × (length (now live) ≡ 672) ⌝ }
     ensures { λ _. ⌜ Marking (addingNeeded i (nodeOf (now (nodes .entry)) i)) (now (live .entry)) (now (live .exit)) ⌝ }
 {
@@ -36,7 +36,7 @@ fn mark_needed(nodes: &[u8; 26880], i: usize, live: &mut [u16; 672])
 }
 
 // Every node that a marked one needs is marked.
-fn mark_live(nodes: &[u8; 26880], count: usize, live: &mut [u16; 672])
+fn mark_live(nodes: &[u8; 27552], count: usize, live: &mut [u16; 672])
     requires { ⌜ IsStore (now nodes) count × (length (now live) ≡ 672) ⌝ }
     ensures { λ _. ⌜ Marking (wantedBelow count (storeOf (now (nodes .entry)) count)) (now (live .entry)) (now (live .exit)) ⌝ }
 {
@@ -78,7 +78,7 @@ fn renumber(live: &mut [u16; 672], count: usize)
 }
 
 // From the marks of the nodes that outputs name to the new numbers of all nodes that are kept.
-pub fn prune(nodes: &[u8; 26880], count: usize, live: &mut [u16; 672])
+pub fn prune(nodes: &[u8; 27552], count: usize, live: &mut [u16; 672])
     requires { ⌜ IsStore (now nodes) count × (length (now live) ≡ 672) ⌝ }
     ensures { λ _. ⌜ Numbers (wantedBelow count (storeOf (now (nodes .entry)) count)) count (now (live .entry)) (now (live .exit)) ⌝ }
 {

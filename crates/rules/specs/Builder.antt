@@ -10,8 +10,7 @@ use Rattle.laws.specs.Over.{over}
 use Rattle.laws.specs.Select.{any}
 use Rattle.laws.specs.Tabulate.{tabulate}
 use Rattle.laws.specs.Test.{if_then_else_, isSome, allb}
-use Rattle.rules.specs.Outcome.{Answer, written, refused, Outcome, outcome}
-use Rattle.rules.specs.Rotation.{rotatable}
+use Rattle.rules.specs.Rotation.{rotatable, centreOf}
 use Rattle.rules.specs.Span.{least, span}
 use Rattle.rules.specs.declared.Entry.{Entry}
 use Rattle.rules.specs.declared.Entry.the-variants.{Zero, One, Unknown}
@@ -110,39 +109,60 @@ remainsForAll s P known = allb (length known - P) (remainsAt s P known)
 
 -- ---- The reply.
 
+-- Accepted: number 0, the count of bits written and the centre of the table (document 02, S-10). Refused: the number, and 0 for both. The line is 0.
+pub record TableAnswer : Type 0 where
+  pub number : ℕ
+  pub line : ℕ
+  pub count : ℕ
+  pub centre : ℕ
+
+abbrev pub withTable : ℕ → ℕ → TableAnswer
+withTable n c = record { number = 0; line = 0; count = n; centre = c }
+
+abbrev pub noTable : ℕ → TableAnswer
+noTable k = record { number = k; line = 0; count = 0; centre = 0 }
+
+-- The answer, and what is left in the answer buffer.
+pub record Built : Type 0 where
+  pub answer : TableAnswer
+  pub buffer : List ℕ
+
+abbrev pub built : TableAnswer → List ℕ → Built
+built a b = record { answer = a; buffer = b }
+
 -- P from 2 to 16, M from P to 2P.
 unfoldable pub tableLimits : ℕ → ℕ → Bool
 tableLimits P M = leb 2 P && leb P 16 && leb P M && leb M (2 * P)
 
 -- 33 where there is no completion, 34 where the buffer is too short for it.
-unfoldable pub fromTable : List ℕ → Option (List ℕ) → Outcome
-fromTable buffer none = outcome (refused 33 0) buffer
-fromTable buffer (some table) =
-    if ltb (length buffer) (length table) then outcome (refused 34 0) buffer
-    else outcome (written (length table)) (over table buffer)
+unfoldable pub fromTable : ℕ → List ℕ → Option (List ℕ) → Built
+fromTable P buffer none = built (noTable 33) buffer
+fromTable P buffer (some table) =
+    if ltb (length buffer) (length table) then built (noTable 34) buffer
+    else built (withTable (length table) (centreOf P table)) (over table buffer)
 
 -- 32 where the rows give no known entries.
-unfoldable pub fromKnown : ℕ → List ℕ → Option (List ℕ) → Outcome
-fromKnown P buffer none = outcome (refused 32 0) buffer
-fromKnown P buffer (some known) = fromTable buffer (completion P known)
+unfoldable pub fromKnown : ℕ → List ℕ → Option (List ℕ) → Built
+fromKnown P buffer none = built (noTable 32) buffer
+fromKnown P buffer (some known) = fromTable P buffer (completion P known)
 
 -- The settings P and M, a value and a truth for each row, the answer buffer as it was.
 -- A refusal keeps it; else each bit is written as a byte 0 or 1, and later bytes are kept.
-unfoldable pub builder : ℕ → ℕ → List ℤ → List ℕ → List ℕ → Outcome
+unfoldable pub builder : ℕ → ℕ → List ℤ → List ℕ → List ℕ → Built
 builder P M values truths buffer =
     let rest = fromKnown P buffer (knownEntries values truths) in
-    if not (tableLimits P M) then outcome (refused 2 0) buffer
-    else if not (eqb (length values) (length truths)) then outcome (refused 30 0) buffer
-    else if eqb (length values) 0 then outcome (refused 30 0) buffer
-    else if ltb M (span values) then outcome (refused 31 0) buffer
+    if not (tableLimits P M) then built (noTable 2) buffer
+    else if not (eqb (length values) (length truths)) then built (noTable 30) buffer
+    else if eqb (length values) 0 then built (noTable 30) buffer
+    else if ltb M (span values) then built (noTable 31) buffer
     else rest
 
 -- Document 01's number and values for each reply.
-abbrev pub builderReply : BuilderReply → Answer
-builderReply (Written n) = written n
-builderReply BadSettings = refused 2 0
-builderReply BadLengths = refused 30 0
-builderReply SpanOverM = refused 31 0
-builderReply Conflict = refused 32 0
-builderReply NoCompletion = refused 33 0
-builderReply ShortBuffer = refused 34 0
+abbrev pub builderReply : BuilderReply → TableAnswer
+builderReply (Written n c) = withTable n c
+builderReply BadSettings = noTable 2
+builderReply BadLengths = noTable 30
+builderReply SpanOverM = noTable 31
+builderReply Conflict = noTable 32
+builderReply NoCompletion = noTable 33
+builderReply ShortBuffer = noTable 34

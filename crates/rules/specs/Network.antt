@@ -1,5 +1,5 @@
 -- A network of sums and bootstrap tables (document 01, "The text forms"; LutCircuit in the Rust), its measures and its run.
-use mathlib.Core.Bool.{Bool, true, false, _||_}
+use mathlib.Core.Bool.{Bool, true, false, _&&_, _||_}
 use mathlib.Core.List.{List, [], _∷_, _++_, map}
 use mathlib.Core.Option.{Option, none, some, Option·map}
 use Prim.Native.Nat.{ℕ, _+_, _*_, max}
@@ -12,7 +12,7 @@ use Rattle.rules.specs.declared.Stats.{Stats}
 use Rattle.rules.specs.declared.Wire.{Wire}
 use Rattle.rules.specs.declared.Wire.the-variants.{Const, Node}
 use Rattle.rules.specs.Circuit.{Given, Output}
-use Rattle.rules.specs.Rotation.{rotated}
+use Rattle.rules.specs.Rotation.{rotated, centreOf}
 
 -- One summand: a coefficient times a node.
 pub record Term : Type 0 where
@@ -155,6 +155,16 @@ depth nodes i = getD (depths nodes) i 0
 unfoldable pub largestDepth : List LutNode → ℕ
 largestDepth nodes = largest (λ d. d) (depths nodes)
 
+-- The centre of a node's table (document 02, S-10), with the network's P; 0 for a node that has none.
+unfoldable pub nodeCentre : ℕ → LutNode → ℕ
+nodeCentre P (Input n) = 0
+nodeCentre P (Linear c ts) = 0
+nodeCentre P (Bootstrap i table) = centreOf P table
+
+-- The node is a table of this centre.
+unfoldable pub hasCentre : ℕ → ℕ → LutNode → Bool
+hasCentre P k n = isBootstrap n && eqb (nodeCentre P n) k
+
 unfoldable pub stats : Network → Stats
 stats w =
     record {
@@ -166,6 +176,9 @@ stats w =
       norm = largest (nodeNorm (w .nodes)) (w .nodes);
       outputs = length (w .outputs);
       depth = largestDepth (w .nodes);
+      centre0 = count (hasCentre (w .p) 0) (w .nodes);
+      centre1 = count (hasCentre (w .p) 1) (w .nodes);
+      centre2 = count (hasCentre (w .p) 2) (w .nodes);
     }
 
 -- ---- The network run: nodes in order, each to a whole number; none where a `boot` breaks off.

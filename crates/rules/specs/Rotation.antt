@@ -2,7 +2,7 @@
 use mathlib.Core.Path.{_≡_}
 use mathlib.Core.Bool.{Bool}
 use mathlib.Core.List.{List, [], _∷_, _++_}
-use mathlib.Core.Option.{Option, none, some, Option·map}
+use mathlib.Core.Option.{Option, none, some, Option·map, Option·getD}
 use Prim.Native.Nat.{ℕ, zero, suc, _+_, _*_, _-_, _<_, _≤_}
 use lib.Dec.{leb, ltb, eqb}
 use lib.IntN.{ℤ, pos, negsuc, negℤ, _+ℤ_, _-ℤ_}
@@ -50,6 +50,10 @@ centre P bits =
 -- is_fbs_table_valid
 unfoldable pub rotatable : ℕ → List ℕ → Bool
 rotatable P bits = isSome (centre P bits)
+
+-- The centre that is named of a table which a rotation gives (document 02, S-10): c. Where none gives it, which is not asked, 0.
+unfoldable pub centreOf : ℕ → List ℕ → ℕ
+centreOf P bits = Option·getD (centre P bits) 0
 
 -- ---- The boot rule.
 

@@ -25,7 +25,7 @@ fn refused(number: usize, line: usize) -> SumAnswer
 }
 
 // Node i, a sum.
-fn reading_on(nodes: &[u8; 26880], i: usize, value: i32) -> SumAnswer
+fn reading_on(nodes: &[u8; 27552], i: usize, value: i32) -> SumAnswer
     requires { ⌜ IsNode (now nodes) i × (isLinear (nodeOf (now nodes) i) ≡ true) ⌝ }
     ensures { λ r. ⌜ r ≡ sumAnswer (readingAt (nodeOf (now (nodes .entry)) i) value) ⌝ }
 {
@@ -38,7 +38,7 @@ fn reading_on(nodes: &[u8; 26880], i: usize, value: i32) -> SumAnswer
 }
 
 // The node of a number, where there is one.
-fn reading_at(nodes: &[u8; 26880], count: usize, node: usize, value: i32) -> SumAnswer
+fn reading_at(nodes: &[u8; 27552], count: usize, node: usize, value: i32) -> SumAnswer
     requires { ⌜ IsStore (now nodes) count ⌝ }
     ensures { λ r. ⌜ r ≡ sumAnswer (readingAt (nodeAt (storeOf (now (nodes .entry)) count) node) value) ⌝ }
 {
@@ -55,7 +55,7 @@ fn reading_at(nodes: &[u8; 26880], count: usize, node: usize, value: i32) -> Sum
 pub fn sum_reading(text: &[u8], node: usize, value: i32) -> SumAnswer
     ensures { λ r. ⌜ r ≡ sumAnswer (sumReading (now (text .entry)) node value) ⌝ }
 {
-    let mut nodes = [0u8; 26880];
+    let mut nodes = [0u8; 27552];
     let mut ports = [0usize; 160];
     let r = network::read(text, true, &mut nodes, &mut ports);
     match r {

@@ -18,7 +18,7 @@ use rules::SumAnswer;
 use rules::SumReply;
 
 // The coefficients of node i's n terms; 0 behind them.
-pub fn coefs_of(nodes: &[u8; 26880], i: usize, n: usize) -> [i64; 11]
+pub fn coefs_of(nodes: &[u8; 27552], i: usize, n: usize) -> [i64; 11]
     requires { ⌜ IsNode (now nodes) i × (n ≤ 11) × (n ≡ length (termsOf (nodeOf (now nodes) i))) ⌝ }
     ensures { λ r. ⌜ take n r ≡ coefs (termsOf (nodeOf (now (nodes .entry)) i)) ⌝ }
 {

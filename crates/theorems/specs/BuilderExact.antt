@@ -12,10 +12,9 @@ use lib.IntN.{ℤ, pos, natAbs, _-ℤ_}
 use lib.ListN.{length, getD, replicate, length-replicate}
 use Rattle.laws.specs.Over.{over}
 use Rattle.laws.specs.Test.{lt-or-le, eq-or-ne, is-T, and-left, and-right}
-use Rattle.rules.specs.Outcome.{written, refused, Outcome, outcome}
-use Rattle.rules.specs.Rotation.{Rotatable}
+use Rattle.rules.specs.Rotation.{Rotatable, centreOf}
 use Rattle.rules.specs.Span.{least, span}
-use Rattle.rules.specs.Builder.{Entries, knownEntries, completion, tableLimits, fromTable, fromKnown, builder}
+use Rattle.rules.specs.Builder.{Entries, knownEntries, completion, tableLimits, withTable, noTable, Built, built, fromTable, fromKnown, builder}
 use Rattle.theorems.specs.RotationRule.{rotation-rule}
 use Rattle.theorems.specs.Completions.{some-table, completion-is, completion-found}
 use Rattle.theorems.specs.Rows.{within, entered, entered-left, entered-entries, unknown-entries, unknown-completes}
@@ -39,18 +38,18 @@ pub record Completion (P M : ℕ) (values : List ℤ) (truths t : List ℕ) : Ty
 abbrev pub Accepted : (P M : ℕ) (values : List ℤ) (truths buffer : List ℕ) → Type 0
 Accepted P M values truths buffer = builder P M values truths buffer .answer .number ≡ 0
 
--- The reply is this table, written from the buffer's start.
+-- The reply is this table, written from the buffer's start, and its centre.
 abbrev pub Answers : (P M : ℕ) (values : List ℤ) (truths buffer t : List ℕ) → Type 0
-Answers P M values truths buffer t = builder P M values truths buffer ≡ outcome (written (length t)) (over t buffer)
+Answers P M values truths buffer t = builder P M values truths buffer ≡ built (withTable (length t) (centreOf P t)) (over t buffer)
 
 -- ---- the definition's tests in turn
-from-table : (buffer t : List ℕ) → length t ≤ length buffer → fromTable buffer (some t) ≡ outcome (written (length t)) (over t buffer)
+from-table : (P : ℕ) (buffer t : List ℕ) → length t ≤ length buffer → fromTable P buffer (some t) ≡ built (withTable (length t) (centreOf P t)) (over t buffer)
 unfolding fromTable
-from-table buffer t h = rw (le-ltb (length buffer) (length t) h)
+from-table P buffer t h = rw (le-ltb (length buffer) (length t) h)
 
-too-short : (buffer t : List ℕ) → length buffer < length t → fromTable buffer (some t) ≡ outcome (refused 34 0) buffer
+too-short : (P : ℕ) (buffer t : List ℕ) → length buffer < length t → fromTable P buffer (some t) ≡ built (noTable 34) buffer
 unfolding fromTable
-too-short buffer t h = rw (lt-ltb (length buffer) (length t) h)
+too-short P buffer t h = rw (lt-ltb (length buffer) (length t) h)
 
 -- a table within the limits fits 32 bytes
 pub limits-period : (P M : ℕ) → tableLimits P M ≡ true → P ≤ 16
@@ -66,21 +65,21 @@ limits-most P M e =
     omega (arith, limits-period P M e)
 
 module _ (P M : ℕ) (values : List ℤ) (truths buffer : List ℕ) where
-  pub bad-settings : tableLimits P M ≡ false → builder P M values truths buffer ≡ outcome (refused 2 0) buffer
+  pub bad-settings : tableLimits P M ≡ false → builder P M values truths buffer ≡ built (noTable 2) buffer
   unfolding builder
   bad-settings e = rw e
 
   module _ (limits : tableLimits P M ≡ true) where
-    pub lengths-differ : (length values ≡ length truths → ⊥) → builder P M values truths buffer ≡ outcome (refused 30 0) buffer
+    pub lengths-differ : (length values ≡ length truths → ⊥) → builder P M values truths buffer ≡ built (noTable 30) buffer
     unfolding builder
     lengths-differ n = rw (limits, ne-eqb (length values) (length truths) n)
 
     module _ (same : length values ≡ length truths) where
-      pub no-row : length values ≡ 0 → builder P M values truths buffer ≡ outcome (refused 30 0) buffer
+      pub no-row : length values ≡ 0 → builder P M values truths buffer ≡ built (noTable 30) buffer
       unfolding builder
       no-row h = rw (limits, eq-eqb (length values) (length truths) same, eq-eqb (length values) 0 h)
 
-      pub too-long : (length values ≡ 0 → ⊥) → M < span values → builder P M values truths buffer ≡ outcome (refused 31 0) buffer
+      pub too-long : (length values ≡ 0 → ⊥) → M < span values → builder P M values truths buffer ≡ built (noTable 31) buffer
       unfolding builder
       too-long n h = rw (limits, eq-eqb (length values) (length truths) same, ne-eqb (length values) 0 n, lt-ltb M (span values) h)
 
@@ -118,15 +117,15 @@ module _ (P M : ℕ) (values : List ℤ) (truths buffer : List ℕ) where
     replied : (k : List ℕ) → knownEntries values truths ≡ some k → (t : List ℕ) → completion P k ≡ some t → length t ≤ length buffer
         → Answers P M values truths buffer t
     unfolding fromKnown
-    replied k e t f h = from-rows P M values truths buffer limits same n l ∙ rw (e, f) (from-table buffer t h)
+    replied k e t f h = from-rows P M values truths buffer limits same n l ∙ rw (e, f) (from-table P buffer t h)
 
     by-table : (k : List ℕ) → knownEntries values truths ≡ some k → (c : Option (List ℕ)) → completion P k ≡ c
-        → fromTable buffer c .answer .number ≡ 0 → Found
+        → fromTable P buffer c .answer .number ≡ 0 → Found
     unfolding fromTable
     by-table k e none f a = absurd (omega arith)
     by-table k e (some t) f a =
         ⊎-elim
-        (λ (h : length buffer < length t). absurd (let q : _≡_ {A = ℕ} 34 0 = rw (too-short buffer t h) at a in omega arith))
+        (λ (h : length buffer < length t). absurd (let q : _≡_ {A = ℕ} 34 0 = rw (too-short P buffer t h) at a in omega arith))
         (λ (h : length t ≤ length buffer). (t, found same k e t f l, replied k e t f h))
         (lt-or-le (length buffer) (length t))
 
@@ -168,7 +167,7 @@ module _ (P M : ℕ) (values : List ℤ) (truths buffer : List ℕ) where
       let w = whole (o .lengths) (k .0) (k .1) in
       let s = some-table P (k .0) (completion-found P (k .0) t (k .2) (rotation-rule P t .decides .1 (c .turns)) (w .0)) in
       let fits : length (s .0) ≤ length buffer = omega (arith, completion-is (k .0) (w .0) P (s .0) (s .1) .0 .long, w .1, o .room l) in
-      ap (λ (r : Outcome). r .answer .number) (replied limits (o .lengths) (omega arith) l (k .0) (k .1) (s .0) (s .1) fits)
+      ap (λ (r : Built). r .answer .number) (replied limits (o .lengths) (omega arith) l (k .0) (k .1) (s .0) (s .1) fits)
 
 -- A table answered is a completion of the rows, of at most M bits, that can be rotated and agrees with every row.
 -- With settings, lengths and buffer in order, one is answered exactly when there is a row and there is such a completion.

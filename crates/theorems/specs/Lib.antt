@@ -1,5 +1,6 @@
 -- What is proved of the rules alone.
 pub mod RotationRule
+pub mod Centres
 pub mod NineCases
 pub mod Completions
 pub mod Spans
@@ -7,6 +8,8 @@ pub mod Rows
 pub mod KnownRows
 pub mod Truths
 pub mod BuilderExact
+pub mod BuiltCentre
+pub mod OwnRows
 pub mod SettingLimits
 pub mod Worked
 pub mod Refusals
@@ -30,6 +33,7 @@ pub mod Depths
 pub mod AdmissionExact
 pub mod AdmittedSafe
 pub mod LongestChains
+pub mod CentreCounts
 pub mod SoundCircuits
 pub mod Normalised
 pub mod Unions

@@ -95,7 +95,7 @@ module _ (P : ℕ) (bits : List ℕ) where
       let all : T (allb (length bits - P) (sameSum P bits)) = rw (rotatable-pairs (omega arith) (rotatable-short t)) at t in
       eqb→eq _ _ (allb-at (length bits - P) _ all i h)
 
-  centre-common : P < length bits → T (rotatable P bits) → centre P bits ≡ some (pairSum P bits 0)
+  pub centre-common : P < length bits → T (rotatable P bits) → centre P bits ≡ some (pairSum P bits 0)
   centre-common l t =
       rw (centre-pairs l (rotatable-short t), ← rotatable-pairs l (rotatable-short t), T-is (rotatable P bits) t)
 
@@ -151,25 +151,25 @@ module _ (P : ℕ) (bits : List ℕ) where
           (sym (high-is (getD bits (v - P) 0) (getD bits v 0) c (sum-at P bits t v h k)))
 
   -- two opposite coefficients make each pair's sum c
-  rotatable-no : Rotatable P bits → T (rotatable P bits)
+  pub sum-c : (r : Rotatable P bits) (i : ℕ) → i < length bits - P → pos (pairSum P bits i) ≡ r .c
   unfolding pairSum
+  sum-c r i h =
+      let short = r .short in
+      let e : i + P - P ≡ i = omega arith in
+      sum-is (getD bits i 0) (getD bits (i + P) 0) (r .c) (getD (r .s) i (pos 0))
+      (r .gives i (omega arith) ∙ ap (λ x. r .c +ℤ x) (turned-low i (r .s) (rw (r .long) (omega arith))))
+      (r .gives (i + P) (omega arith)
+      ∙ ap (λ x. r .c +ℤ x) (turned-high P (i + P) (r .s) (r .long) (omega arith) (omega arith) ∙ ap (λ j. negℤ (getD (r .s) j (pos 0))) e))
+
+  rotatable-no : Rotatable P bits → T (rotatable P bits)
   rotatable-no r = one-sum P bits (pairSum P bits 0) (r .short) (λ i h. same i h)
     where
-      sum : (i : ℕ) → i < length bits - P → pos (pairSum P bits i) ≡ r .c
-      sum i h =
-          let short = r .short in
-          let e : i + P - P ≡ i = omega arith in
-          sum-is (getD bits i 0) (getD bits (i + P) 0) (r .c) (getD (r .s) i (pos 0))
-          (r .gives i (omega arith) ∙ ap (λ x. r .c +ℤ x) (turned-low i (r .s) (rw (r .long) (omega arith))))
-          (r .gives (i + P) (omega arith)
-          ∙ ap (λ x. r .c +ℤ x) (turned-high P (i + P) (r .s) (r .long) (omega arith) (omega arith) ∙ ap (λ j. negℤ (getD (r .s) j (pos 0))) e))
-
       same : (i : ℕ) → i < length bits - P → pairSum P bits i ≡ pairSum P bits 0
-      same i h = let a = sum i h in let b = sum 0 (omega arith) in cc
+      same i h = let a = sum-c r i h in let b = sum-c r 0 (omega arith) in cc
 
   -- ---- the boot rule gives back every bit
   module _ (v : ℕ) (l : v < length bits) where
-    rotated-by : (c : ℕ) → centre P bits ≡ some c → rotated P bits (pos v) ≡ some (rotatedBy P bits v c)
+    pub rotated-by : (c : ℕ) → centre P bits ≡ some c → rotated P bits (pos v) ≡ some (rotatedBy P bits v c)
     unfolding rotated
     rotated-by c e = rw (e, lt-ltb v (length bits) l)
 

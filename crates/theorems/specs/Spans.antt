@@ -11,7 +11,7 @@ use lib.ListN.{length, getD, drop, drop-of-length-le}
 use lib.Seq.{drop-cons}
 use lib.Signed.{ltZ, _≤ℤ_}
 use Rattle.laws.specs.Integer.{ints, abs-parts, sub-parts, one-part-zero}
-use Rattle.laws.specs.Test.{if_then_else_, decide}
+use Rattle.laws.specs.Test.{if_then_else_, if-both, decide}
 use Rattle.rules.specs.Span.{leastFrom, greatestFrom, least, greatest, span}
 
 -- the smaller and the larger of two
@@ -55,6 +55,27 @@ unfolding greatest
 le-greatest [] i h = absurd (not-suc-le-zero h)
 le-greatest (v ∷ vs) zero h = le-greatestFrom v vs
 le-greatest (v ∷ vs) (suc i) h = at-greatestFrom v vs i (le-of-suc-le-suc h)
+
+-- what bounds every value bounds them too
+least-from-bound : (b m : ℤ) (vs : List ℤ) → b ≤ℤ m → ((i : ℕ) → i < length vs → b ≤ℤ getD vs i (pos 0)) → b ≤ℤ leastFrom m vs
+unfolding leastFrom
+least-from-bound b m [] h f = h
+least-from-bound b m (v ∷ vs) h f = least-from-bound b (if ltZ v m then v else m) vs (if-both (λ x. b ≤ℤ x) (ltZ v m) (f 0 (omega arith)) h) (λ i l. f (suc i) (omega arith))
+
+greatest-from-bound : (b m : ℤ) (vs : List ℤ) → m ≤ℤ b → ((i : ℕ) → i < length vs → getD vs i (pos 0) ≤ℤ b) → greatestFrom m vs ≤ℤ b
+unfolding greatestFrom
+greatest-from-bound b m [] h f = h
+greatest-from-bound b m (v ∷ vs) h f = greatest-from-bound b (if ltZ m v then v else m) vs (if-both (λ x. x ≤ℤ b) (ltZ m v) (f 0 (omega arith)) h) (λ i l. f (suc i) (omega arith))
+
+pub least-bound : (b : ℤ) (values : List ℤ) → 0 < length values → ((i : ℕ) → i < length values → b ≤ℤ getD values i (pos 0)) → b ≤ℤ least values
+unfolding least
+least-bound b [] h f = absurd (not-suc-le-zero h)
+least-bound b (v ∷ vs) h f = least-from-bound b v vs (f 0 (omega arith)) (λ i l. f (suc i) (omega arith))
+
+pub greatest-bound : (b : ℤ) (values : List ℤ) → 0 < length values → ((i : ℕ) → i < length values → getD values i (pos 0) ≤ℤ b) → greatest values ≤ℤ b
+unfolding greatest
+greatest-bound b [] h f = absurd (not-suc-le-zero h)
+greatest-bound b (v ∷ vs) h f = greatest-from-bound b v vs (f 0 (omega arith)) (λ i l. f (suc i) (omega arith))
 
 pub span-is : (values : List ℤ) → 0 < length values → span values ≡ natAbs (greatest values -ℤ least values) + 1
 unfolding span

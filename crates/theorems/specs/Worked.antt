@@ -1,5 +1,5 @@
 -- Document 01's ★ cases ("Reckoned by hand") under document 02's order of ties, one whose answer that order moved, cases at the
--- bounds of the data sheet (S-2), of weights (S-6) and of depths (S-7): one table, one proof over it.
+-- bounds of the data sheet (S-2), of weights (S-6), of depths (S-7), and tables with their centres (S-10): one table, one proof over it.
 use mathlib.Core.Path.{_≡_, refl}
 use mathlib.Core.Bool.{false}
 use mathlib.Core.List.{List, [], _∷_, map}
@@ -11,7 +11,7 @@ use Rattle.laws.specs.Over.{over}
 use Rattle.rules.specs.declared.Limit.the-variants.{Unlimited}
 use Rattle.rules.specs.declared.Policy.the-variants.{Span}
 use Rattle.rules.specs.declared.Settings.{Settings}
-use Rattle.rules.specs.Builder.{fromTable, fromKnown, builder}
+use Rattle.rules.specs.Builder.{withTable, noTable, Built, built, fromTable, fromKnown, builder}
 use Rattle.rules.specs.Composition.{unionSupport, gateTruth, Scales, scales, mergedCoefficients, evaluate}
 use Rattle.rules.specs.Computed.Computing.{computing}
 use Rattle.rules.specs.Cone.{Cone, Candidate, identity}
@@ -22,6 +22,7 @@ use Rattle.rules.specs.Network
 use Rattle.rules.specs.NetworkText
 use Rattle.rules.specs.NetworkText.{Admission, admitted, rejected, admission}
 use Rattle.rules.specs.Outcome.{written, refused, Outcome, outcome}
+use Rattle.rules.specs.Rotation
 
 pub data Question : Type 0 where
   -- the builder's P and M, and the values and truths of the rows
@@ -33,8 +34,9 @@ pub data Question : Type 0 where
   -- P and M, two cones, the answers of a gate on them, and a scale pair for them
   composing : ℕ → ℕ → Cone → Cone → List ℕ → ℤ → ℤ → Question
 
--- The answer with its buffer, admission's, or the score of the pair's candidate if it fits: reuse, span, norm, energy, a, b.
+-- The builder's answer or the mapper's with its buffer, admission's, or the score of the pair's candidate if it fits: reuse, span, norm, energy, a, b.
 pub data Reply : Type 0 where
+  builds : Built → Reply
   answers : Outcome → Reply
   judges : Admission → Reply
   scores : List (List ℤ) → Reply
@@ -42,6 +44,14 @@ pub data Reply : Type 0 where
 -- What the buffer has before.
 unfoldable pub buffer : List ℕ
 buffer = replicate 128 7
+
+-- Number 0, the count of these bits, which stand at the buffer's start, and the centre; later bytes are kept.
+abbrev table : List ℕ → ℕ → Reply
+table b c = builds (built (withTable (length b) c) (over b buffer))
+
+-- The builder's number; the buffer is kept.
+abbrev unbuilt : ℕ → Reply
+unbuilt k = builds (built (noTable k) buffer)
 
 -- Number 0 and the count of these bytes, which stand at the buffer's start; later bytes are kept.
 abbrev bytes : List ℕ → Reply
@@ -51,10 +61,12 @@ bytes b = answers (outcome (written (length b)) (over b buffer))
 abbrev refusal : ℕ → ℕ → Reply
 refusal k line = answers (outcome (refused k line) buffer)
 
--- Admitted, with the statistics: inputs, sums, tables, different sources, longest table, largest norm, outputs, largest depth.
-abbrev counts : ℕ → ℕ → ℕ → ℕ → ℕ → ℕ → ℕ → ℕ → Reply
-counts inputs sums boots sources longest norm outputs depth =
-    judges (admitted (record { inputs = inputs; sums = sums; boots = boots; sources = sources; longest = longest; norm = norm; outputs = outputs; depth = depth }))
+-- Admitted, with the statistics: inputs, sums, tables, different sources, longest table, largest norm, outputs, largest depth, tables of centre 0, 1 and 2.
+abbrev counts : ℕ → ℕ → ℕ → ℕ → ℕ → ℕ → ℕ → ℕ → ℕ → ℕ → ℕ → Reply
+counts inputs sums boots sources longest norm outputs depth c0 c1 c2 =
+    judges
+    (admitted
+    (record { inputs = inputs; sums = sums; boots = boots; sources = sources; longest = longest; norm = norm; outputs = outputs; depth = depth; centre0 = c0; centre1 = c1; centre2 = c2 }))
 
 unfoldable pub scoresOf : ℕ → ℕ → Cone → Cone → List ℕ → Scales → List (List ℤ)
 scoresOf P M left right gate p =
@@ -65,7 +77,7 @@ scoresOf P M left right gate p =
     map (λ (d : Candidate). d .score) (evaluate s [] p (record { support = support; coefficients = coefficients; truth = truth }))
 
 unfoldable pub reply : Question → Reply
-reply (building P M values truths) = answers (builder P M (map pos values) truths buffer)
+reply (building P M values truths) = builds (builder P M (map pos values) truths buffer)
 reply (mapping circuit) = answers (mapper (bytesOf circuit) buffer)
 reply (admitting network) = judges (admission (bytesOf network))
 reply (composing P M left right gate a b) = scores (scoresOf P M left right gate (scales a b))
@@ -84,12 +96,17 @@ q ⇒ r = record { asks = q; gives = r }
 
 pub cases : List Case
 cases =
-    (building 2 4 (0 ∷ 1 ∷ 2 ∷ []) (0 ∷ 1 ∷ 0 ∷ []) ⇒ bytes (0 ∷ 1 ∷ 0 ∷ []))
-    ∷ (building 2 4 (0 ∷ 3 ∷ []) (1 ∷ 1 ∷ []) ⇒ bytes (1 ∷ 0 ∷ 0 ∷ 1 ∷ []))
-    ∷ (building 2 4 (0 ∷ 1 ∷ 2 ∷ 3 ∷ []) (0 ∷ 0 ∷ 0 ∷ 1 ∷ []) ⇒ refusal 33 0)
-    ∷ (building 3 6 (0 ∷ 3 ∷ 5 ∷ []) (0 ∷ 1 ∷ 0 ∷ []) ⇒ bytes (0 ∷ 0 ∷ 1 ∷ 1 ∷ 1 ∷ 0 ∷ []))
-    ∷ (building 3 6 (0 ∷ 0 ∷ []) (0 ∷ 1 ∷ []) ⇒ refusal 32 0)
-    ∷ (building 2 3 (0 ∷ 3 ∷ []) (0 ∷ 1 ∷ []) ⇒ refusal 31 0)
+    (building 2 4 (0 ∷ 1 ∷ 2 ∷ []) (0 ∷ 1 ∷ 0 ∷ []) ⇒ table (0 ∷ 1 ∷ 0 ∷ []) 0)
+    ∷ (building 2 4 (0 ∷ 3 ∷ []) (1 ∷ 1 ∷ []) ⇒ table (1 ∷ 0 ∷ 0 ∷ 1 ∷ []) 1)
+    ∷ (building 2 4 (0 ∷ 1 ∷ 2 ∷ 3 ∷ []) (0 ∷ 0 ∷ 0 ∷ 1 ∷ []) ⇒ unbuilt 33)
+    ∷ (building 3 6 (0 ∷ 3 ∷ 5 ∷ []) (0 ∷ 1 ∷ 0 ∷ []) ⇒ table (0 ∷ 0 ∷ 1 ∷ 1 ∷ 1 ∷ 0 ∷ []) 1)
+    ∷ (building 3 6 (0 ∷ 0 ∷ []) (0 ∷ 1 ∷ []) ⇒ unbuilt 32)
+    ∷ (building 2 3 (0 ∷ 3 ∷ []) (0 ∷ 1 ∷ []) ⇒ unbuilt 31)
+    -- the sums 1 and 2 remain; unknowns 0 fail, unknowns 1 give the centre 2, not the least
+    ∷ (building 3 6 (0 ∷ 5 ∷ []) (1 ∷ 1 ∷ []) ⇒ table (1 ∷ 1 ∷ 1 ∷ 1 ∷ 1 ∷ 1 ∷ []) 2)
+    -- of P bits the centre is 0, of one bit more it is its pair's sum
+    ∷ (building 3 6 (0 ∷ 1 ∷ 2 ∷ []) (1 ∷ 1 ∷ 1 ∷ []) ⇒ table (1 ∷ 1 ∷ 1 ∷ []) 0)
+    ∷ (building 3 6 (0 ∷ 1 ∷ 2 ∷ 3 ∷ []) (1 ∷ 1 ∷ 1 ∷ 1 ∷ []) ⇒ table (1 ∷ 1 ∷ 1 ∷ 1 ∷ []) 2)
     -- XOR: both norms are 2; (1, -1) has energy 2 and beats (1, 1) with 6
     ∷ (composing 2 3 (identity 0) (identity 1) (0 ∷ 1 ∷ 1 ∷ 0 ∷ []) (pos 1) (negsuc 0) ⇒ scores ((pos 1 ∷ pos 3 ∷ pos 2 ∷ pos 2 ∷ pos 1 ∷ negsuc 0 ∷ []) ∷ []))
     ∷ (composing 2 3 (identity 0) (identity 1) (0 ∷ 1 ∷ 1 ∷ 0 ∷ []) (pos 1) (pos 1) ⇒ scores ((pos 1 ∷ pos 3 ∷ pos 2 ∷ pos 6 ∷ pos 1 ∷ pos 1 ∷ []) ∷ []))
@@ -138,20 +155,22 @@ cases =
     ∷ (mapping "(fbs 4 8 10 2 basic one)\n(in a 3)\n(in b)\n(out y (n 1))\n" ⇒ bytes (bytesOf "(net 2 4 2)\n(in b)\n(out y (n 0))\n"))
     -- in a network, each squared coefficient times its source's weight
     ∷ (admitting "(net 4 8 none)\n(in a 1)\n" ⇒ judges (rejected 21 2))
-    ∷ (admitting "(net 4 8 13)\n(in a 3)\n(in b)\n(lin 0 (2 0) (1 1))\n(boot 2 0010)\n(out y (n 3))\n" ⇒ counts 2 1 1 1 4 13 1 1)
+    ∷ (admitting "(net 4 8 13)\n(in a 3)\n(in b)\n(lin 0 (2 0) (1 1))\n(boot 2 0010)\n(out y (n 3))\n" ⇒ counts 2 1 1 1 4 13 1 1 1 0 0)
     ∷ (admitting "(net 4 8 12)\n(in a 3)\n(in b)\n(lin 0 (2 0) (1 1))\n(boot 2 0010)\n(out y (n 3))\n" ⇒ judges (rejected 25 4))
     -- a table counts 1, whatever its source weighs; the largest norm counts the input too, and may be over NORM
-    ∷ (admitting "(net 4 8 1)\n(in a 3)\n(boot 0 10)\n(lin 0 (1 1))\n(out y (n 2))\n" ⇒ counts 1 1 1 1 2 3 1 1)
+    ∷ (admitting "(net 4 8 1)\n(in a 3)\n(boot 0 10)\n(lin 0 (1 1))\n(out y (n 2))\n" ⇒ counts 1 1 1 1 2 3 1 1 1 0 0)
     -- depths: a table on an input, on a table, and on a sum whose deepest source stands in the middle, which no output needs; no node
-    ∷ (admitting "(net 4 8 none)\n(in a)\n(in b)\n(boot 0 10)\n(boot 2 10)\n(lin 0 (1 1) (1 3) (1 2))\n(boot 4 0001)\n(out y (n 2))\n" ⇒ counts 2 1 3 3 4 3 1 3)
-    ∷ (admitting "(net 4 8 none)\n" ⇒ counts 0 0 0 0 0 0 0 0)
+    ∷ (admitting "(net 4 8 none)\n(in a)\n(in b)\n(boot 0 10)\n(boot 2 10)\n(lin 0 (1 1) (1 3) (1 2))\n(boot 4 0001)\n(out y (n 2))\n" ⇒ counts 2 1 3 3 4 3 1 3 3 0 0)
+    ∷ (admitting "(net 4 8 none)\n" ⇒ counts 0 0 0 0 0 0 0 0 0 0 0)
+    -- centres: tables of P + 1 bits with the pair sums 0, 1 and 2, and one of P bits
+    ∷ (admitting "(net 2 4 none)\n(in a)\n(in b)\n(lin 0 (1 0) (1 1))\n(boot 2 010)\n(boot 2 001)\n(boot 2 101)\n(boot 0 11)\n(out y (n 3))\n" ⇒ counts 2 1 4 2 3 2 1 1 2 1 1)
     ∷ []
 
 -- from a network's text to its statistics
 unfoldable pub judging : Unit {0}
-unfolding Form.below Form.signed NetworkText.netLine NetworkText.term NetworkText.linLine NetworkText.bootLine NetworkText.networkLine NetworkText.small NetworkText.goodTerms NetworkText.allDifferent NetworkText.goodSum NetworkText.names NetworkText.allInputs NetworkText.unknown NetworkText.anyBadSource NetworkText.started NetworkText.ending NetworkText.textConditions NetworkText.settingsOf NetworkText.fitsTable NetworkText.isBit NetworkText.noBit NetworkText.safetyConditions NetworkText.admissionConditions NetworkText.withNetworkLine NetworkText.withNet NetworkText.networkEnded NetworkText.noNetwork NetworkText.readAdmitted NetworkText.admissionOf NetworkText.admission Network.below0 Network.above0 Network.leastSum Network.greatestSum Network.leastOf Network.greatestOf Network.isInput Network.isLinear Network.isBootstrap Network.tableLength Network.count Network.different Network.nodeDepth Network.depthsFrom Network.depths Network.largestDepth Network.stats
+unfolding Form.below Form.signed NetworkText.netLine NetworkText.term NetworkText.linLine NetworkText.bootLine NetworkText.networkLine NetworkText.small NetworkText.goodTerms NetworkText.allDifferent NetworkText.goodSum NetworkText.names NetworkText.allInputs NetworkText.unknown NetworkText.anyBadSource NetworkText.started NetworkText.ending NetworkText.textConditions NetworkText.settingsOf NetworkText.fitsTable NetworkText.isBit NetworkText.noBit NetworkText.safetyConditions NetworkText.admissionConditions NetworkText.withNetworkLine NetworkText.withNet NetworkText.networkEnded NetworkText.noNetwork NetworkText.readAdmitted NetworkText.admissionOf NetworkText.admission Network.below0 Network.above0 Network.leastSum Network.greatestSum Network.leastOf Network.greatestOf Network.isInput Network.isLinear Network.isBootstrap Network.tableLength Network.count Network.different Network.nodeDepth Network.depthsFrom Network.depths Network.largestDepth Network.nodeCentre Network.hasCentre Network.stats
 judging = tt
 
 pub worked : map (λ c. reply (c .asks)) cases ≡ map (λ c. c .gives) cases
-unfolding cases reply buffer parity scoresOf builder fromKnown fromTable computing judging
+unfolding cases reply buffer parity scoresOf builder fromKnown fromTable Rotation.centreOf computing judging
 worked = refl

@@ -1,6 +1,6 @@
 // Replays the table builder on the cases of standard input, a line of numbers each:
 // P, M, the answer buffer's length, the count of values and the values, the count of truths and the truths.
-// For each case it writes the reply's number and count and the buffer, whose bytes were letters before.
+// For each case it writes the reply's number, count and centre and the buffer, whose bytes were letters before.
 use libc::STDIN_FILENO;
 use libc::STDOUT_FILENO;
 use vectors::Token;
@@ -78,7 +78,7 @@ fn show(out: &mut [u8])
     io::write_all(STDOUT_FILENO, b"\n");
 }
 
-// The reply's number and count, and the buffer after it.
+// The reply's number, count and centre, and the buffer after it.
 fn run(p: usize, m: usize, values: &[i32], truths: &[u8], out: &mut [u8])
     ensures { λ _. ⌜ now (out .exit) ≡ map shownByte (builder p m (now (values .entry)) (now (truths .entry)) (now (out .entry)) .buffer) ⌝ }
 {
@@ -86,6 +86,8 @@ fn run(p: usize, m: usize, values: &[i32], truths: &[u8], out: &mut [u8])
     io::print_decimal(STDOUT_FILENO, builder::reply_number(reply) as u64);
     io::write_all(STDOUT_FILENO, b" ");
     io::print_decimal(STDOUT_FILENO, builder::reply_count(reply) as u64);
+    io::write_all(STDOUT_FILENO, b" ");
+    io::print_decimal(STDOUT_FILENO, builder::reply_centre(reply) as u64);
     io::write_all(STDOUT_FILENO, b" ");
     show(out);
 }

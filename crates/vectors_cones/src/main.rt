@@ -374,8 +374,8 @@ fn divisor_of(cone: Cone) -> i64
 }
 
 // A store of 672 inputs, each of weight 1.
-fn put_inputs(nodes: &mut [u8; 26880])
-    requires { ⌜ length (now nodes) ≡ 26880 ⌝ }
+fn put_inputs(nodes: &mut [u8; 27552])
+    requires { ⌜ length (now nodes) ≡ 27552 ⌝ }
     ensures { λ _. ⌜ IsStore (now (nodes .exit)) 672 ⌝ }
 {
     let mut i = 0;
@@ -386,7 +386,7 @@ fn put_inputs(nodes: &mut [u8; 26880])
 }
 
 // Span, norm and divisor.
-fn show_measures(nodes: &[u8; 26880], cone: Cone)
+fn show_measures(nodes: &[u8; 27552], cone: Cone)
     requires { ⌜ IsStore (now nodes) 672 × IsCone cone ⌝ }
 {
     show_number(cone.span());
@@ -425,7 +425,7 @@ fn number_of(v: Validity) -> u64 {
 }
 
 // What the Rust's validate_cone says: 10 where the encoding is invalid, as of no cone of a mapping.
-fn judged(s: Settings, nodes: &[u8; 26880], cone: Cone) -> u64
+fn judged(s: Settings, nodes: &[u8; 27552], cone: Cone) -> u64
     requires { ⌜ IsStore (now nodes) 672 × IsCone cone ⌝ }
 {
     if !cone::valid::is_lut_valid(s, cone) {
@@ -435,7 +435,7 @@ fn judged(s: Settings, nodes: &[u8; 26880], cone: Cone) -> u64
 }
 
 // A cone, and what validate_cone says of it.
-fn show_judged(s: Settings, nodes: &[u8; 26880], cone: Cone)
+fn show_judged(s: Settings, nodes: &[u8; 27552], cone: Cone)
     requires { ⌜ IsStore (now nodes) 672 × IsCone cone ⌝ }
 {
     let n = cone.n;
@@ -455,7 +455,7 @@ fn no_cone() {
 }
 
 // The cone normalised and without unused sources.
-fn show_simplified(s: Settings, nodes: &[u8; 26880], cone: Cone)
+fn show_simplified(s: Settings, nodes: &[u8; 27552], cone: Cone)
     requires { ⌜ IsStore (now nodes) 672 × IsCone cone ⌝ }
 {
     let m = made_of(normalised(cone));
@@ -480,7 +480,7 @@ fn merged_coefs(basis: Basis, a: i64) -> [i64; 11]
 }
 
 // The gate's truth over the union, with a times the left coefficients and the right ones.
-fn show_merged(s: Settings, nodes: &[u8; 26880], basis: Basis, a: i64, truth: [u8; 2048])
+fn show_merged(s: Settings, nodes: &[u8; 27552], basis: Basis, a: i64, truth: [u8; 2048])
     requires { ⌜ IsStore (now nodes) 672 × (IsSmall basis × (natAbs a ≤ 32)) ⌝ }
 {
     let n = basis.n;
@@ -507,7 +507,7 @@ fn span_of(cone: Cone) -> i64
 }
 
 // The union with both rows of coefficients, the three tables, and four cones simplified: both, and both merged, the left one once and as often as the right span.
-fn run(s: Settings, nodes: &[u8; 26880], left: Cone, right: Cone, gate: [u8; 4])
+fn run(s: Settings, nodes: &[u8; 27552], left: Cone, right: Cone, gate: [u8; 4])
     requires { ⌜ IsStore (now nodes) 672 × (IsCone left × (IsCone right × (length (unionSupport (coneOf left .support) (coneOf right .support)) ≤ 11))) ⌝ }
 {
     let basis = compose::basis_of(left, right);
@@ -540,7 +540,7 @@ fn union_size(left: Cone, right: Cone) -> usize
     support::union_support_size(&ls[..ln], &rs[..rn])
 }
 
-fn run_both(s: Settings, nodes: &[u8; 26880], left: Cone, right: Cone, gate: [u8; 4])
+fn run_both(s: Settings, nodes: &[u8; 27552], left: Cone, right: Cone, gate: [u8; 4])
     requires { ⌜ IsStore (now nodes) 672 × (IsCone left × IsCone right) ⌝ }
 {
     if 11 < union_size(left, right) {
@@ -552,7 +552,7 @@ fn run_both(s: Settings, nodes: &[u8; 26880], left: Cone, right: Cone, gate: [u8
     run(s, nodes, left, right, gate);
 }
 
-fn run_tested(s: Settings, nodes: &[u8; 26880], left: ConeRows, right: ConeRows, gate: [u8; 4])
+fn run_tested(s: Settings, nodes: &[u8; 27552], left: ConeRows, right: ConeRows, gate: [u8; 4])
     requires { ⌜ IsStore (now nodes) 672 ⌝ }
 {
     let l = made_of(left);
@@ -576,7 +576,7 @@ fn limit_of(n: usize) -> Limit {
 }
 
 // One case from a place of the text, and where the next one starts.
-fn replay(nodes: &[u8; 26880], text: &[u8], from: usize) -> usize
+fn replay(nodes: &[u8; 27552], text: &[u8], from: usize) -> usize
     requires { ⌜ IsStore (now nodes) 672 ⌝ }
 {
     let p = next_token(text, from);
@@ -600,7 +600,7 @@ fn replay(nodes: &[u8; 26880], text: &[u8], from: usize) -> usize
 }
 
 // A proved loop has to end, so the cases are counted down from a number that no file uses up.
-fn replay_all(nodes: &[u8; 26880], text: &[u8])
+fn replay_all(nodes: &[u8; 27552], text: &[u8])
     requires { ⌜ IsStore (now nodes) 672 ⌝ }
 {
     let mut at = skip(text, 0);
@@ -617,7 +617,7 @@ fn replay_all(nodes: &[u8; 26880], text: &[u8])
 fn main() {
     let mut text = io::large_buffer();
     let n = io::read_full(STDIN_FILENO, &mut text);
-    let mut nodes = [0u8; 26880];
+    let mut nodes = [0u8; 27552];
     put_inputs(&mut nodes);
     replay_all(&nodes, &text[..n]);
 }

@@ -88,8 +88,16 @@ fn put_stats(out: &mut [u8], s: Stats) -> usize {
     let e = put_next(out, d, s.sources);
     let f = put_next(out, e, s.longest);
     let g = put_next(out, f, s.norm);
-    let h = put_next(out, g, s.outputs);
-    put_next(out, h, s.depth)
+    put_later_stats(out, g, s)
+}
+
+// From the outputs on.
+fn put_later_stats(out: &mut [u8], at: usize, s: Stats) -> usize {
+    let a = put_next(out, at, s.outputs);
+    let b = put_next(out, a, s.depth);
+    let c = put_next(out, b, s.centre0);
+    let d = put_next(out, c, s.centre1);
+    put_next(out, d, s.centre2)
 }
 
 fn put_admission(out: &mut [u8], r: AdmitReply) -> usize {

@@ -25,7 +25,7 @@ pub fn write(
     s: &[u8],
     n: Network,
     ports: &[usize; 192],
-    nodes: &[u8; 26880],
+    nodes: &[u8; 27552],
     live: &[u16; 672],
 ) -> usize
     requires { ⌜ Sourced (now live) (now nodes) (n .count) × Ported (now live) (now ports) (length (now s)) (n .outs) ⌝ }

@@ -30,7 +30,7 @@ pub fn number_of(live: &[u16; 672], node: usize) -> usize
 }
 
 // The new number of source k of node i.
-fn new_source(nodes: &[u8; 26880], live: &[u16; 672], i: usize, k: usize) -> usize
+fn new_source(nodes: &[u8; 27552], live: &[u16; 672], i: usize, k: usize) -> usize
     requires { ⌜ ReadyAt (now live) (now nodes) i × (k < length (needs (nodeOf (now nodes) i))) ⌝ }
     ensures { λ r. ⌜ r ≡ newNumber (now (live .entry)) (getD (needs (nodeOf (now (nodes .entry)) i)) k 0) ⌝ }
 {
@@ -41,7 +41,7 @@ fn new_source(nodes: &[u8; 26880], live: &[u16; 672], i: usize, k: usize) -> usi
 fn put_summand(
     out: &mut [u8],
     at: usize,
-    nodes: &[u8; 26880],
+    nodes: &[u8; 27552],
     live: &[u16; 672],
     i: usize,
     k: usize,
@@ -55,7 +55,7 @@ fn put_summand(
 }
 
 // The terms of the sum i.
-fn put_terms(out: &mut [u8], at: usize, nodes: &[u8; 26880], live: &[u16; 672], i: usize) -> usize
+fn put_terms(out: &mut [u8], at: usize, nodes: &[u8; 27552], live: &[u16; 672], i: usize) -> usize
     requires { ⌜ ReadyAt (now live) (now nodes) i × (isLinear (nodeOf (now nodes) i) ≡ true) ⌝ }
     requires { ⌜ Room at (termsLeft (now live) (nodeOf (now nodes) i) 0) ⌝ }
     ensures { λ r. ⌜ Put at (termsLeft (now (live .entry)) (nodeOf (now (nodes .entry)) i) 0) (now (out .entry)) r (now (out .exit)) ⌝ }
@@ -71,7 +71,7 @@ fn put_terms(out: &mut [u8], at: usize, nodes: &[u8; 26880], live: &[u16; 672], 
 }
 
 // `(lin CONST (COEF ID) ..)`
-fn put_lin(out: &mut [u8], at: usize, nodes: &[u8; 26880], live: &[u16; 672], i: usize) -> usize
+fn put_lin(out: &mut [u8], at: usize, nodes: &[u8; 27552], live: &[u16; 672], i: usize) -> usize
     requires { ⌜ ReadyAt (now live) (now nodes) i × (isLinear (nodeOf (now nodes) i) ≡ true) ⌝ }
     requires { ⌜ Room at (sumText (now live) (nodeOf (now nodes) i)) ⌝ }
     ensures { λ r. ⌜ Put at (sumText (now (live .entry)) (nodeOf (now (nodes .entry)) i)) (now (out .entry)) r (now (out .exit)) ⌝ }
@@ -83,7 +83,7 @@ fn put_lin(out: &mut [u8], at: usize, nodes: &[u8; 26880], live: &[u16; 672], i:
 }
 
 // Node i, which is live.
-fn put_node(out: &mut [u8], at: usize, nodes: &[u8; 26880], live: &[u16; 672], i: usize) -> usize
+fn put_node(out: &mut [u8], at: usize, nodes: &[u8; 27552], live: &[u16; 672], i: usize) -> usize
     requires { ⌜ ReadyAt (now live) (now nodes) i ⌝ }
     requires { ⌜ Room at (nodeText (newNode (now live) (nodeOf (now nodes) i))) ⌝ }
     ensures { λ r. ⌜ Put at (nodeText (newNode (now (live .entry)) (nodeOf (now (nodes .entry)) i))) (now (out .entry)) r (now (out .exit)) ⌝ }
@@ -104,7 +104,7 @@ fn put_node(out: &mut [u8], at: usize, nodes: &[u8; 26880], live: &[u16; 672], i
 fn put_live(
     out: &mut [u8],
     at: usize,
-    nodes: &[u8; 26880],
+    nodes: &[u8; 27552],
     live: &[u16; 672],
     count: usize,
     i: usize,
@@ -123,7 +123,7 @@ fn put_live(
 pub fn put_nodes(
     out: &mut [u8],
     at: usize,
-    nodes: &[u8; 26880],
+    nodes: &[u8; 27552],
     live: &[u16; 672],
     count: usize,
 ) -> usize

@@ -1,6 +1,6 @@
 -- `admission::admit` meets its contract.
 use borrow.Author.Needs.{needs}
-use Rattle.admission.specs.Entry.{admit-refused, admit-good, admit-held}
+use Rattle.admission.specs.Entry.{admit-refused, admit-good, admit-held, admit-centred}
 use Rattle.admission.proofs.admit.Statement.{statement}
 use Rattle.admission.proofs.admit.Tie as tie
 
@@ -32,7 +32,7 @@ returns-2 c =
     let k = c .before .before .before in
     let p = k .before .before in
     let A = p .before .before .before .before .args in
-    admit-good (A .text .now) (p .read .last .1 .1 .0) (p .read .last .1 .1 .1 .0) _ (p .read .ensures .0) _ (k .r2 .given .1) _ (c .stats-of .ensures)
+    admit-good (A .text .now) (p .read .last .1 .1 .0) (p .read .last .1 .1 .1 .0) _ (p .read .ensures .0) _ (k .r2 .given .1) _ (c .stats-of .ensures _ (admit-centred (A .text .now) (p .read .last .1 .1 .0) (p .read .last .1 .1 .1 .0) _ (p .read .ensures .0) _ (k .r2 .given .1) (p .read .ensures .1)))
 
 pub admit-spec : {M : Type 1} → statement M
 admit-spec =

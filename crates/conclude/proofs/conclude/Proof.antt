@@ -17,7 +17,7 @@ returns : tie.Need-returns
 returns c =
     let k = c .before .before .before in
     let s = k .before .before .before .before in
-    (over-refused _ _ _ _ _ _ _ (c .before .is-over-norm .ensures _ (k .keep .ensures _) (kept-closed _ _ _ _ _ (s .pre .store))) (c .if1 .taken) _, recorded _ _ _ _ _ _ (s .pre .store))
+    (over-refused _ _ _ _ _ _ _ (c .before .is-over-norm .ensures _ (k .keep .ensures _) (kept-closed _ _ _ _ _ (s .pre .store))) (c .if1 .taken) _, recorded _ _ _ _ _ _ (s .pre .store) (s .pre .centred))
 
 answer-requires : tie.Need-answer-requires
 answer-requires c κs =
@@ -35,7 +35,7 @@ returns-2 c =
     let e = a .before .before .before in
     let k = e .before .before .before in
     let s = k .before .before .before .before in
-    (answer-is _ _ _ _ _ _ _ (e .before .is-over-norm .ensures _ (k .keep .ensures _) (kept-closed _ _ _ _ _ (s .pre .store))) (e .if1 .left) _ (s .pre) (k .keep .ensures _) _ _ (a .answer .ensures), recorded _ _ _ _ _ _ (s .pre .store))
+    (answer-is _ _ _ _ _ _ _ (e .before .is-over-norm .ensures _ (k .keep .ensures _) (kept-closed _ _ _ _ _ (s .pre .store))) (e .if1 .left) _ (s .pre) (k .keep .ensures _) _ _ (a .answer .ensures), recorded _ _ _ _ _ _ (s .pre .store) (s .pre .centred))
 
 pub conclude-spec : {M : Type 1} → statement M
 conclude-spec =

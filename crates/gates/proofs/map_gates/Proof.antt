@@ -5,6 +5,7 @@ use native.Mathlib.Omega.{arith}
 use lib.ListN.{drop}
 use borrow.Author.Needs.{needs}
 use Rattle.rules.specs.Mapper.{mapGates}
+use Rattle.bootstrap.specs.View.{KeepsCentres, centres-same, centres-then}
 use Rattle.gates.specs.Wired.{Wired, stateOf}
 use Rattle.circuit.specs.View.{gatesIn, outputsIn}
 use Rattle.gates.specs.Gates.{gates-refused, gates-step, gates-done, works-none, works-done, walk-start, wired-at}
@@ -15,7 +16,7 @@ abbrev Inv-loop : tie.InvT-loop
 Inv-loop s nodes₀ wires₀ gates ports inputs n outs k₀ i₀ nodes wires k i =
     (i ≤ n)
     × (Wired nodes k wires (inputs + i)
-    × ((k ≤ inputs + 6 * i)
+    × (((k ≤ inputs + 6 * i) × KeepsCentres (s .p) nodes₀ inputs nodes k)
     × ((text : List ℕ)
     → mapGates s (outputsIn text ports outs) (stateOf nodes k wires (inputs + i)) (drop i (gatesIn gates inputs n))
     ≡ mapGates s (outputsIn text ports outs) (stateOf nodes₀ inputs wires₀ inputs) (gatesIn gates inputs n))))
@@ -25,7 +26,7 @@ abbrev μ-loop : tie.MeasureT-loop
 
 -- src/gates.rt:260:5
 loop-holds : tie.Need-loop-holds Inv-loop μ-loop
-loop-holds c = (omega arith, (wired-at _ _ _ _ _ (omega arith) (c .pre .1 .1 .0), (omega arith, λ text. walk-start _ _ _ _ _ _)))
+loop-holds c = (omega arith, (wired-at _ _ _ _ _ (omega arith) (c .pre .1 .1 .0), ((omega arith, centres-same), λ text. walk-start _ _ _ _ _ _)))
 
 -- src/gates.rt:261:47
 add-is-forced : tie.Need-add-is-forced Inv-loop μ-loop
@@ -47,7 +48,7 @@ map-one-requires c κs =
     let good = s .pre .1 .1 .1 .0 in
     let few = good .few in
     let i = c .before .before .before .loop-test .taken in
-    (s .pre .0, (omega (arith, o .inv .1 .1 .0, s .pre .1 .0, few, i), (good .gate _ i .few, (o .inv .1 .0, good .gate _ i))))
+    (s .pre .0, (omega (arith, o .inv .1 .1 .0 .0, s .pre .1 .0, few, i), (good .gate _ i .few, (o .inv .1 .0, good .gate _ i))))
 
 -- src/gates.rt:264:13
 returns : tie.Need-returns Inv-loop μ-loop
@@ -75,7 +76,7 @@ loop-again c =
       (
         wired-at _ _ _ _ _ (omega arith) (works .wired (c .if1 .left)),
         (
-          omega (arith, most, o .inv .1 .1 .0),
+          (omega (arith, most, o .inv .1 .1 .0 .0), centres-then (o .inv .1 .1 .0 .1) (works .centred (c .if1 .left))),
           λ text. gates-step _ _ _ _ _ _ _ i _ _ _ (c .before .before .map-one .ensures .0 _ _ (c .before .before .before .before .before .is-forced .ensures text)) (c .if1 .left) ∙ o .inv .1 .1 .1 text,
         ),
       ),
@@ -85,7 +86,7 @@ loop-again c =
 returns-2 : tie.Need-returns-2 Inv-loop μ-loop
 returns-2 c =
     let o = c .before .loop in
-    (λ text. gates-done _ _ _ _ _ _ _ _ _ _ (c .loop-test .left) (o .inv .0) refl refl ∙ o .inv .1 .1 .1 text, works-done _ _ _ _ _ _ _ (c .loop-test .left) (o .inv .0) (o .inv .1 .0) (o .inv .1 .1 .0) refl)
+    (λ text. gates-done _ _ _ _ _ _ _ _ _ _ (c .loop-test .left) (o .inv .0) refl refl ∙ o .inv .1 .1 .1 text, works-done _ _ _ _ _ _ _ (c .loop-test .left) (o .inv .0) (o .inv .1 .0) (o .inv .1 .1 .0 .0) (o .inv .1 .1 .0 .1) refl)
 
 pub map-gates-spec : {M : Type 1} → statement M
 map-gates-spec =

@@ -1,6 +1,7 @@
 -- `lut::complete_bootstrap` meets its contract.
 use mathlib.Core.Path.{sym, ap, subst}
 use Rattle.rules.specs.Network.{Bootstrap}
+use Rattle.rules.specs.Rotation.{centreOf}
 use Rattle.nodes.specs.View.{Fine}
 use Rattle.lut.specs.Store.{fine-boot, interns-node}
 use borrow.Author.Needs.{needs}
@@ -23,7 +24,7 @@ returns : tie.Need-returns
 returns c =
     let d = c .before .before .before .before .before in
     let s = d .before .before .before .before in
-    interns-node _ _ _ _ _ _ (c .put-bootstrap .ensures) (ap (Bootstrap (s .args .source)) (d .complete .ensures .0))
+    interns-node _ _ _ _ _ _ (c .put-bootstrap .ensures) (ap (Bootstrap (s .args .source)) (d .complete .ensures .0)) (ap (centreOf (s .args .p)) (d .complete .ensures .0))
 
 pub complete-bootstrap-spec : {M : Type 1} → statement M
 complete-bootstrap-spec = tie.close (tie.spec complete-requires put-bootstrap-requires same-length returns)

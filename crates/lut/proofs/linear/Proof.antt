@@ -1,5 +1,5 @@
 -- `lut::linear` meets its contract.
-use mathlib.Core.Path.{_≡_, _∙_}
+use mathlib.Core.Path.{_≡_, refl, _∙_}
 use native.Mathlib.Omega.{arith}
 use lib.ListN.{length}
 use Rattle.rules.specs.Network.{Linear}
@@ -37,7 +37,7 @@ returns : tie.Need-returns
 returns c =
     let s = c .before .before .before .before .before in
     let w = told (c .before .before .before .before) in
-    interns-node _ _ _ (s .args .count) _ _ (c .intern .ensures) (is-record (s .args .count) _ _ (w .fine) (c .before .before .before .sum .ensures) .1 ∙ w .is)
+    interns-node _ _ _ (s .args .count) _ _ (c .intern .ensures) (is-record (s .args .count) _ _ (w .fine) (c .before .before .before .sum .ensures) .1 ∙ w .is) refl
 
 pub linear-spec : {M : Type 1} → statement M
 linear-spec = tie.close (tie.spec linear-terms-requires sum-requires intern-requires returns)

@@ -7,6 +7,7 @@ use borrow.Author.Needs.{needs}
 use Rattle.rules.specs.Mapper.{mapOutputs}
 use Rattle.nodes.specs.View.{storeOf}
 use Rattle.circuit.specs.View.{outputsIn}
+use Rattle.bootstrap.specs.View.{KeepsCentres, centres-same, centres-then}
 use Rattle.gates.specs.View.{conesIn}
 use Rattle.gates.specs.Wired.{Wired, wired-more}
 use Rattle.outputs.specs.Outputs.{started, outputsRead, signal-port}
@@ -22,7 +23,7 @@ Inv-loop s nodes₀ count ports₀ wires n outs k₀ i₀ nodes ports k i =
     (i ≤ outs)
     × (Wired nodes k wires n
     × ((count ≤ k)
-    × ((k ≤ count + 2 * i)
+    × (((k ≤ count + 2 * i) × KeepsCentres (s .p) nodes₀ count nodes k)
     × (Written ports₀ k i ports
     × ((text : List ℕ)
     → mapOutputs s (conesIn wires n) (outputsRead text nodes ports i k) (drop i (outputsIn text ports₀ outs))
@@ -32,7 +33,7 @@ abbrev μ-loop : tie.MeasureT-loop
 μ-loop s nodes₀ count ports₀ wires n outs k₀ i₀ nodes ports k i = outs - i
 
 loop-holds : tie.Need-loop-holds Inv-loop μ-loop
-loop-holds c = (omega arith, (c .pre .1 .1 .1 .0, (omega arith, (omega arith, (written-none _ _ (c .pre .1 .1 .1 .1 .long), λ text. outputs-start _ _ _ _ _ _ _)))))
+loop-holds c = (omega arith, (c .pre .1 .1 .1 .0, (omega arith, ((omega arith, centres-same), (written-none _ _ (c .pre .1 .1 .1 .1 .long), λ text. outputs-start _ _ _ _ _ _ _)))))
 
 mul-map-output : tie.Need-mul-map-output Inv-loop μ-loop
 mul-map-output c = let s = c .before .before .before in omega (arith, s .pre .1 .1 .1 .1 .few, c .before .loop-test .taken)
@@ -54,7 +55,7 @@ map-output-requires c κs =
     let l = c .before .before in
     let o = l .before .loop in
     let s = l .before .before in
-    (s .pre .0, (omega (arith, s .pre .1 .0, o .inv .1 .1 .1 .0, l .loop-test .taken), (s .pre .1 .1 .0, (o .inv .1 .0, port-good _ _ _ _ (o .inv .1 .1 .1 .1 .0) _ _ (s .pre .1 .1 .1 .1) (l .loop-test .taken)))))
+    (s .pre .0, (omega (arith, s .pre .1 .0, o .inv .1 .1 .1 .0 .0, l .loop-test .taken), (s .pre .1 .1 .0, (o .inv .1 .0, port-good _ _ _ _ (o .inv .1 .1 .1 .1 .0) _ _ (s .pre .1 .1 .1 .1) (l .loop-test .taken)))))
 
 port-of-requires : tie.Need-port-of-requires Inv-loop μ-loop
 port-of-requires c κs = search needs
@@ -92,14 +93,14 @@ loop-again c =
     let most = grown .most in
     let low = below-limit _ _ i (s .pre .1 .1 .1 .1 .few) in
     let wire = c .port-of .ensures in
-    (search needs, (wired-more _ _ _ _ _ _ (o .inv .1 .0) (grown .store) (grown .least), (omega (arith, grown .least, o .inv .1 .1 .0), (omega (arith, most, o .inv .1 .1 .1 .0), (written-step _ _ _ _ w low _ _ (grown .least) (signal-port _ _ _ wire (done .1 .inside)), λ text. outputs-step _ _ text _ _ _ i _ _ _ w _ _ (done .0) _ wire low (omega (arith, most, o .inv .1 .1 .1 .0, s .pre .1 .0, i)) (done .1 .inside) ∙ o .inv .1 .1 .1 .1 .1 text)))))
+    (search needs, (wired-more _ _ _ _ _ _ (o .inv .1 .0) (grown .store) (grown .least), (omega (arith, grown .least, o .inv .1 .1 .0), ((omega (arith, most, o .inv .1 .1 .1 .0 .0), centres-then (o .inv .1 .1 .1 .0 .1) (grown .centred)), (written-step _ _ _ _ w low _ _ (grown .least) (signal-port _ _ _ wire (done .1 .inside)), λ text. outputs-step _ _ text _ _ _ i _ _ _ w _ _ (done .0) _ wire low (omega (arith, most, o .inv .1 .1 .1 .0 .0, s .pre .1 .0, i)) (done .1 .inside) ∙ o .inv .1 .1 .1 .1 .1 text)))))
 
 returns : tie.Need-returns Inv-loop μ-loop
 returns c =
     let o = c .before .loop in
     let s = c .before .before in
     let out = c .loop-test .left in
-    (λ text. outputs-done _ _ text _ _ _ _ _ _ out (o .inv .0) ∙ o .inv .1 .1 .1 .1 .1 text, outs-done _ _ _ _ _ _ _ (o .inv .1 .1 .1 .1 .0) out (o .inv .0) (s .pre .1 .1 .1 .1 .few) (o .inv .1 .0 .store) (o .inv .1 .1 .0) (o .inv .1 .1 .1 .0))
+    (λ text. outputs-done _ _ text _ _ _ _ _ _ out (o .inv .0) ∙ o .inv .1 .1 .1 .1 .1 text, outs-done _ _ _ _ _ _ _ (o .inv .1 .1 .1 .1 .0) out (o .inv .0) (s .pre .1 .1 .1 .1 .few) (o .inv .1 .0 .store) (o .inv .1 .1 .0) (o .inv .1 .1 .1 .0 .0) (o .inv .1 .1 .1 .0 .1))
 
 pub map-outputs-spec : {M : Type 1} → statement M
 map-outputs-spec =

@@ -1,6 +1,7 @@
 use Rattle.lut.specs.Store.{interns-node}
 use borrow.Author.Needs.{needs}
-use Rattle.rules.specs.Network.{Linear}
+use mathlib.Core.Path.{refl}
+use Rattle.rules.specs.Network.{Linear, nodeCentre}
 use Rattle.lut.specs.Store.{Interns}
 use Rattle.nodes.specs.View.{term}
 use mathlib.Core.List.{[], _∷_}
@@ -14,11 +15,12 @@ linear-requires c κs = let s = c .before .before in (s .pre .0, s .pre .1 .0, n
 
 -- the sum stands in the store
 summed : (c : tie.After-linear) → let s = c .before .before .before in
-    Interns (Linear (pos 1) (term (negsuc 0) (s .args .node) ∷ [])) (s .args .nodes .now) (s .args .count) (c .linear .last .0) (c .linear .result)
-summed c = let s = c .before .before .before in interns-node _ _ _ _ _ _ (c .linear .ensures) (negated-is (s .args .many) (s .args .node) (c .before .negated .result) (c .before .negated .ensures))
+    Interns 0 (Linear (pos 1) (term (negsuc 0) (s .args .node) ∷ [])) (s .args .nodes .now) (s .args .count) (c .linear .last .0) (c .linear .result)
+summed c = let s = c .before .before .before in interns-node _ _ _ _ _ _ (c .linear .ensures) (negated-is (s .args .many) (s .args .node) (c .before .negated .result) (c .before .negated .ensures)) refl
 
 returns : tie.Need-returns
-returns c = (node-signal _ _ _ _ _ (summed c), node-finishes _ _ _ _ _ (summed c))
+unfolding nodeCentre
+returns c = (node-signal _ _ _ _ _ (summed c), λ p. node-finishes _ _ _ _ _ (summed c) p refl)
 
 pub negation-spec : {M : Type 1} → statement M
 negation-spec = tie.close (tie.spec (λ c κs. search needs) linear-requires returns)

@@ -12,7 +12,7 @@ wire-of-requires : tie.Need-wire-of-requires
 wire-of-requires c κs = search needs
 
 returns : tie.Need-returns
-returns c = (c .wire-of .ensures .0 ∙ sym (idle-signal _ _ _ (support-few _ (c .before .before .if1 .taken))), finishes-more _ _ _ (c .wire-of .ensures .1))
+returns c = (c .wire-of .ensures .0 ∙ sym (idle-signal _ _ _ (support-few _ (c .before .before .if1 .taken))), finishes-more _ _ _ (c .wire-of .ensures .1 _))
 
 bootstrap-cone-requires : tie.Need-bootstrap-cone-requires
 bootstrap-cone-requires c κs = search needs

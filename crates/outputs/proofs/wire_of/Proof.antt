@@ -18,7 +18,7 @@ unfolding SignalIn
 returns c =
     let s = c .before .before .before .before in
     let f = c .before .before .before .first-truth .ensures in
-    (wire-constant _ _ _ _ (c .if1 .taken) f, finishes-self _ _ _ (s .pre .0) (omega (arith, f, truth-bit (s .args .c) (s .pre .1 .1 .0 .cone) 0)))
+    (wire-constant _ _ _ _ (c .if1 .taken) f, λ p. finishes-self _ _ _ (s .pre .0) (omega (arith, f, truth-bit (s .args .c) (s .pre .1 .1 .0 .cone) 0)))
 
 array-read-node : tie.Need-array-read-node
 array-read-node c = search needs
@@ -30,7 +30,7 @@ returns-2 c =
     let few = s .pre .1 .1 .1 in
     let some = c .before .if1 .left in
     let f = c .before .before .before .before .first-truth .ensures in
-    (wire-node _ few some (support-long s) _ _ _ f (c .if2 .taken), finishes-self _ _ _ (s .pre .0) (source-below _ few some (support-long s) _ (s .pre .1 .1 .0)))
+    (wire-node _ few some (support-long s) _ _ _ f (c .if2 .taken), λ p. finishes-self _ _ _ (s .pre .0) (source-below _ few some (support-long s) _ (s .pre .1 .1 .0)))
 
 negation-requires : tie.Need-negation-requires
 negation-requires c κs =

@@ -1,6 +1,6 @@
 use mathlib.Core.Path.{ap, _∙_}
 use mathlib.Core.List.{map}
-use Rattle.rules.specs.Outcome.{Outcome}
+use Rattle.rules.specs.Builder.{Built}
 use Rattle.vectors_builder.specs.Case.{shownByte}
 use borrow.Author.Needs.{needs}
 use Rattle.vectors_builder.proofs.run.Statement.{statement}
@@ -42,7 +42,23 @@ slice-aggregate-write-all-2 c = search needs
 write-all-requires-2 : tie.Need-write-all-requires-2
 write-all-requires-2 c κs = search needs
 
+-- src/main.rt:100:38
+reply-centre-requires : tie.Need-reply-centre-requires
+reply-centre-requires c κs = search needs
+
 -- src/main.rt:100:5
+print-decimal-requires-3 : tie.Need-print-decimal-requires-3
+print-decimal-requires-3 c κs = search needs
+
+-- src/main.rt:101:34
+slice-aggregate-write-all-3 : tie.Need-slice-aggregate-write-all-3
+slice-aggregate-write-all-3 c = search needs
+
+-- src/main.rt:101:5
+write-all-requires-3 : tie.Need-write-all-requires-3
+write-all-requires-3 c κs = search needs
+
+-- src/main.rt:102:5
 show-requires : tie.Need-show-requires
 show-requires c κs = search needs
 
@@ -54,7 +70,7 @@ same-length c = search needs
 returns : tie.Need-returns
 returns c =
     c .before .before .show .ensures
-    ∙ ap (λ (o : Outcome). map shownByte (o .buffer)) (c .before .before .before .before .before .before .before .before .before .before .before .before .before .before .composed-bootstrap-table .ensures)
+    ∙ ap (λ (o : Built). map shownByte (o .buffer)) (c .before .before .before .before .before .before .before .before .before .before .before .before .before .before .before .before .before .before .composed-bootstrap-table .ensures)
 
 pub run-spec : {M : Type 1} → statement M
 run-spec =
@@ -69,6 +85,10 @@ run-spec =
     print-decimal-requires-2
     slice-aggregate-write-all-2
     write-all-requires-2
+    reply-centre-requires
+    print-decimal-requires-3
+    slice-aggregate-write-all-3
+    write-all-requires-3
     show-requires
     same-length
     returns)

@@ -1,5 +1,5 @@
 -- `admission::count::count_node` meets its contract.
-use mathlib.Core.Path.{_≡_, sym, ap, _∙_}
+use mathlib.Core.Path.{_≡_, sym, ap, subst, _∙_}
 use Prim.Native.Nat.{_<_}
 use native.Mathlib.Omega.{arith}
 use borrow.Author.Needs.{needs}
@@ -8,7 +8,7 @@ use Rattle.nodes.specs.Kinds.{boot-kind, third-kind}
 use Rattle.nodes.specs.Nodes.{kindOf, source-before}
 use Rattle.lut.specs.Reuse.{boot-source}
 use Rattle.nodes.specs.View.{nodeOf, IsNode, is-node}
-use Rattle.admission.specs.Count.{withInput, withSum, input-stats, sum-stats, boot-stats}
+use Rattle.admission.specs.Count.{CentreRoom, withInput, withSum, withCentre, input-stats, sum-stats, boot-stats}
 use Rattle.admission.proofs.count.count_node.Statement.{statement}
 use Rattle.admission.proofs.count.count_node.Tie as tie
 
@@ -27,7 +27,7 @@ count-input-requires c κs = search needs
 returns : tie.Need-returns
 returns c =
     let s = c .before .before .before .before in
-    let e = input-stats (s .args .s) _ (s .args .taken .now) (nodeOf (s .args .nodes .now) (s .args .i)) (sym (c .before .before .kind-of .ensures) ∙ c .before .if1 .taken) in
+    let e = input-stats (s .args .s) _ _ (s .args .taken .now) (nodeOf (s .args .nodes .now) (s .args .i)) (sym (c .before .before .kind-of .ensures) ∙ c .before .if1 .taken) in
     (c .count-input .ensures ∙ ap {B = Stats} (λ n. withInput (s .args .s) n) (c .before .before .before .node-norm .ensures) ∙ e .0, e .1)
 
 count-sum-requires : tie.Need-count-sum-requires
@@ -36,7 +36,7 @@ count-sum-requires c κs = search needs
 returns-2 : tie.Need-returns-2
 returns-2 c =
     let s = c .before .before .before .before .before in
-    let e = sum-stats (s .args .s) _ (s .args .taken .now) (nodeOf (s .args .nodes .now) (s .args .i)) (sym (c .before .before .before .kind-of .ensures) ∙ c .before .if2 .taken) in
+    let e = sum-stats (s .args .s) _ _ (s .args .taken .now) (nodeOf (s .args .nodes .now) (s .args .i)) (sym (c .before .before .before .kind-of .ensures) ∙ c .before .if2 .taken) in
     (c .count-sum .ensures ∙ ap {B = Stats} (λ n. withSum (s .args .s) n) (c .before .before .before .before .node-norm .ensures) ∙ e .0, e .1)
 
 -- what is left is a boot
@@ -66,11 +66,21 @@ count-boot-requires c κs = search needs
 element-write-taken : tie.Need-element-write-taken
 element-write-taken c = source (c .before .before .before)
 
+centre-of-requires : tie.Need-centre-of-requires
+centre-of-requires c κs = stands (c .before .before .before .before .before .before .before .before)
+
+count-centre-requires : tie.Need-count-centre-requires
+count-centre-requires c κs =
+    let s = c .before .before .before .before .before .before .before .before .before in
+    subst CentreRoom (sym (c .before .count-boot .ensures)) (s .pre .1 .centres)
+
 returns-3 : tie.Need-returns-3
 returns-3 c =
-    let s = c .before .before .before .before .before .before .before .before in
-    let norm = c .before .before .before .before .before .before .before .node-norm .ensures in
-    boot-stats (s .args .s) _ (s .args .taken .now) (nodeOf (s .args .nodes .now) (s .args .i)) (boot (c .before .before .before .before)) norm (c .before .before .before .source-of .ensures) (c .before .before .table-of .ensures) (c .count-boot .ensures)
+    let b = c .before .before in
+    let s = b .before .before .before .before .before .before .before .before in
+    let norm = b .before .before .before .before .before .before .before .node-norm .ensures in
+    boot-stats (s .args .s) _ _ (s .args .taken .now) (nodeOf (s .args .nodes .now) (s .args .i)) (boot (b .before .before .before .before)) norm (b .before .before .before .source-of .ensures)
+    (b .before .before .table-of .ensures) (b .count-boot .ensures) (c .count-centre .ensures ∙ ap {B = Stats} (λ x. withCentre (b .count-boot .result) x) (c .before .centre-of .ensures))
 
 pub count-node-spec : {M : Type 1} → statement M
 count-node-spec =
@@ -87,4 +97,6 @@ count-node-spec =
     element-copy-out-count-boot
     count-boot-requires
     element-write-taken
+    centre-of-requires
+    count-centre-requires
     returns-3)

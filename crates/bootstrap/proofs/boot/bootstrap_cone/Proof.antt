@@ -13,7 +13,7 @@ use Rattle.rules.specs.Store.{bootstrapCone, bootstrapped, realigned}
 use mathlib.Core.List.{List}
 use Rattle.cone.specs.View.{coneOf, view-sources}
 use Rattle.nodes.specs.View.{storeOf}
-use Rattle.bootstrap.specs.View.{bootedOf}
+use Rattle.bootstrap.specs.View.{bootedOf, centres-same}
 use Rattle.theorems.specs.SettingLimits.{limits-m}
 use Rattle.bootstrap.proofs.boot.bootstrap_cone.Statement.{statement}
 use Rattle.bootstrap.proofs.boot.bootstrap_cone.Tie as tie
@@ -37,7 +37,7 @@ returns c =
     let st = s .pre .1 in
     let n = view-sources (s .args .c) (st .1 .1 .cone) (support-long s) in (
       stays (s .args .s) (storeOf (s .args .nodes .now) (s .args .count)) (coneOf (s .args .c)) (omega (arith, n, c .if1 .taken)),
-      record { grown = record { store = st .0; least = omega arith; most = omega arith }; stands = st .1 .1 },
+      record { grown = record { store = st .0; least = omega arith; most = omega arith; centred = centres-same }; stands = st .1 .1 },
     )
 
 realign-requires : tie.Need-realign-requires

@@ -1,5 +1,5 @@
 -- `bootstrap::boot::materialize` meets its contract: the sum first, then the bootstrap of the cone's known entries.
-use mathlib.Core.Path.{_≡_, sym, ap, subst, _∙_}
+use mathlib.Core.Path.{_≡_, refl, sym, ap, subst, _∙_}
 use Prim.Native.Nat.{_≤_}
 use native.Mathlib.Omega.{arith}
 use lib.ListN.{length, take}
@@ -7,6 +7,7 @@ use Rattle.laws.specs.Tail.{head-length}
 use Rattle.rules.specs.Builder.{Entries, lastTried}
 use Rattle.rules.specs.Cone.{bootstrapTable}
 use Rattle.rules.specs.Network.{Bootstrap}
+use Rattle.rules.specs.Rotation.{centreOf}
 use Rattle.rules.specs.Store.{linearOf}
 use Rattle.cone.specs.View.{coneOf, entries}
 use Rattle.lut.specs.Store.{Interns, interns-node}
@@ -29,10 +30,10 @@ linear-requires c κs =
 
 -- the sum stands in the store
 summed : (c : tie.After-linear) → let s = c .before .before .before .before .before in
-    Interns (linearOf (s .args .s) (coneOf (s .args .d))) (s .args .nodes .now) (s .args .count) (c .linear .last .0) (c .linear .result)
+    Interns 0 (linearOf (s .args .s) (coneOf (s .args .d))) (s .args .nodes .now) (s .args .count) (c .linear .last .0) (c .linear .result)
 summed c =
     let s = c .before .before .before .before .before in
-    interns-node _ _ _ _ _ _ (c .linear .ensures) (sum-is (s .args .s) (s .args .d) (c .before .sum-of .result) (c .before .sum-of .ensures))
+    interns-node _ _ _ _ _ _ (c .linear .ensures) (sum-is (s .args .s) (s .args .d) (c .before .sum-of .result) (c .before .sum-of .ensures)) refl
 
 returns : tie.Need-returns
 returns c = let l = c .before .before in absurd (not-constant _ _ _ _ _ (summed l) _ (c .enum-told .given .1))
@@ -59,13 +60,14 @@ bootstrap-requires c κs =
 -- what the bootstrap was made of
 booted : (c : tie.After-bootstrap) → let l = c .before .before .before .before .before .before in
     let s = l .before .before .before .before .before in
-    Interns (Bootstrap (c .before .before .before .before .signal .given .0 .0) (bootstrapTable (s .args .s .p) (coneOf (s .args .d)))) (l .linear .last .0) (l .linear .result .count) (c .bootstrap .last .0) (c .bootstrap .result)
+    Interns (centreOf (s .args .s .p) (bootstrapTable (s .args .s .p) (coneOf (s .args .d)))) (Bootstrap (c .before .before .before .before .signal .given .0 .0) (bootstrapTable (s .args .s .p) (coneOf (s .args .d)))) (l .linear .last .0) (l .linear .result .count) (c .bootstrap .last .0) (c .bootstrap .result)
 booted c =
     let l = c .before .before .before .before .before .before in
     let s = l .before .before .before .before .before in
+    let table = ap (λ n. lastTried (s .args .s .p) (take n (s .args .d .known))) (l .before .before .before .span .ensures)
+    ∙ table-known (s .args .s) (s .args .nodes .now) (s .args .count) (s .args .d) (s .pre .1 .1) in
     interns-node _ _ _ _ _ _ (c .bootstrap .ensures)
-    (ap (λ n. Bootstrap (c .before .before .before .before .signal .given .0 .0) (lastTried (s .args .s .p) (take n (s .args .d .known)))) (l .before .before .before .span .ensures)
-    ∙ ap (Bootstrap (c .before .before .before .before .signal .given .0 .0)) (table-known (s .args .s) (s .args .nodes .now) (s .args .count) (s .args .d) (s .pre .1 .1)))
+    (ap (Bootstrap (c .before .before .before .before .signal .given .0 .0)) table) (ap (centreOf (s .args .s .p)) table)
 
 returns-2 : tie.Need-returns-2
 returns-2 c = absurd (not-constant _ _ _ _ _ (booted (c .before .before)) _ (c .enum-told2 .given .1))

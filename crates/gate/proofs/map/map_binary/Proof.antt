@@ -33,7 +33,7 @@ returns c =
     let s = c .before .before .before .before .before .before .before .before .before .before .before .before in
     let a = s .args in
     let p = s .pre .1 .1 .1 in
-    (c .second-attempt .ensures .0 ∙ step-none (a .s) (M.secondAttempt (a .s)) _ _ (q .result) (q .ensures .0) (t .result) (t .ensures .0) (not-true (t .result .found) (c .before .before .if1 .taken)) ∙ binary-is (a .s) _ _ _ _ _ (w .ensures .0 _ (p .0 .below) (p .1 .0 .below)), maps-wider (q .ensures .1 .least) (omega (arith, q .ensures .1 .most, roomOf-most (w .result))) (c .second-attempt .ensures .1))
+    (c .second-attempt .ensures .0 ∙ step-none (a .s) (M.secondAttempt (a .s)) _ _ (q .result) (q .ensures .0) (t .result) (t .ensures .0) (not-true (t .result .found) (c .before .before .if1 .taken)) ∙ binary-is (a .s) _ _ _ _ _ (w .ensures .0 _ (p .0 .below) (p .1 .0 .below)), maps-wider (q .ensures .1 .least) (omega (arith, q .ensures .1 .most, roomOf-most (w .result))) (q .ensures .1 .centred) (c .second-attempt .ensures .1))
 
 concluded-requires : tie.Need-concluded-requires
 concluded-requires c κs = search needs
@@ -47,7 +47,7 @@ returns-2 c =
     let a = s .args in
     let p = s .pre .1 .1 .1 in
     let f = not-false (t .result .found) (c .before .if1 .left) in
-    (c .concluded .ensures .0 _ ∙ step-goes (a .s) (M.secondAttempt (a .s)) _ _ (q .result) (q .ensures .0) (t .result) (t .ensures .0) f ∙ binary-is (a .s) _ _ _ _ _ (w .ensures .0 _ (p .0 .below) (p .1 .0 .below)), c .concluded .ensures .1 _ _ _ (grown-wider (roomOf-most (w .result)) (grows (q .ensures .1))) (q .ensures .1 .ready .both) (t .ensures .1 f))
+    (c .concluded .ensures .0 _ ∙ step-goes (a .s) (M.secondAttempt (a .s)) _ _ (q .result) (q .ensures .0) (t .result) (t .ensures .0) f ∙ binary-is (a .s) _ _ _ _ _ (w .ensures .0 _ (p .0 .below) (p .1 .0 .below)), c .concluded .ensures .1 _ _ _ _ _ (grown-wider (roomOf-most (w .result)) (grows (q .ensures .1))) (q .ensures .1 .ready .both) (t .ensures .1 f))
 
 pub map-binary-spec : {M : Type 1} → statement M
 map-binary-spec =

@@ -9,7 +9,7 @@ use Rattle.gate.proofs.map.unchanged.Tie as tie
 
 returns : tie.Need-returns
 unfolding mappedOf sideOf M.unchanged M.update
-returns c = (λ bytes. refl, λ bytes st sd. kept-maps _ _ bytes _ (grown-none bytes _ st) sd sd sd)
+returns c = (λ bytes. refl, λ p bytes st sd. kept-maps _ _ bytes _ (grown-none bytes _ st) sd sd sd)
 
 pub unchanged-spec : {M : Type 1} → statement M
 unchanged-spec = tie.close (tie.spec returns)

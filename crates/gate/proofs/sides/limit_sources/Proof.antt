@@ -33,7 +33,7 @@ returns-2 c =
     let q = c .before .before .before .before .bootstrap-left in
     let e = c .before .before .before .before .before .before in
     let o = e .before .over-limit in
-    (c .limit-second .ensures .0 ∙ ap (M.limitSecond _) (w .ensures .0 _) ∙ sources-on _ _ _ _ (sym (o .ensures _) ∙ not-false (o .result) (e .if1 .left)) (q .ensures .0), steps-on _ _ (w .ensures .0) (w .ensures .1) _ _ _ _ _ (q .ensures .1 .least) (q .ensures .1 .most) (c .limit-second .ensures .1))
+    (c .limit-second .ensures .0 ∙ ap (M.limitSecond _) (w .ensures .0 _) ∙ sources-on _ _ _ _ (sym (o .ensures _) ∙ not-false (o .result) (e .if1 .left)) (q .ensures .0), steps-on _ _ (w .ensures .0) (w .ensures .1) _ _ _ _ _ (q .ensures .1 .least) (q .ensures .1 .most) (q .ensures .1 .centred) (c .limit-second .ensures .1))
 
 pub limit-sources-spec : {M : Type 1} → statement M
 limit-sources-spec =

@@ -1,6 +1,8 @@
 -- `gates::start::put_next` meets its contract.
+use mathlib.Core.Path.{refl}
 use native.Mathlib.Omega.{arith}
 use Rattle.gates.specs.Start.{name-few, started-next}
+use Rattle.rules.specs.Network.{nodeCentre}
 use Rattle.circuit.specs.View.{nameAt}
 use borrow.Author.Needs.{needs}
 use Rattle.gates.proofs.start.put_next.Statement.{statement}
@@ -58,12 +60,12 @@ put-cone-requires : tie.Need-put-cone-requires
 put-cone-requires c κs = search needs
 
 returns : tie.Need-returns
-unfolding nameAt
+unfolding nameAt nodeCentre
 returns c =
     let s = c .before .before .before .before .before .before .before .before .before .before in
     let p = c .before .before .before .put-input .ensures in
     let own = c .before .before .identity .ensures in
-    started-next _ _ _ _ _ (s .pre .1) (omega (arith, s .pre .0 .few)) _ _ _ (p .still) (c .put-cone .ensures) (own .0) (own .1) (p .store)
+    started-next _ _ _ _ _ (s .pre .1) (omega (arith, s .pre .0 .few)) _ _ _ (p .still) (c .put-cone .ensures) (own .0) (own .1) (λ q. p .centred q refl (s .pre .1 .centred q)) (p .store)
 
 pub put-next-spec : {M : Type 1} → statement M
 put-next-spec =

@@ -33,7 +33,7 @@ returns : tie.Need-returns
 unfolding recordAt
 returns c =
     let s = c .before .before .before in
-    c .is-same .ensures ∙ ap₂ {C = Bool} (λ x y. sameName x y) (take-all 38 (s .args .bytes .now) (omega (arith, s .pre .2))) (ap (λ k. take k (drop (40 * s .args .i) (s .args .nodes .now))) (add-sub-cancel-left (40 * s .args .i) 38))
+    c .is-same .ensures ∙ ap₂ {C = Bool} (λ x y. sameName x y) (take-all 38 (s .args .bytes .now) (omega (arith, s .pre .2))) (ap (λ k. take k (drop (41 * s .args .i) (s .args .nodes .now))) (add-sub-cancel-left (41 * s .args .i) 38))
 
 pub is-record-spec : {M : Type 1} → statement M
 is-record-spec =

@@ -1,5 +1,5 @@
 -- `lut::store::put_node` meets its contract.
-use Rattle.lut.specs.Store.{adds-node, put-ready}
+use Rattle.lut.specs.Store.{adds-node, deep-long, put-ready}
 use borrow.Author.Needs.{needs}
 use Rattle.lut.proofs.store.put_node.Statement.{statement}
 use Rattle.lut.proofs.store.put_node.Tie as tie
@@ -13,8 +13,11 @@ put-depth-requires : tie.Need-put-depth-requires
 put-depth-requires c κs = let s = c .before .before .before in put-ready _ _ _ (s .pre .0) (s .pre .1) (s .pre .2) _ (c .before .put-record .ensures)
 
 -- src/store.rt:50:1
+put-centre-requires : tie.Need-put-centre-requires
+put-centre-requires c κs = let s = c .before .before .before .before .before in (deep-long _ _ _ (s .pre .0) (s .pre .1) (s .pre .2) _ _ (c .before .before .before .put-record .ensures) (c .before .put-depth .ensures), s .pre .2)
+
 returns : tie.Need-returns
-returns c = let s = c .before .before .before .before in adds-node _ _ _ (s .pre .0) (s .pre .1) (s .pre .2) _ _ (c .before .before .put-record .ensures) (c .put-depth .ensures)
+returns c = let s = c .before .before .before .before .before .before in adds-node _ _ _ (s .pre .0) (s .pre .1) (s .pre .2) _ _ (c .before .before .before .before .put-record .ensures) (c .before .before .put-depth .ensures) _ _ (c .put-centre .ensures)
 
 pub put-node-spec : {M : Type 1} → statement M
-put-node-spec = tie.close (tie.spec put-record-requires put-depth-requires returns)
+put-node-spec = tie.close (tie.spec put-record-requires put-depth-requires put-centre-requires returns)

@@ -10,14 +10,14 @@ use Rattle.lut.proofs.store.put_record.Statement.{statement}
 use Rattle.lut.proofs.store.put_record.Tie as tie
 
 abbrev Inv-loop : tie.InvT-loop
-Inv-loop nodes₀ i bytes k₀ nodes k = (k ≤ 38) × (nodes ≡ paste nodes₀ (40 * i) bytes k)
+Inv-loop nodes₀ i bytes k₀ nodes k = (k ≤ 38) × (nodes ≡ paste nodes₀ (41 * i) bytes k)
 
 abbrev μ-loop : tie.MeasureT-loop
 μ-loop nodes₀ i bytes k₀ nodes k = 38 - k
 
 -- src/store.rt:42:5
 loop-holds : tie.Need-loop-holds Inv-loop μ-loop
-loop-holds c = (omega arith, paste-zero (c .args .nodes .now) (40 * c .args .i) (c .args .bytes .now))
+loop-holds c = (omega arith, paste-zero (c .args .nodes .now) (41 * c .args .i) (c .args .bytes .now))
 
 -- src/store.rt:43:29
 element-copy-out-nodes : tie.Need-element-copy-out-nodes Inv-loop μ-loop
@@ -48,7 +48,7 @@ loop-again : tie.Need-loop-again Inv-loop μ-loop
 loop-again c =
     let s = c .before .before .before in
     let o = c .before .before .loop in
-    (omega arith, paste-turn (s .args .nodes .now) (s .args .bytes .now) (o .nodes) (40 * s .args .i) (o .k) (omega arith) (omega arith) (o .inv .1))
+    (omega arith, paste-turn (s .args .nodes .now) (s .args .bytes .now) (o .nodes) (41 * s .args .i) (o .k) (omega arith) (omega arith) (o .inv .1))
 
 -- src/store.rt:37:1
 returns : tie.Need-returns Inv-loop μ-loop
@@ -57,7 +57,7 @@ returns c =
     let s = c .before .before in
     let o = c .before .loop in
     let e : o .k ≡ 38 = omega arith in
-    o .inv .1 ∙ ap (λ k. paste (s .args .nodes .now) (40 * s .args .i) (s .args .bytes .now) k) e
+    o .inv .1 ∙ ap (λ k. paste (s .args .nodes .now) (41 * s .args .i) (s .args .bytes .now) k) e
 
 pub put-record-spec : {M : Type 1} → statement M
 put-record-spec =

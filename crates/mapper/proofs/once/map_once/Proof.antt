@@ -1,3 +1,4 @@
+use Rattle.bootstrap.specs.View.{centres-then}
 use borrow.Author.Needs.{needs}
 use Rattle.mapper.specs.Once.{once-refused, once-done, room-left}
 use Rattle.mapper.proofs.once.map_once.Statement.{statement}
@@ -32,7 +33,7 @@ returns-2 c =
     let e = c .before .before .before .before in
     let mapped = e .before .before .map-gates .ensures in
     let done = c .map-outputs .ensures in
-    (λ text. once-done _ _ _ _ _ _ _ _ (mapped .0 text) (e .if1 .left) text _ _ _ _ (done .0 text), λ z. done .1 .done)
+    (λ text. once-done _ _ _ _ _ _ _ _ (mapped .0 text) (e .if1 .left) text _ _ _ _ (done .0 text), λ z. (done .1 .done, centres-then (mapped .1 .centred (e .if1 .left)) (done .1 .centred)))
 
 pub map-once-spec : {M : Type 1} → statement M
 map-once-spec =

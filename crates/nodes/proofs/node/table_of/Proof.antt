@@ -56,8 +56,8 @@ part-result-end c =
 returns : tie.Need-returns
 returns c =
     let s = c .before .before .before .before in
-    let d = drop (40 * s .args .i + 6) (s .args .nodes .now) in
-    ap (λ (n : ℕ). take n d) (add-sub-cancel-left (40 * s .args .i + 6) (c .before .wide .result) ∙ c .before .wide .ensures .0) ∙ table-at (s .args .nodes .now) (s .args .i) (s .pre .0) (s .pre .1)
+    let d = drop (41 * s .args .i + 6) (s .args .nodes .now) in
+    ap (λ (n : ℕ). take n d) (add-sub-cancel-left (41 * s .args .i + 6) (c .before .wide .result) ∙ c .before .wide .ensures .0) ∙ table-at (s .args .nodes .now) (s .args .i) (s .pre .0) (s .pre .1)
 
 pub table-of-spec : {M : Type 1} → statement M
 table-of-spec =
