@@ -67,6 +67,9 @@ enum fbs_number {
     /* a value on the 32-bit circle: fbs_find_slot */
     FBS_BAD_PERIOD = 36,      /* P = 32 */
     FBS_BAD_VALUE = 37,       /* P = 4, value 8 */
+    /* edition 2 of the network's text: fbs_admit, fbs_convert */
+    FBS_OTHER_CENTRE = 38,    /* (many 0 (10 1)) on an input */
+    FBS_MANY_AGAIN = 39,      /* (many 0 (10 0)) twice */
     /* a run of either kind; document 01 has no number for these */
     FBS_NOT_BITS = 100,       /* two inputs, one bit; a bit that is 2 */
     FBS_SHORT_VALUES = 101,   /* one output, buffer of 0 values */
@@ -129,9 +132,15 @@ typedef struct fbs_slot {
  * all bits the network's outputs are the circuit's. Inputs that nothing needs are gone, so take bits by name. */
 fbs_reply fbs_map(const uint8_t *text, size_t text_length, uint8_t *out, size_t out_length);
 
-/* A network's text judged: 0 only if on all bits no sum leaves its table, a rotation gives every table, every output is 0 or 1
+/* A network's text of either edition judged: 0 only if on all bits no sum leaves its table, a rotation gives every table, every output is 0 or 1
  * and no sum's norm is over NORM. */
 fbs_admission fbs_admit(const uint8_t *text, size_t text_length);
+
+/* A network's text in the other edition, written over the front of `out`: a text that begins (net2 is edition 2, every other is plain.
+ * To edition 2 the tables of a node stand together where the first stood and nodes are numbered anew; back, each is a `boot` in its
+ * place. On all bits the outputs stay, fbs_admit's answer too. It refuses what fbs_admit refuses, then 11. Every other function on
+ * networks refuses edition 2 with 21 at line 1. */
+fbs_reply fbs_convert(const uint8_t *text, size_t text_length, uint8_t *out, size_t out_length);
 
 /* A bootstrap table for rows, a value and a truth each, the two lists of one length. Each bit is written as a byte 0 or 1, the
  * least value's first. The reply names the table's centre. */
@@ -184,6 +193,8 @@ static inline const char *fbs_phrase(size_t number) {
     case FBS_NO_SUM: return "the chosen node is not a sum";
     case FBS_BAD_PERIOD: return "P is not 2, 4, 8 or 16";
     case FBS_BAD_VALUE: return "the value is below 0 or above 2P - 1";
+    case FBS_OTHER_CENTRE: return "a table's centre is another";
+    case FBS_MANY_AGAIN: return "the node has a many line already";
     case FBS_NOT_BITS: return "not one bit for each input";
     case FBS_SHORT_VALUES: return "fewer places than outputs";
     case FBS_BROKEN_OFF: return "a bootstrap broke off";

@@ -191,6 +191,63 @@ static void check_admission(void) {
     expect("no text is the empty text", r.number == 21 && r.line == 1 && r.inputs == 0 && r.outputs == 0 && r.depth == 0 && r.centre0 == 0);
 }
 
+/* ---- Edition 2 of the network's text. */
+
+#define NET2 "(net2 4 8 none)\n(in a)\n"
+
+static const char *apart = "(net 2 4 none)\n(in a)\n(in b)\n(lin 0 (1 0) (1 1))\n(boot 2 010)\n(boot 0 10)\n(boot 2 001)\n(out y (n 5))\n";
+static const char *edition2 = "(net2 2 4 none)\n(in a)\n(in b)\n(lin 0 (1 0) (1 1))\n(many 2 (010 0) (001 1))\n(many 0 (10 0))\n(out y (n 4))\n";
+static const char *together = "(net 2 4 none)\n(in a)\n(in b)\n(lin 0 (1 0) (1 1))\n(boot 2 010)\n(boot 2 001)\n(boot 0 10)\n(out y (n 4))\n";
+
+static const struct {
+    const char *what, *text;
+    size_t number, line;
+} turned_away[] = {
+    {"21, boot in edition 2", NET2 "(boot 0 10)\n", 21, 3},
+    {"21, many in the plain text", NET "(many 0 (10 0))\n", 21, 3},
+    {"21, no table", NET2 "(many 0)\n", 21, 3},
+    {"22, a table on itself", NET2 "(many 1 (10 0))\n", 22, 3},
+    {"23 of the second table", NET2 "(many 0 (10 1) (100 0))\n", 23, 3},
+    {"38", NET2 "(many 0 (10 1))\n", 38, 3},
+    {"39", NET2 "(many 0 (10 0))\n(many 0 (10 0))\n", 39, 4},
+    {"21, the empty text", "", 21, 1},
+};
+
+static void converts(const char *what, const char *text, const char *other) {
+    uint8_t *out = fresh();
+    is(what, fbs_convert(bytes(text), strlen(text), out, FBS_ANSWER_BYTES), 0, 0, strlen(other));
+    expect(what, memcmp(out, other, strlen(other)) == 0);
+    expect("later bytes are kept", kept(strlen(other)));
+    out = fresh();
+    is("11, one byte short", fbs_convert(bytes(text), strlen(text), out, strlen(other) - 1), 11, 0, 0);
+    expect("11 keeps the buffer", kept(0));
+    is("a buffer of the text's length", fbs_convert(bytes(text), strlen(text), out, strlen(other)), 0, 0, strlen(other));
+}
+
+static void check_editions(void) {
+    converts("to edition 2", apart, edition2);
+    converts("and back", edition2, together);
+    converts("a second time", together, edition2);
+    fbs_admission plain = fbs_admit(bytes(apart), strlen(apart)), second = fbs_admit(bytes(edition2), strlen(edition2));
+    static const fbs_admission stats = {0, 0, 2, 1, 3, 2, 3, 2, 1, 1, 2, 1, 0};
+    expect("the statistics of the plain text", memcmp(&plain, &stats, sizeof plain) == 0);
+    expect("those of edition 2", memcmp(&second, &stats, sizeof second) == 0);
+    for (size_t i = 0; i < sizeof turned_away / sizeof *turned_away; i++) {
+        uint8_t *out = fresh();
+        const char *text = turned_away[i].text;
+        fbs_admission r = fbs_admit(bytes(text), strlen(text));
+        expect(turned_away[i].what, r.number == turned_away[i].number && r.line == turned_away[i].line && r.boots == 0);
+        is(turned_away[i].what, fbs_convert(bytes(text), strlen(text), out, FBS_ANSWER_BYTES), turned_away[i].number, turned_away[i].line, 0);
+        expect("a refusal keeps the buffer", kept(0));
+    }
+    uint8_t bits[2] = {1, 1};
+    int64_t value = 9;
+    is("21, a run of edition 2", fbs_run_network(bytes(edition2), strlen(edition2), bits, 2, &value, 1), 21, 1, 0);
+    fbs_sum sum = fbs_sum_reading(bytes(edition2), strlen(edition2), 2, 1);
+    expect("21, a sum of edition 2", sum.number == 21 && sum.line == 1 && sum.count == 0 && value == 9);
+    is("21, no text", fbs_convert(NULL, 0, NULL, 0), 21, 1, 0);
+}
+
 /* ---- The builder. */
 
 static const struct {
@@ -460,7 +517,7 @@ static void *job(void *given) {
             fbs_admission r = fbs_admit(bytes(judged[i].text), strlen(judged[i].text));
             j->wrong += memcmp(&r, &judged[i].reply, sizeof r) != 0;
         }
-        uint8_t table[6], bit[1];
+        uint8_t table[6], bit[1], other[256];
         int64_t seen[WANTED];
         fbs_table t = fbs_build_table(3, 6, values, 3, truths, 3, table, 6);
         j->wrong += t.number != 0 || t.count != 6 || t.centre != 1 || !is_table(table, "001110");
@@ -468,6 +525,8 @@ static void *job(void *given) {
         j->wrong += r.number != 0 || seen[0] != 1 || seen[1] != 0 || seen[5] != 1;
         r = fbs_run_circuit(bytes(mapped[0].text), strlen(mapped[0].text), bits, 2, bit, 1);
         j->wrong += r.number != 0 || bit[0] != 1;
+        r = fbs_convert(bytes(apart), strlen(apart), other, sizeof other);
+        j->wrong += r.number != 0 || r.count != strlen(edition2) || memcmp(other, edition2, r.count) != 0;
         fbs_sum sum = fbs_sum_reading(bytes(summed), strlen(summed), 3, 3);
         j->wrong += sum.number != 0 || sum.count != 3 || sum.bits[2] != 1;
         fbs_slot slot = fbs_find_slot(4, 5, -HALF4);
@@ -492,6 +551,7 @@ int main(void) {
     check_mapper();
     check_answer_buffer();
     check_admission();
+    check_editions();
     check_builder();
     check_circuit_run();
     check_network_run();

@@ -60,6 +60,7 @@ mod wonkpecan {
         unsafe extern "C" {
             pub fn fbs_map(text: *const u8, text_length: usize, out: *mut u8, out_length: usize) -> Reply;
             pub fn fbs_admit(text: *const u8, text_length: usize) -> Admission;
+            pub fn fbs_convert(text: *const u8, text_length: usize, out: *mut u8, out_length: usize) -> Reply;
             pub fn fbs_build_table(
                 p: usize,
                 m: usize,
@@ -91,7 +92,7 @@ mod wonkpecan {
         }
     }
 
-    // SAFETY of all seven: a slice's pointer and length are what the header asks for, and a `&mut` shares no place with another.
+    // SAFETY of all eight: a slice's pointer and length are what the header asks for, and a `&mut` shares no place with another.
 
     pub fn map(text: &[u8], out: &mut [u8]) -> Reply {
         unsafe { c::fbs_map(text.as_ptr(), text.len(), out.as_mut_ptr(), out.len()) }
@@ -99,6 +100,10 @@ mod wonkpecan {
 
     pub fn admit(text: &[u8]) -> Admission {
         unsafe { c::fbs_admit(text.as_ptr(), text.len()) }
+    }
+
+    pub fn convert(text: &[u8], out: &mut [u8]) -> Reply {
+        unsafe { c::fbs_convert(text.as_ptr(), text.len(), out.as_mut_ptr(), out.len()) }
     }
 
     pub fn build_table(p: usize, m: usize, values: &[i32], truths: &[u8], out: &mut [u8]) -> Table {
@@ -124,7 +129,7 @@ mod wonkpecan {
 
 use std::fmt::Debug;
 use std::sync::atomic::{AtomicUsize, Ordering};
-use wonkpecan::{Admission, Reply, Slot, Sum, Table, admit, build_table, find_slot, map, run_circuit, run_network, sum_reading};
+use wonkpecan::{Admission, Reply, Slot, Sum, Table, admit, build_table, convert, find_slot, map, run_circuit, run_network, sum_reading};
 
 static CHECKS: AtomicUsize = AtomicUsize::new(0);
 
@@ -213,6 +218,22 @@ fn check_admit() {
     same("26", admit(b"(net 4 8 none)\n(in a)\n(in b)\n(lin 0 (1 0) (1 1))\n(out y (n 2))\n"), rejected(26, 5));
 }
 
+fn check_editions() {
+    let plain = b"(net 2 4 none)\n(in a)\n(in b)\n(lin 0 (1 0) (1 1))\n(boot 2 010)\n(boot 0 10)\n(boot 2 001)\n(out y (n 5))\n";
+    let second = b"(net2 2 4 none)\n(in a)\n(in b)\n(lin 0 (1 0) (1 1))\n(many 2 (010 0) (001 1))\n(many 0 (10 0))\n(out y (n 4))\n";
+    let mut out = vec![0xa5; 200];
+    same("to edition 2", convert(plain, &mut out), accepted(second.len()));
+    same("its text", &out[..second.len()], &second[..]);
+    same("later bytes kept", out[second.len()..].iter().all(|b| *b == 0xa5), true);
+    let mut short = vec![0xa5; second.len() - 1];
+    same("11", convert(plain, &mut short), refused(11, 0));
+    same("11 keeps the buffer", short.iter().all(|b| *b == 0xa5), true);
+    same("the same statistics", admit(second), admit(plain));
+    same("38", admit(b"(net2 4 8 none)\n(in a)\n(many 0 (10 1))\n"), rejected(38, 3));
+    same("39", convert(b"(net2 4 8 none)\n(in a)\n(many 0 (10 0))\n(many 0 (10 0))\n", &mut out), refused(39, 4));
+    same("21, a run of edition 2", run_network(second, &[1, 1], &mut [0]), refused(21, 1));
+}
+
 fn check_builder() {
     let no = |number| Table { number, line: 0, count: 0, centre: 0 };
     let mut out = [7; 32];
@@ -259,6 +280,7 @@ fn check_all() {
     check_sums();
     check_slots();
     check_admit();
+    check_editions();
     check_builder();
     check_runs();
 }

@@ -17,6 +17,7 @@ use Rattle.rules.specs.Network.{LutNode, Input, Linear, Bootstrap, isInput, isL
 use Rattle.rules.specs.Network as W
 use Rattle.rules.specs.Store.{needs}
 use Rattle.theorems.specs.Counts.{count-snoc, count-most, one-or-none}
+use Rattle.theorems.specs.Members.{sources-append}
 use Rattle.theorems.specs.Depths.{largest-more, largest-depth-more}
 use Rattle.nodes.specs.Centre.{Centred}
 use Rattle.nodes.specs.Depth.{recorded-next}
@@ -134,13 +135,6 @@ takenWith taken (Linear c ts) = taken
 takenWith taken (Bootstrap i table) = set taken i true
 
 -- ---- laws: one node more
-
-sources-append : (ns ms : List LutNode) → bootSources (ns ++ ms) ≡ bootSources ns ++ bootSources ms
-unfolding bootSources
-sources-append [] ms = refl
-sources-append (Input n ∷ ns) ms = sources-append ns ms
-sources-append (Linear c ts ∷ ns) ms = sources-append ns ms
-sources-append (Bootstrap i table ∷ ns) ms = ap {B = List ℕ} (λ is. i ∷ is) (sources-append ns ms)
 
 member-more : (j i : ℕ) (is : List ℕ) → member j (is ++ (i ∷ [])) ≡ (member j is || eqb j i)
 unfolding member

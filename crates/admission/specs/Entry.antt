@@ -5,7 +5,8 @@ use Prim.Native.Nat.{ℕ}
 use Rattle.laws.specs.Tabulate.{tabulate-length}
 use Rattle.rules.specs.declared.Stats.{Stats}
 use Rattle.rules.specs.Network.{stats}
-use Rattle.rules.specs.NetworkText.{readAdmitted, admitted, rejected, admissionOf, admission}
+use Rattle.rules.specs.Admission.{admitted, rejected, admissionOf, admission}
+use Rattle.rules.specs.Edition2.{readEither}
 use Rattle.nodes.specs.Centre.{Centred}
 use Rattle.nodes.specs.View.{storeOf, IsStore}
 use Rattle.network.specs.View.{outputsOf, networkOf, readingOf, Held}
@@ -18,7 +19,7 @@ read-stats : (s nodes ports : List ℕ) (h : Header) → statsOf (h .p) (storeOf
 unfolding statsOf statsAmong stats networkOf outputsOf
 read-stats s nodes ports h = rw tabulate-length
 
-module _ (s nodes ports : List ℕ) (r : Reading) (e : readingOf s nodes ports r ≡ readAdmitted s) where
+module _ (s nodes ports : List ℕ) (r : Reading) (e : readingOf s nodes ports r ≡ readEither s) where
   pub admit-refused : (k i : ℕ) → r ≡ Refused k i → rejected k i ≡ admission s
   unfolding admission admissionOf
   admit-refused k i q = sym (ap admissionOf (sym e ∙ ap (readingOf s nodes ports) q))

@@ -11,7 +11,7 @@ use Rattle.laws.specs.Test.{if_then_else_, is-T}
 use Rattle.rules.specs.declared.Wire.{Wire}
 use Rattle.rules.specs.CircuitText.{CircuitLine, GateLine}
 use Rattle.rules.specs.Form.{Piece, give, onward, run, runOf, bits, isBits, isBitByte, bitsFrom}
-use Rattle.text.specs.Name.{bits-length}
+use Rattle.theorems.specs.Pieces.{from-length}
 use Rattle.circuit_text.specs.declared.gate.GateRead.{GateRead}
 use Rattle.circuit_text.specs.declared.gate.GateRead.the-variants.{At as GateAt, Nothing as NoGate}
 use Rattle.circuit_conditions.specs.declared.Wires.{Wires}
@@ -68,10 +68,10 @@ unfolding bits runOf isBits onward
 some-bits l w x = by (run isBitByte l) (isBits (run isBitByte l)) refl
   where
     by : (v : List ℕ) (t : Bool) → isBits v ≡ t → onward (if t then give v (drop (length v) l) else none) (λ u. give (bitsFrom u)) ≡ some (record { value = w; rest = x }) → 1 ≤ length w
-    by v true g e = subst (λ p. 1 ≤ length (p .value)) (Option·some-injective _ _ e) (rw bits-length (leb→le 1 (length v) (is-T _ g)))
+    by v true g e = subst (λ p. 1 ≤ length (p .value)) (Option·some-injective _ _ e) (rw from-length (leb→le 1 (length v) (is-T _ g)))
     by v false g e = absurd (Option·none-ne-some _ e)
 
 pub bits-later : (s : List ℕ) (d e : ℕ) (x : List ℕ) → bits (drop d s) ≡ some (record { value = bitsFrom (take (e - d) (drop d s)); rest = x }) → d ≤ e
 bits-later s d e x h =
-    let k = rw (bits-length, length-take) at (some-bits (drop d s) _ x h) in
+    let k = rw (from-length, length-take) at (some-bits (drop d s) _ x h) in
     omega arith

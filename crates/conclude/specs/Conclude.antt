@@ -1,16 +1,14 @@
 -- What is left to do when all outputs are mapped: Basic's last check, and the text.
 use mathlib.Core.Path.{_≡_, refl, sym, ap, subst, _∙_}
 use mathlib.Core.Bool.{Bool, true, false, _&&_, not}
-use mathlib.Core.List.{List, [], _∷_, _++_, map, append-nil}
+use mathlib.Core.List.{List, [], _∷_, _++_, map}
 use mathlib.Core.Logic.{inl, inr}
 use Prim.Native.Nat.{ℕ, zero, suc, _+_, _*_, _≤_, _<_}
 use native.Mathlib.Nat.{le-of-suc-le-suc}
 use native.Mathlib.Omega.{arith}
 use borrow.Author.Tests.{lt-ltb, le-ltb}
-use lib.ListN.{length, getD, take, drop, drop-of-length-le}
-use lib.Seq.{length-take-le}
-use Rattle.laws.specs.Laid.{laid, laid-over}
-use Rattle.laws.specs.Over.{over, over-length}
+use lib.ListN.{length, getD, take, drop}
+use Rattle.laws.specs.Over.{over}
 use Rattle.laws.specs.Tabulate.{tabulate, tabulate-length, tabulate-at}
 use Rattle.rules.specs.declared.MapReply.the-variants as Reply
 use Rattle.rules.specs.declared.Policy.{Policy}
@@ -34,6 +32,7 @@ use Rattle.writer.specs.declared.Network as W
 use Rattle.writer.specs.Kept.{Numbered, Closed, closed, kept-sourced}
 use Rattle.writer.specs.Live.{Sourced}
 use Rattle.writer.specs.Outputs.{Signalled, Ported, kept-signal}
+use Rattle.lines.specs.Front.{untouched, untouched-length, text-over}
 use Rattle.lines.specs.Put.{Put, Room}
 use Rattle.writer.specs.Whole.{networkOf, kept-network}
 use Rattle.conclude.specs.Live.{Keeps}
@@ -54,39 +53,18 @@ pub record Finishable (s : Settings) (text ports : List ℕ) (outs : ℕ) (nodes
 
 -- ---- laws: the text in the buffer
 
--- laid into as many bytes of the front as it has, it is written over the front
-laid-front : (s : List ℕ) (n : ℕ) (d : List ℕ) → n ≡ 0 + length s → n ≤ length d → laid 0 s (take n d) ++ drop n d ≡ over s d
-unfolding over
-laid-front s n d e h =
-    let l = length-take-le n d h in
-    let q : n ≡ length s = omega arith in
-    rw (laid-over s (take n d) (omega arith), drop-of-length-le (take n d) {i = length s} (omega arith), append-nil s) (ap (λ k. s ++ drop k d) q)
-
--- none of the buffer's bytes, and the text's length
 module _ (w : Network) (n : ℕ) (none : List ℕ) (p : Put 0 (networkText w) [] n none) (before : List ℕ) where
-  untouched : none ++ before ≡ before
-  unfolding laid
-  untouched = ap (λ l. l ++ before) (p .bytes)
-
-  pub untouched-length : length (none ++ before) ≡ length before
-  untouched-length = ap length untouched
-
   pub answer-short : length (none ++ before) < n → outcome (mapReply (Reply.Refused 11 0)) (none ++ before) ≡ answerWith before (Good w)
   unfolding answerWith mapReply
-  answer-short h = rw (untouched, lt-ltb (length before) (length (networkText w)) (omega (arith, untouched-length, p .place))) refl
+  answer-short h =
+      rw (untouched (networkText w) n none p before, lt-ltb (length before) (length (networkText w)) (omega (arith, untouched-length (networkText w) n none p before, p .place))) refl
 
-  module _ (h : n ≤ length (none ++ before)) (next : ℕ) (after : List ℕ) (q : Put 0 (networkText w) (take n (none ++ before)) next after) where
-    text-over : after ++ drop n (none ++ before) ≡ over (networkText w) before
-    text-over = ap (λ l. l ++ drop n (none ++ before)) (q .bytes) ∙ laid-front (networkText w) n (none ++ before) (p .place) h ∙ ap (over (networkText w)) untouched
-
-    pub written-length : length (after ++ drop n (none ++ before)) ≡ length before
-    written-length = ap length text-over ∙ over-length (networkText w) before (omega (arith, h, untouched-length, p .place))
-
-    pub answer-written : outcome (mapReply (Reply.Written n)) (after ++ drop n (none ++ before)) ≡ answerWith before (Good w)
-    unfolding answerWith mapReply
-    answer-written =
-        let e : n ≡ length (networkText w) = omega (arith, p .place) in
-        rw (le-ltb (length before) (length (networkText w)) (omega (arith, h, untouched-length, p .place)), text-over, e) refl
+  pub answer-written : (h : n ≤ length (none ++ before)) (next : ℕ) (after : List ℕ) → Put 0 (networkText w) (take n (none ++ before)) next after
+      → outcome (mapReply (Reply.Written n)) (after ++ drop n (none ++ before)) ≡ answerWith before (Good w)
+  unfolding answerWith mapReply
+  answer-written h next after q =
+      let e : n ≡ length (networkText w) = omega (arith, p .place) in
+      rw (le-ltb (length before) (length (networkText w)) (omega (arith, h, untouched-length (networkText w) n none p before, p .place)), text-over (networkText w) n none p before h next after q, e) refl
 
 -- ---- laws: Basic's last check
 

@@ -2,7 +2,7 @@
 use mathlib.Core.Option.{Option, none, some}
 use Rattle.rules.specs.Builder.{TableAnswer}
 use Rattle.rules.specs.Outcome.{Answer, written, refused}
-use Rattle.rules.specs.NetworkText.{Admission}
+use Rattle.rules.specs.Admission.{Admission}
 use Rattle.rules.specs.Phase.{SlotAnswer}
 use Rattle.rules.specs.Runs.{RunAnswer, Numbered, NotBits, NoRoom, BreakOff, RunOutcome, ran}
 use Rattle.rules.specs.declared.Stats.{Stats}

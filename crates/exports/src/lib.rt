@@ -11,7 +11,8 @@ use crate::numbers::sum_numbers;
 ghost use mathlib.Core.Path.{_≡_};
 ghost use Rattle.rules.specs.Builder.{built, builder};
 ghost use Rattle.rules.specs.Mapper.{mapper};
-ghost use Rattle.rules.specs.NetworkText.{admission};
+ghost use Rattle.rules.specs.Admission.{admission};
+ghost use Rattle.rules.specs.Converter.{converter};
 ghost use Rattle.rules.specs.Outcome.{outcome};
 ghost use Rattle.rules.specs.Phase.{slotAnswer};
 ghost use Rattle.rules.specs.Runs.{Numbered, ran, runCircuit, runNetwork};
@@ -82,13 +83,22 @@ pub extern "C" fn fbs_map(text: &[u8], out: &mut [u8]) -> FbsReply
     map_numbers(r)
 }
 
-// A network's text judged.
+// A network's text of either edition judged.
 #[no_mangle]
 pub extern "C" fn fbs_admit(text: &[u8]) -> FbsAdmission
     ensures { λ r. ⌜ r ≡ admissionNumbers (admission (now (text .entry))) ⌝ }
 {
     let r = admission::admit(text);
     admission_numbers(r)
+}
+
+// A network's text in the other edition.
+#[no_mangle]
+pub extern "C" fn fbs_convert(text: &[u8], out: &mut [u8]) -> FbsReply
+    ensures { λ r. ⌜ outcome (answer r) (now (out .exit)) ≡ converter (now (text .entry)) (now (out .entry)) ⌝ }
+{
+    let r = convert::convert(text, out);
+    map_numbers(r)
 }
 
 // A bootstrap table from rows, a value and a truth each, and its centre.

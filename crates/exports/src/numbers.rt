@@ -12,7 +12,7 @@ use rules::SumReply;
 ghost use mathlib.Core.Path.{_≡_};
 ghost use Rattle.rules.specs.Builder.{builderReply};
 ghost use Rattle.rules.specs.Mapper.{mapReply};
-ghost use Rattle.rules.specs.NetworkText.{admitReply};
+ghost use Rattle.rules.specs.Admission.{admitReply};
 ghost use Rattle.rules.specs.Phase.{slotReply};
 ghost use Rattle.rules.specs.Runs.{runReply};
 ghost use Rattle.rules.specs.Outcome.{written, refused};

@@ -9,6 +9,7 @@ pub mod Front
 pub mod Over
 pub mod Tail
 pub mod Select
+pub mod Permuted
 pub mod Digits
 pub mod Laid
 pub mod Modulo

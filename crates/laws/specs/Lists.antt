@@ -1,4 +1,4 @@
--- Lists: one that is empty, and the entries of one that was mapped and of one of zeros.
+-- Lists: one that is empty, the entries of one that was mapped and of one of zeros, and a property of each element.
 use mathlib.Core.Path.{_≡_, refl}
 use mathlib.Core.List.{List, [], _∷_, map, _++_}
 use Prim.Native.Nat.{ℕ, zero, suc, _<_, _≤_}
@@ -21,3 +21,8 @@ zeros-at (suc n) (suc i) = zeros-at n i
 
 pub snoc-le : {A : Type 0} (l : List A) (a : A) (n : ℕ) → length l < n → length (l ++ (a ∷ [])) ≤ n
 snoc-le l a n h = rw length-append (omega arith)
+
+-- Each of these has a property.
+abbrev pub Each : {A : Type 0} → (A → Type 0) → List A → Type 0
+Each Q [] = Unit {0}
+Each Q (x ∷ l) = Q x × Each Q l

@@ -1,13 +1,14 @@
 -- The elements of a list at which a test holds.
-use mathlib.Core.Path.{_≡_, refl}
-use mathlib.Core.Bool.{Bool, true, false, not, _&&_, _||_}
+use mathlib.Core.Path.{_≡_, refl, sym}
+use mathlib.Core.Bool.{Bool, true, false, not, _&&_, _||_, true≢false}
 use mathlib.Core.List.{List, [], _∷_, _++_, map}
+use mathlib.Core.Logic.{_⊎_, inl, inr, ⊎-elim}
 use mathlib.Core.Option.{Option, none, some, Option·map}
 use Prim.Native.Nat.{ℕ, zero, suc, _+_, _≤_, _<_, zero-le}
 use native.Mathlib.Nat.{not-suc-le-zero, le-of-suc-le-suc}
 use native.Mathlib.Omega.{arith}
 use lib.ListN.{length, getD}
-use Rattle.laws.specs.Test.{if_then_else_, both, both-left, both-right}
+use Rattle.laws.specs.Test.{if_then_else_, both, both-left, both-right, or-by-right, or-cases}
 
 module _ {ℓ} {A : Type ℓ} where
   unfoldable pub select : (A → Bool) → List A → List A
@@ -110,3 +111,53 @@ first-map f g (x ∷ l) = by (f (g x)) (first-map f g l)
         → (if b then some (g x) else firstOf f (map g l)) ≡ Option·map g (if b then some x else firstOf (λ x. f (g x)) l)
     by true e = refl
     by false e = e
+
+-- ---- At one of them.
+
+module _ {A : Type 0} (f : A → Bool) where
+  pub any-none : any f [] ≡ true → ⊥
+  unfolding any
+  any-none e = true≢false (sym e)
+
+  pub any-one : (x : A) → any f (x ∷ []) ≡ true → f x ≡ true
+  unfolding any
+  any-one x e = ⊎-elim (λ (h : f x ≡ true). h) (λ (h : false ≡ true). absurd (true≢false (sym h))) (or-cases (f x) false e)
+
+  pub any-left : (a b : List A) → any f a ≡ true → any f (a ++ b) ≡ true
+  unfolding any
+  any-left [] b e = absurd (true≢false (sym e))
+  any-left (x ∷ a) b e = by (f x) (any-left a b) e
+    where
+      by : (c : Bool) → (any f a ≡ true → any f (a ++ b) ≡ true) → (c || any f a) ≡ true → (c || any f (a ++ b)) ≡ true
+      by true r e = refl
+      by false r e = r e
+
+  pub any-right : (a b : List A) → any f b ≡ true → any f (a ++ b) ≡ true
+  unfolding any
+  any-right [] b e = e
+  any-right (x ∷ a) b e = or-by-right (f x) (any f (a ++ b)) (any-right a b e)
+
+  pub any-either : (a b : List A) → any f (a ++ b) ≡ true → (any f a ≡ true) ⊎ (any f b ≡ true)
+  unfolding any
+  any-either [] b e = inr e
+  any-either (x ∷ a) b e = by (f x) (any-either a b) e
+    where
+      by : (c : Bool) → (any f (a ++ b) ≡ true → (any f a ≡ true) ⊎ (any f b ≡ true)) → (c || any f (a ++ b)) ≡ true → ((c || any f a) ≡ true) ⊎ (any f b ≡ true)
+      by true r e = inl refl
+      by false r e = r e
+
+  -- by its number
+  pub any-at : (l : List A) (d : A) (i : ℕ) → i < length l → f (getD l i d) ≡ true → any f l ≡ true
+  unfolding any
+  any-at [] d i h e = absurd (not-suc-le-zero h)
+  any-at (x ∷ l) d zero h e = rw e
+  any-at (x ∷ l) d (suc i) h e = or-by-right (f x) (any f l) (any-at l d i (le-of-suc-le-suc h) e)
+
+  pub any-found : (l : List A) (d : A) → any f l ≡ true → (i : ℕ) × (i < length l) × (f (getD l i d) ≡ true)
+  unfolding any
+  any-found [] d e = absurd (true≢false (sym e))
+  any-found (x ∷ l) d e = by (f x) refl e (any-found l d)
+    where
+      by : (b : Bool) → f x ≡ b → (b || any f l) ≡ true → (any f l ≡ true → (i : ℕ) × (i < length l) × (f (getD l i d) ≡ true)) → (i : ℕ) × (i < suc (length l)) × (f (getD (x ∷ l) i d) ≡ true)
+      by true q e ih = (0, omega arith, q)
+      by false q e ih = let r = ih e in (suc (r .0), let h = r .1 in omega arith, r .2)

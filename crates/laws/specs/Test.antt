@@ -1,6 +1,6 @@
 -- Tests that compute, and what they say.
-use mathlib.Core.Path.{_≡_, refl, sym, subst}
-use mathlib.Core.Bool.{Bool, true, false, not, _&&_, _||_}
+use mathlib.Core.Path.{_≡_, refl, sym, subst, _∙_}
+use mathlib.Core.Bool.{Bool, true, false, not, _&&_, _||_, true≢false}
 use mathlib.Core.List.{List, [], _∷_}
 use mathlib.Core.Logic.{_⊎_, inl, inr, ⊎-elim}
 use mathlib.Core.Option.{Option, none, some}
@@ -39,6 +39,13 @@ and-both false b s t = absurd s
 pub zero≢one : _≡_ {A = ℕ} 0 1 → ⊥
 zero≢one e = omega arith
 
+-- whichever test holds
+pub same-of-four : (a b c : Bool) (x : ℕ) → (if a then x else if b then x else if c then x else x) ≡ x
+same-of-four true b c x = refl
+same-of-four false true c x = refl
+same-of-four false false true x = refl
+same-of-four false false false x = refl
+
 -- of every index below n
 unfoldable pub allb : ℕ → (ℕ → Bool) → Bool
 allb zero f = true
@@ -70,6 +77,10 @@ eqb-of a b e = subst (λ (k : ℕ). T (eqb a k)) e (eqb-refl a)
 
 pub eq-or-ne : (a b : ℕ) → (a ≡ b) ⊎ (a ≡ b → ⊥)
 eq-or-ne a b = ⊎-elim (λ (l : a < b). inr (λ e. omega arith)) (λ (l : b ≤ a). ⊎-elim (λ (k : b < a). inr (λ e. omega arith)) (λ (k : a ≤ b). inl (omega arith)) (lt-or-le b a)) (lt-or-le a b)
+
+pub positive-of : (n : ℕ) → (n ≡ 0 → ⊥) → 0 < n
+positive-of zero f = absurd (f refl)
+positive-of (suc n) f = omega arith
 
 -- a test goes one way or the other, with the equation
 pub decide : (b : Bool) → (b ≡ true) ⊎ (b ≡ false)
@@ -111,6 +122,9 @@ unfolding allb
 allb-none f = refl
 
 -- a disjunction that is false, a conjunction that is true
+pub not-both : (b : Bool) → b ≡ true → b ≡ false → ⊥
+not-both b e f = true≢false (sym e ∙ f)
+
 pub neither-left : (a b : Bool) → (a || b) ≡ false → a ≡ false
 neither-left true b h = h
 neither-left false b h = refl

@@ -16,7 +16,7 @@ ghost use Rattle.lines.specs.Put.{Put, Room};
 ghost use Rattle.lines.specs.Lines.{netText, inText, termText, outText};
 
 // NORM
-fn put_norm(out: &mut [u8], at: usize, norm: Limit) -> usize
+pub fn put_norm(out: &mut [u8], at: usize, norm: Limit) -> usize
     requires { ⌜ Room at (limitText norm) ⌝ }
     ensures { λ r. ⌜ Put at (limitText norm) (now (out .entry)) r (now (out .exit)) ⌝ }
 {

@@ -7,6 +7,7 @@ use native.Mathlib.Omega.{arith}
 use lib.Dec.{T, leb}
 use lib.ListN.{length, getD, length-map}
 use Rattle.laws.specs.Test.{isSome, both-left, both-right}
+use Rattle.laws.specs.Lists.{Each}
 use Rattle.rules.specs.declared.Settings.{Settings}
 use Rattle.rules.specs.CircuitText.{inLimits}
 use Rattle.rules.specs.Composition.{unionSupport, simplifyCone, mergeCones}
@@ -23,7 +24,7 @@ use Rattle.theorems.specs.Unions.{union-different}
 use Rattle.mapped.specs.Statements.{Encoded, Merges, Built, from-constant, from-node, by-gate, by-merge, by-form}
 use Rattle.mapped.specs.Cones.{Shape, constant-shape, identity-shape}
 use Rattle.mapped.specs.ConeEncoded.{encoding-taken}
-use Rattle.mapped.specs.ConeFound.{Each, found}
+use Rattle.mapped.specs.ConeFound.{found}
 use Rattle.mapped.specs.ConeGate.{mergedCone, merged-long, gateTruth-length, gateTruth-bits}
 use Rattle.mapped.specs.ConeSimplified.{simplified-shape}
 use Rattle.mapped.specs.ConeStillFits.{simplified-fits}

@@ -10,6 +10,7 @@ use lib.Dec.{T, leb, ltb}
 use lib.ListN.{length, getD, set, take, drop}
 use Rattle.laws.specs.Tabulate.{tabulate}
 use Rattle.laws.specs.Test.{if_then_else_, if-both, zero≢one}
+use Rattle.laws.specs.Lists.{Each}
 use Rattle.rules.specs.declared.Settings.{Settings}
 use Rattle.rules.specs.declared.Wire.{Wire}
 use Rattle.rules.specs.declared.Wire.the-variants.{Const, Node}
@@ -28,7 +29,7 @@ use Rattle.theorems.specs.Results.{err-not, ok-same, ok-then, good-same, good-t
 use Rattle.theorems.specs.SoundCircuits.{WireBits, SoundGate, SoundGates, read-sound, gate-sound}
 use Rattle.theorems.specs.Truths.{throughGate}
 use Rattle.mapped.specs.Statements.{Built, from-constant, from-node, by-gate, by-merge, BuiltSides, AttemptsBuilt, GateBuilt, NeverTen}
-use Rattle.mapped.specs.ConeFound.{Each, OfSome}
+use Rattle.mapped.specs.ConeFound.{OfSome}
 use Rattle.mapped.specs.ConeGate.{gateTruth-bits}
 use Rattle.mapped.specs.ConeUnary.{validated}
 use Rattle.mapped.specs.Gates.{left-bits, right-bits, wire-constant, two-have, four-answers}

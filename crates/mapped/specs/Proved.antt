@@ -15,12 +15,11 @@ use Rattle.rules.specs.Form.{Reading, Good, Refused}
 use Rattle.rules.specs.CircuitText.{readCircuit}
 use Rattle.rules.specs.Mapper.{isBasic, usedSettings, andThen, pruned, mapCircuit, answerWith, mapper}
 use Rattle.rules.specs.Network.{LutNode, Network, nodeAt, depth, nodeCentre, stats}
-use Rattle.rules.specs.NetworkText.{admissionOf, admission}
 use Rattle.rules.specs.Outcome.{Answer, Outcome, outcome, written, refused}
 use Rattle.rules.specs.Service.{answerText, mapperAnswer}
 use Rattle.rules.specs.Store.{live, renumbered}
 use Rattle.rules.specs.Writing.{networkText}
-use Rattle.theorems.specs.AdmittedSafe.{admitted-read}
+use Rattle.theorems.specs.Admissible2.{admitted-read}
 use Rattle.theorems.specs.Depths.{depth-stays}
 use Rattle.theorems.specs.EarlierNodes.{Ordered, pass-ordered}
 use Rattle.theorems.specs.SoundCircuits.{read-sound}
@@ -31,6 +30,7 @@ use Rattle.mapped.specs.PrunedCentres.{pruning-keeps-centre}
 use Rattle.mapped.specs.PrunedDepths.{pruning-keeps-depth}
 use Rattle.mapped.specs.SharedDepths.{sharing-keeps-depth}
 use Rattle.mapped.specs.Store.{netFor}
+use Rattle.mapped.specs.TextReadBack.{admits-back}
 use Rattle.mapped.specs.Cap.{attempts, mapper-same}
 use Rattle.mapped.specs.TwoSources.{refuses}
 
@@ -96,7 +96,7 @@ pub depth-kept : (nodes : List LutNode) → Ordered nodes → DepthKept nodes
 depth-kept nodes o = record { built = depth-stays nodes; shared = sharing-keeps-depth nodes o; pruned = λ outputs. pruning-keeps-depth nodes outputs o }
 
 network-depth : (text : List ℕ) (w : Network) → MapsTo text w → MappedDepth text (networkText w)
-unfolding admission admissionOf pruned stats
+unfolding pruned stats
 network-depth text w m =
     record {
       circuit = c .circuit;
@@ -112,7 +112,7 @@ network-depth text w m =
           ap (λ (v : Network). depth (v .nodes) (renumbered (live (c .done .nodes) (c .done .outputs)) i)) (sym (c .is))
           ∙ pruning-keeps-depth (c .done .nodes) (c .done .outputs) ordered i l h;
       stats = stats w;
-      admits = ap admissionOf (d .readBack);
+      admits = admits-back w (d .readBack);
       shown = refl;
     }
   where
@@ -129,7 +129,7 @@ pub mapped-depth : MapperDepth
 mapped-depth text buffer n e = let t = written-text text buffer n e in subst (MappedDepth text) (t .2) (network-depth text (t .0) (t .1))
 
 network-centre : (text : List ℕ) (w : Network) → MapsTo text w → MappedCentre text (networkText w)
-unfolding admission admissionOf pruned stats
+unfolding pruned stats
 network-centre text w m =
     record {
       circuit = c .circuit;
@@ -144,7 +144,7 @@ network-centre text w m =
           ap (λ (v : Network). nodeCentre (v .p) (nodeAt (v .nodes) (renumbered (live (c .done .nodes) (c .done .outputs)) i))) (sym (c .is))
           ∙ pruning-keeps-centre (usedSettings (c .circuit .settings) .p) (c .done .nodes) (c .done .outputs) i l h;
       stats = stats w;
-      admits = ap admissionOf (d .readBack);
+      admits = admits-back w (d .readBack);
       shown = (refl, refl, refl);
     }
   where

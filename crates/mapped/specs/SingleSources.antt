@@ -13,7 +13,7 @@ use lib.IntN.{ℤ, pos, negsuc, natAbs, _+ℤ_, _-ℤ_, _*ℤ_}
 use lib.ListN.{length, getD}
 use Rattle.laws.specs.Gcd.{gcd, gcdWithin}
 use Rattle.laws.specs.Integer.{ints, plus, minus, add-parts, plus-mul, minus-mul}
-use Rattle.laws.specs.Lists.{nil-of}
+use Rattle.laws.specs.Lists.{nil-of, Each}
 use Rattle.laws.specs.Select.{select}
 use Rattle.laws.specs.Tabulate.{tabulate}
 use Rattle.laws.specs.Test.{if_then_else_, eq-or-ne, zero≢one}
@@ -36,7 +36,6 @@ use Rattle.theorems.specs.SettingLimits.{least-p, least-t}
 use Rattle.mapped.specs.Statements.{AtLeast}
 use Rattle.mapped.specs.Cones.{Standing, standing-shape, standing-single}
 use Rattle.mapped.specs.ConeEncoded.{table-valid}
-use Rattle.mapped.specs.ConeFound.{Each}
 use Rattle.mapped.specs.ConeGate.{gateTruth-length, gateTruth-bits}
 use Rattle.mapped.specs.ConeValid.{numbers, two-rows, short-turns}
 

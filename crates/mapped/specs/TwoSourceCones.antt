@@ -22,7 +22,7 @@ use Rattle.theorems.specs.ConeTruths.{bits-of, constant-bit}
 use Rattle.theorems.specs.ConeValues.{weigh-used, one-truth}
 use Rattle.theorems.specs.FittingCones.{fits-consistent}
 use Rattle.theorems.specs.LinearTables.{total, span-table}
-use Rattle.theorems.specs.Members.{member-cons}
+use Rattle.theorems.specs.Members.{member-one}
 use Rattle.theorems.specs.Normalised.{isNonzero, nonzero}
 use Rattle.theorems.specs.Terms.{termsOver, sources-length}
 use Rattle.mapped.specs.Cones.{Standing, is-constant, is-node, is-judged}
@@ -68,15 +68,11 @@ module _ (s : Settings) (nodes : List LutNode) (short : s .m ≤ 2) where
 
 -- ---- What depends on a source.
 
-alone-in : (a n : ℕ) → member a (n ∷ []) ≡ true → a ≡ n
-unfolding member
-alone-in a n h = ⊎-elim (λ (e : a ≡ n). e) (λ (e : member a [] ≡ true). absurd (true≢false (sym e))) (member-cons a n [] h)
-
 -- Two of one source are the same.
 pub not-both : (ns : List ℕ) (a b : ℕ) → length ns ≤ 1 → member a ns ≡ true → member b ns ≡ true → a ≡ b
 unfolding member
 not-both [] a b l h k = absurd (true≢false (sym h))
-not-both (n ∷ []) a b l h k = alone-in a n h ∙ sym (alone-in b n k)
+not-both (n ∷ []) a b l h k = member-one a n h ∙ sym (member-one b n k)
 not-both (m ∷ n ∷ ns) a b l h k = absurd (omega arith)
 
 depends-as : (f g : (ℕ → ℕ) → ℕ) → ((bit : ℕ → ℕ) → ((n : ℕ) → bit n ≤ 1) → f bit ≡ g bit) → (n : ℕ) → DependsOn f n → DependsOn g n

@@ -86,7 +86,7 @@ limits-positive p m e z =
     omega arith
 
 module _ (judge : Bool) {text nodes ports : List ℕ} {h : Header} (k : Holds text nodes ports h) where
-  net-added : (p m : ℕ) (n : Limit) → refusal judge (prefixOf text nodes ports h) (some (NetLine (record { p = p; m = m; norm = n }))) ≡ 0
+  pub net-added : (p m : ℕ) (n : Limit) → refusal judge (prefixOf text nodes ports h) (some (NetLine (record { p = p; m = m; norm = n }))) ≡ 0
       → Added text nodes ports h (NetLine (record { p = p; m = m; norm = n })) (withNet h p m n) nodes ports
   unfolding withNet prefixOf withNetworkLine
   net-added p m n e =
@@ -142,12 +142,11 @@ module _ (judge : Bool) {text nodes ports : List ℕ} {h : Header} (k : Holds te
         holds = holds-node k (has-net (Linear (v .constant) (termsOf v)) e) after (Linear (v .constant) (termsOf v)) a (sum-sound judge (prefixOf text nodes ports h) (v .constant) (termsOf v) e) refl;
       }
 
-  boot-added : (i : ℕ) (table after : List ℕ) → 1 ≤ length table → Adds (centreOf (h .p) table) (Bootstrap i table) nodes (h .count) after
-      → refusal judge (prefixOf text nodes ports h) (some (NodeLine (Bootstrap i table))) ≡ 0
+  pub boot-added : (i : ℕ) (table after : List ℕ) → 1 ≤ length table → Adds (centreOf (h .p) table) (Bootstrap i table) nodes (h .count) after → (h .p ≡ 0 → ⊥)
       → Added text nodes ports h (NodeLine (Bootstrap i table)) (withNode h) after ports
   unfolding isInput Sound netOf withNode nodeCentre
   boot-added i table after t a e =
-      record { prefix = node-prefix (Bootstrap i table) after a (withNode h) refl refl refl; holds = holds-node k (has-net (Bootstrap i table) e) after (Bootstrap i table) a t refl }
+      record { prefix = node-prefix (Bootstrap i table) after a (withNode h) refl refl refl; holds = holds-node k e after (Bootstrap i table) a t refl }
 
   out-added : (at end a e : ℕ) (u : Wire) → (at ≤ end) × (end ≤ length text) → Named (length (take (end - at) (drop at text))) a e → WireBit u
       → refusal judge (prefixOf text nodes ports h) (some (OutLine (record { name = take (e - a) (drop a (take (end - at) (drop at text))); wire = u }))) ≡ 0
@@ -187,7 +186,7 @@ module _ (judge : Bool) {text nodes ports : List ℕ} {h : Header} (k : Holds te
       rw (← d, f .0, f .2) (sum-added v nodes₁ (f .1) (rw (← d) at z))
   line-added at end o (Boot j a t) v m s nodes₁ ports₁ i b z e f =
       let d = Option·some-injective _ _ e in
-      rw (← d, f .0, f .2) (boot-added j _ nodes₁ (rw (table-length i) (i .some)) (f .1) (rw (← d) at z))
+      rw (← d, f .0, f .2) (boot-added j _ nodes₁ (rw (table-length i) (i .some)) (f .1) (has-net (Bootstrap j _) (rw (← d) at z)))
   line-added at end o (Out a t u) v m s nodes₁ ports₁ i b z e f =
       let d = Option·some-injective _ _ e in
       rw (← d, f .0, f .1, f .2) (out-added at end a t u o i (rw (← d) at b) (rw (← d) at z))

@@ -1,25 +1,23 @@
 -- The number of a good line is the definition's, and what a line with no fault has.
 use mathlib.Core.Path.{_≡_, refl, sym, ap, _∙_}
-use mathlib.Core.Bool.{Bool, true, false, _&&_, _||_, not, and-false}
+use mathlib.Core.Bool.{Bool, true, false, _||_, not}
 use mathlib.Core.List.{List, [], _∷_, _++_}
 use mathlib.Core.Logic.{⊎-elim}
 use mathlib.Core.Option.{some}
-use Prim.Native.Nat.{ℕ, zero, suc, _+_, _-_, _<_, _≤_}
+use Prim.Native.Nat.{ℕ, zero, suc, _+_, _-_, _≤_}
 use native.Mathlib.Omega.{arith}
-use borrow.Author.Tests.{eq-eqb, ne-eqb, le-leb, lt-leb, leb-false}
+use borrow.Author.Tests.{eq-eqb, leb-false}
 use lib.Dec.{leb, eqb}
-use lib.IntN.{ℤ, pos, negsuc, natAbs, _+ℤ_}
+use lib.IntN.{ℤ, pos, natAbs}
 use lib.ListN.{length, getD, take, drop}
-use lib.Signed.{leZ}
-use Rattle.laws.specs.Integer.{eqZ, plus, minus, add-parts, false-leZ}
-use Rattle.laws.specs.Test.{if-both, lt-or-le, eq-or-ne, neither-left, neither-right}
+use Rattle.laws.specs.Test.{if-both, eq-or-ne, neither-left, neither-right}
 use Rattle.rules.specs.declared.Wire.{Wire}
 use Rattle.rules.specs.Circuit as C
 use Rattle.rules.specs.Form.{Condition, _when_, bitsFrom}
 use Rattle.rules.specs.Network as W
-use Rattle.rules.specs.Network.{Term, LutNode, Input, Linear, Bootstrap, leastOf, greatestOf, isInput, isLinear, nodeNorm, nodeAt}
+use Rattle.rules.specs.Network.{Term, LutNode, Input, Linear, Bootstrap, isInput, isLinear, nodeNorm, nodeAt}
 use Rattle.rules.specs.NetworkText as N
-use Rattle.rules.specs.NetworkText.{Net, NetLine, NodeLine, OutLine, NetPrefix, networkLine, allInputs, unknown, sources, anyBadSource, ending, settingsOf, fitsTable, safetyConditions}
+use Rattle.rules.specs.NetworkText.{Net, NetLine, NodeLine, OutLine, NetPrefix, networkLine, allInputs, unknown, sources, anyBadSource, ending, settingsOf, safetyConditions}
 use Rattle.text.specs.Judged.{lowest, unmet}
 use Rattle.nodes.specs.View.{FineTerms}
 use Rattle.network_text.specs.Lines.{givenAt, lineIn, lineOf, TablePlace, Within, LineRead}
@@ -28,7 +26,7 @@ use Rattle.network_text.specs.declared.line.Line.{Line}
 use Rattle.network_text.specs.declared.line.Line.the-variants.{Bad, Net as NetRead, In, Lin as Sum, Boot, Out}
 use Rattle.network_text.specs.declared.line.Read.{Read}
 use Rattle.network_text.specs.declared.sum.Lin.{Lin}
-use Rattle.network_bounds.specs.Bounds.{fitOf, nodeFit}
+use Rattle.network_bounds.specs.Bounds.{fits-is}
 use Rattle.network_judge.specs.Conditions.{inConditions, nodeConditions, linConditions, bootConditions, wireConditions, outConditions, lineConditions}
 use Rattle.network.specs.Put.{RoomFor}
 use Rattle.network_bounds.specs.Table.{table-length}
@@ -46,25 +44,6 @@ pub record Says (h : Header) (w : NetPrefix) : Type 0 where
   pub few-inputs : h .inputs ≤ 32
 
 -- ---- The number of a line.
-
--- A table of n bits fits.
-fit-table : (low high : ℤ) (n : ℕ) → 1 ≤ n → eqb (fitOf low high) n ≡ (eqZ low (pos 0) && eqZ (high +ℤ pos 1) (pos n))
-unfolding fitOf eqZ plus minus
-fit-table (pos zero) (pos a) n h =
-    ⊎-elim (λ (e : suc a ≡ n). rw (eq-eqb (suc a) n e, le-leb (a + 1) n (omega arith), le-leb n (a + 1) (omega arith)))
-    (λ (e : suc a ≡ n → ⊥).
-    rw (ne-eqb (suc a) n e)
-    (⊎-elim (λ (l : a + 1 < n). rw (le-leb (a + 1) n (omega arith), lt-leb n (a + 1) l)) (λ (l : n ≤ a + 1). rw (lt-leb (a + 1) n (omega arith))) (lt-or-le (a + 1) n)))
-    (eq-or-ne (suc a) n)
-fit-table (pos zero) (negsuc a) n h =
-    let none : leZ (pos n) (negsuc a +ℤ pos 1) ≡ false = false-leZ (pos n) (negsuc a +ℤ pos 1) (omega (arith, add-parts (negsuc a) (pos 1))) in
-    rw (ne-eqb 0 n (λ (e : 0 ≡ n). omega arith), none) (sym (and-false (leZ (negsuc a +ℤ pos 1) (pos n))))
-fit-table (pos (suc a)) high n h = rw (ne-eqb 0 n (λ (e : 0 ≡ n). omega arith), lt-leb (suc a) 0 (omega arith))
-fit-table (negsuc a) high n h = rw (ne-eqb 0 n (λ (e : 0 ≡ n). omega arith))
-
-fits-is : (n : LutNode) (M : ℕ) (table : List ℕ) (m : ℕ) → length table ≡ m → 1 ≤ m → (eqb (nodeFit n) m && leb m M) ≡ fitsTable M n table
-unfolding nodeFit fitsTable
-fits-is n M table m e h = rw (e, fit-table (leastOf n) (greatestOf n) m h)
 
 not-not : (b : Bool) → not (not b) ≡ b
 not-not true = refl

@@ -25,7 +25,7 @@ use Rattle.network_judge.specs.Conditions.{Kept, lineConditions}
 use Rattle.network.specs.Numbers.{number-is, room-for}
 use Rattle.network.specs.Put.{Ready, Follows}
 use Rattle.network.specs.Verdict.{refusal, networkFrom, network-read, network-admitted, network-end, line-refused, line-next}
-use Rattle.network.specs.View.{outputsOf, netOf, networkOf, prefixOf, Holds, Held}
+use Rattle.network.specs.View.{outputsOf, netOf, networkOf, prefixOf, Holds}
 use Rattle.network_judge.specs.declared.Header.{Header}
 use Rattle.network.specs.declared.Reading.the-variants.{Good, Refused}
 use Rattle.network.specs.declared.put.Step.{Step}
@@ -123,11 +123,11 @@ read-is false text = network-read text
 
 -- the text's end
 module _ (text nodes ports : List ℕ) (h : Header) (line : ℕ) where
-  ended-unstarted : h .p ≡ 0 → networkEnded line (prefixOf text nodes ports h) ≡ F.Refused 21 line
+  pub ended-unstarted : h .p ≡ 0 → networkEnded line (prefixOf text nodes ports h) ≡ F.Refused 21 line
   unfolding networkEnded withNet prefixOf netOf
   ended-unstarted z = rw (eq-eqb (h .p) 0 z)
 
-  ended-good : (h .p ≡ 0 → ⊥) → networkEnded line (prefixOf text nodes ports h) ≡ F.Good (networkOf text nodes ports h)
+  pub ended-good : (h .p ≡ 0 → ⊥) → networkEnded line (prefixOf text nodes ports h) ≡ F.Good (networkOf text nodes ports h)
   unfolding networkEnded withNet prefixOf netOf networkOf
   ended-good z = rw (ne-eqb (h .p) 0 z)
 
@@ -157,6 +157,3 @@ module _ {judge : Bool} {text nodes ports : List ℕ} {h : Header} {line at : �
 
     pub lines-ended : (h .p ≡ 0 → ⊥) → F.Good (networkOf text nodes ports h) ≡ (if judge then readAdmitted text else readNetwork text)
     lines-ended z = sym (read-is judge text ∙ ended ∙ ended-good text nodes ports h line z)
-
-    pub lines-held : (h .p ≡ 0 → ⊥) → Held text nodes ports (Good h)
-    lines-held z = (k .holds, k .holds .limits z)

@@ -10,7 +10,7 @@ use borrow.Author.Tests.{le-leb, lt-leb, lt-ltb, le-ltb, leb-true, leb-false, no
 use lib.Dec.{leb, ltb}
 use lib.IntN.{ℤ, natAbs}
 use lib.ListN.{length, take, drop}
-use Rattle.laws.specs.Test.{if_then_else_, lt-or-le, neither-left, neither-right}
+use Rattle.laws.specs.Test.{if_then_else_, lt-or-le, neither-left, neither-right, same-of-four}
 use Rattle.rules.specs.declared.Wire.{Wire}
 use Rattle.rules.specs.declared.Wire.the-variants.{Const, Node}
 use Rattle.rules.specs.Builder.{tableLimits}
@@ -39,7 +39,7 @@ refusal judge w (some l) = lowest (conditionsOf judge w l)
 
 -- ---- The lines in turn go by that number.
 
-numbered : (judge : Bool) (w : NetPrefix) (l : NetworkLine) → Numbered (conditionsOf judge w l)
+pub numbered : (judge : Bool) (w : NetPrefix) (l : NetworkLine) → Numbered (conditionsOf judge w l)
 unfolding conditionsOf admissionConditions textConditions safetyConditions
 numbered true w (NetLine n) = (omega arith, (omega arith, tt))
 numbered true w (NodeLine (Input n)) = (omega arith, (omega arith, (omega arith, (omega arith, tt))))
@@ -116,7 +116,7 @@ conditions-are false w l = sym (append-nil (textConditions w l))
 
 module _ (ns : List LutNode) (h : length ns ≤ 65536) where
   -- a node or not: its number is exact, or past all of them
-  exact-or-unknown : (Q : ℕ → ℕ → Type 0) (i : ℕ) → (min 65536 i ≡ i → Q i i) → (unknown ns i ≡ true → unknown ns (min 65536 i) ≡ true → Q (min 65536 i) i) → Q (min 65536 i) i
+  pub exact-or-unknown : (Q : ℕ → ℕ → Type 0) (i : ℕ) → (min 65536 i ≡ i → Q i i) → (unknown ns i ≡ true → unknown ns (min 65536 i) ≡ true → Q (min 65536 i) i) → Q (min 65536 i) i
   unfolding unknown
   exact-or-unknown Q i f g =
       ⊎-elim (λ (l : i < length ns). let e = cap-small i (omega arith) in rw e (f e))
@@ -165,12 +165,6 @@ long-table n = ⊎-elim (λ (l : 32 < n). rw (lt-ltb 32 n l, lt-leb n 32 l)) (λ
 
 -- ---- So a good line is refused as the line is that was read.
 
-all-21 : (a b d : Bool) → _≡_ {A = ℕ} (if a then 21 else if b then 21 else if d then 21 else 21) 21
-all-21 true b d = refl
-all-21 false true d = refl
-all-21 false false true = refl
-all-21 false false false = refl
-
 module _ (judge : Bool) (w : NetPrefix) (h : length (w .nodes) ≤ 65536) where
   good-net : (n : Net) (t : Bool) → goodRefusal judge w (if t then some (NetLine n) else none) ≡ lowest ((21 when not t) ∷ (21 when started w) ∷ safety judge w (NetLine n))
   unfolding goodRefusal laterConditions lowest
@@ -194,7 +188,7 @@ module _ (judge : Bool) (w : NetPrefix) (h : length (w .nodes) ≤ 65536) where
       ∷ (21 when not t) ∷ (22 when anyBadSource (w .nodes) (sources ts)) ∷ safety judge w (NodeLine (Linear c ts)))
   unfolding goodRefusal laterConditions lowest
   good-lin c ts true = rw (cap-sources (w .nodes) h ts, safe-lin c ts)
-  good-lin c ts false = sym (all-21 (not (started w)) (ending w) (leb 672 (length (w .nodes))))
+  good-lin c ts false = sym (same-of-four (not (started w)) (ending w) (leb 672 (length (w .nodes))) 21)
 
   good-boot : (i : ℕ) (table : List ℕ) (t : Bool)
       → goodRefusal judge w (if t then some (NodeLine (Bootstrap (min 65536 i) table)) else none)
@@ -218,7 +212,7 @@ module _ (judge : Bool) (w : NetPrefix) (h : length (w .nodes) ≤ 65536) where
       ∷ (21 when leb 672 (length (w .nodes)))
       ∷ (22 when unknown (w .nodes) y) ∷ safety judge w (NodeLine (Bootstrap y table))))
       i (λ e. refl) (λ e f. rw (e, f))
-  good-boot i table false = sym (all-21 (not (started w)) (ending w) (leb 672 (length (w .nodes))))
+  good-boot i table false = sym (same-of-four (not (started w)) (ending w) (leb 672 (length (w .nodes))) 21)
 
   good-out : (n : Name) (u : Wire)
       → goodRefusal judge w (some (OutLine (record { name = n; wire = capWire u })))

@@ -76,3 +76,6 @@ pub record Holds (text nodes ports : List ℕ) (h : Header) : Type 0 where
 abbrev pub Held : List ℕ → List ℕ → List ℕ → Reading → Type 0
 Held text nodes ports (Good h) = Holds text nodes ports h × (tableLimits (h .p) (h .m) ≡ true)
 Held text nodes ports (Refused k i) = (length nodes ≡ 27552) × (length ports ≡ 160)
+
+pub held : {text nodes ports : List ℕ} {h : Header} → Holds text nodes ports h → (h .p ≡ 0 → ⊥) → Held text nodes ports (Good h)
+held k z = (k, k .limits z)

@@ -1,6 +1,6 @@
 // A network's text read once: judged line by line (21 and 22, or 21 to 26), its nodes put into the node store, its outputs among the ports.
 // It leans on `network_judge`, one line's reader (`network_text`) and the store (`lut`).
-mod put;
+pub mod put;
 
 use network_judge::Header;
 ghost use mathlib.Core.Path.{_≡_};

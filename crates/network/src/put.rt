@@ -22,7 +22,7 @@ use network_text::Read;
 use rules::Wire;
 
 // One node more.
-fn with_node(h: Header) -> Header
+pub fn with_node(h: Header) -> Header
     requires { ⌜ h .count < 672 ⌝ }
     ensures { λ r. ⌜ r ≡ withNode h ⌝ }
 {
@@ -75,7 +75,7 @@ fn put_sum(nodes: &mut [u8; 27552], count: usize, lin: Lin)
 }
 
 // With the period p of the text.
-fn put_boot(
+pub fn put_boot(
     nodes: &mut [u8; 27552],
     p: usize,
     count: usize,

@@ -1,22 +1,23 @@
 -- Bounds and norm of a sum, as the code reckons them.
 use mathlib.Core.Path.{_≡_, refl, sym, ap, ap₂, _∙_}
-use mathlib.Core.Bool.{Bool, true, false, _||_, true≢false}
+use mathlib.Core.Bool.{Bool, true, false, _&&_, _||_, and-false, true≢false}
 use mathlib.Core.List.{List, [], _∷_}
+use mathlib.Core.Logic.{⊎-elim}
 use Prim.Native.Nat.{ℕ, zero, suc, _+_, _*_, _<_, _≤_}
 use native.Mathlib.Numerals.{add-one}
 use native.Mathlib.Omega.{arith}
-use borrow.Author.Tests.{leb-false}
-use lib.Dec.{T, eqb}
+use borrow.Author.Tests.{eq-eqb, ne-eqb, le-leb, lt-leb, leb-false}
+use lib.Dec.{T, leb, eqb}
 use lib.IntN.{ℤ, pos, negsuc, natAbs, _+ℤ_}
 use lib.ListN.{length, getD, drop, drop-of-length-le}
 use lib.Seq.{drop-cons}
 use lib.Signed.{leZ, ltZ, nonNeg}
 use mir.Syntax.{w64}
 use mir.Val.{SFits, ofZ}
-use Rattle.laws.specs.Integer.{plus, minus, ltZ-true, ltZ-false, true-leZ, false-leZ, abs-bits, abs-add}
-use Rattle.laws.specs.Test.{neither-left, neither-right}
+use Rattle.laws.specs.Integer.{eqZ, plus, minus, add-parts, ltZ-true, ltZ-false, true-leZ, false-leZ, abs-bits, abs-add}
+use Rattle.laws.specs.Test.{lt-or-le, eq-or-ne, neither-left, neither-right}
 use Rattle.rules.specs.Network.{Term, LutNode, Input, Linear, Bootstrap, below0, above0, leastSum, greatestSum, leastOf, greatestOf, isLinear, weightOf, nodeAt, norm}
-use Rattle.rules.specs.NetworkText.{isBit, sources, unknown, anyBadSource}
+use Rattle.rules.specs.NetworkText.{fitsTable, isBit, sources, unknown, anyBadSource}
 use Rattle.rules.specs.Store.{needs, termsOf}
 use Rattle.nodes.specs.Nodes.{kindOf, constantOf, few-terms, as-many, constant-small, coefficient-small}
 use Rattle.nodes.specs.View.{term, nodeOf, storeOf, at-store, store-length, Fine, IsNode, IsStore, is-node}
@@ -257,3 +258,24 @@ module _ (n : LutNode) where
       pub bit-high : ltZ low (pos 0) ≡ false → leZ high (pos 1) ≡ isBit n
       unfolding extremeOf isBit plus minus
       bit-high h = rw (← e, ← f, true-leZ (pos 0) low (omega (arith, ltZ-false low (pos 0) h)))
+
+-- ---- The fit is the definition's.
+
+-- A table of n bits fits.
+fit-table : (low high : ℤ) (n : ℕ) → 1 ≤ n → eqb (fitOf low high) n ≡ (eqZ low (pos 0) && eqZ (high +ℤ pos 1) (pos n))
+unfolding fitOf eqZ plus minus
+fit-table (pos zero) (pos a) n h =
+    ⊎-elim (λ (e : suc a ≡ n). rw (eq-eqb (suc a) n e, le-leb (a + 1) n (omega arith), le-leb n (a + 1) (omega arith)))
+    (λ (e : suc a ≡ n → ⊥).
+    rw (ne-eqb (suc a) n e)
+    (⊎-elim (λ (l : a + 1 < n). rw (le-leb (a + 1) n (omega arith), lt-leb n (a + 1) l)) (λ (l : n ≤ a + 1). rw (lt-leb (a + 1) n (omega arith))) (lt-or-le (a + 1) n)))
+    (eq-or-ne (suc a) n)
+fit-table (pos zero) (negsuc a) n h =
+    let none : leZ (pos n) (negsuc a +ℤ pos 1) ≡ false = false-leZ (pos n) (negsuc a +ℤ pos 1) (omega (arith, add-parts (negsuc a) (pos 1))) in
+    rw (ne-eqb 0 n (λ (e : 0 ≡ n). omega arith), none) (sym (and-false (leZ (negsuc a +ℤ pos 1) (pos n))))
+fit-table (pos (suc a)) high n h = rw (ne-eqb 0 n (λ (e : 0 ≡ n). omega arith), lt-leb (suc a) 0 (omega arith))
+fit-table (negsuc a) high n h = rw (ne-eqb 0 n (λ (e : 0 ≡ n). omega arith))
+
+pub fits-is : (n : LutNode) (M : ℕ) (table : List ℕ) (m : ℕ) → length table ≡ m → 1 ≤ m → (eqb (nodeFit n) m && leb m M) ≡ fitsTable M n table
+unfolding nodeFit fitsTable
+fits-is n M table m e h = rw (e, fit-table (leastOf n) (greatestOf n) m h)

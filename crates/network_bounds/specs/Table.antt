@@ -12,7 +12,7 @@ use Rattle.laws.specs.Front.{front}
 use Rattle.laws.specs.Over.{over, over-length, take-over, front-over}
 use Rattle.laws.specs.Test.{if_then_else_, eq-or-ne}
 use Rattle.rules.specs.Form.{bitsFrom}
-use Rattle.text.specs.Name.{bits-length}
+use Rattle.theorems.specs.Pieces.{from-length}
 use Rattle.network_text.specs.Lines.{TablePlace}
 use Rattle.theorems.specs.Bits.{bit-at}
 
@@ -39,7 +39,7 @@ bits-open l a e = refl
 
 module _ {l : List ℕ} {a e : ℕ} (p : TablePlace l a e) where
   pub table-length : length (bitsFrom (take (e - a) (drop a l))) ≡ e - a
-  table-length = bits-length (take (e - a) (drop a l)) ∙ let h = p .inside in simp (length-take, length-drop) (omega arith)
+  table-length = from-length (take (e - a) (drop a l)) ∙ let h = p .inside in simp (length-take, length-drop) (omega arith)
 
   pub place-length : length (bitsOf l a e) ≡ e - a
   unfolding bitsOf

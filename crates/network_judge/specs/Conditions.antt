@@ -82,7 +82,7 @@ all-inputs {nodes} {h} k e =
 
 -- ---- The numbers, test by test.
 
-lowest-met : (ks ms : List Condition) {n : ℕ} → n ≡ lowest ks → (n ≡ 0 → ⊥) → n ≡ lowest (ks ++ ms)
+pub lowest-met : (ks ms : List Condition) {n : ℕ} → n ≡ lowest ks → (n ≡ 0 → ⊥) → n ≡ lowest (ks ++ ms)
 unfolding lowest
 lowest-met [] ms e h = absurd (h e)
 lowest-met (k ∷ ks) ms {n} e h = by (k .met) e (λ d. lowest-met ks ms d h)
@@ -91,7 +91,7 @@ lowest-met (k ∷ ks) ms {n} e h = by (k .met) e (λ d. lowest-met ks ms d h)
     by true d f = d
     by false d f = f d
 
-lowest-free : (ks ms : List Condition) → Numbered ks → lowest ks ≡ 0 → lowest (ks ++ ms) ≡ lowest ms
+pub lowest-free : (ks ms : List Condition) → Numbered ks → lowest ks ≡ 0 → lowest (ks ++ ms) ≡ lowest ms
 unfolding lowest
 lowest-free [] ms p e = refl
 lowest-free (k ∷ ks) ms p e = by (k .met) e (lowest-free ks ms (p .1))

@@ -22,7 +22,7 @@ use Rattle.text.specs.Capped.{capped, exact-some}
 use Rattle.text.specs.Name.{Named}
 use Rattle.theorems.specs.Weights.{GoodWeight}
 use Rattle.forms.specs.Forms.{capOutput}
-use Rattle.text.specs.Name.{bits-length}
+use Rattle.theorems.specs.Pieces.{from-length}
 use Rattle.network_text.specs.LineRead.{capNet, capBoot, BitsAt, plainRead, ended, line-net, line-in, line-lin, line-boot, line-out, line-none}
 use Rattle.network_text.specs.Lines.{goodForm, goodLine, givenAt, lineIn, lineOf, LineRead}
 use Rattle.network_text.specs.Sum.{SumRead, sumOf}
@@ -94,7 +94,7 @@ open-is {l} v {end} e h k q = bad-line l q (no-line l e (open-line l v end h k))
 -- ---- `net`
 
 -- Within the limits P and M are read as they are.
-same-net : (w : Net) → tableLimits (w .p) (w .m) ≡ true → w ≡ capNet w
+pub same-net : (w : Net) → tableLimits (w .p) (w .m) ≡ true → w ≡ capNet w
 unfolding tableLimits capNet
 same-net w t =
     let c = is-T _ t in
@@ -189,7 +189,7 @@ module _ {l : List ℕ} {i a e end : ℕ} (h : BootIs l i a e end) where
 
   -- the node that is meant, with the same bits
   meant : goodForm (NodeLine (boot .0)) ≡ (if leb (e - a) 32 then some (NodeLine (Bootstrap i (bitsFrom (take (e - a) (drop a l))))) else none)
-  meant = let x = boot in let p = h .place in good-boot (x .0) i (bitsFrom (take (e - a) (drop a l))) (e - a) (x .2) (bits-length (take (e - a) (drop a l)) ∙ simp (length-take, length-drop) (omega (arith, p .inside)))
+  meant = let x = boot in let p = h .place in good-boot (x .0) i (bitsFrom (take (e - a) (drop a l))) (e - a) (x .2) (from-length (take (e - a) (drop a l)) ∙ simp (length-take, length-drop) (omega (arith, p .inside)))
 
   known : end ≡ length l → goodLine (networkLine l) ≡ (if leb (e - a) 32 then some (NodeLine (Bootstrap i (bitsFrom (take (e - a) (drop a l))))) else none)
   unfolding goodLine

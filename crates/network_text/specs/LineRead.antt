@@ -19,7 +19,7 @@ use Rattle.rules.specs.NetworkText.{Net, NetworkLine, NetLine, NodeLine, OutLin
 use Rattle.rules.specs.Runs.{allBits}
 use Rattle.text.specs.Capped.{capped, capped-none}
 use Rattle.text.specs.Chain.{step, stop, first, second}
-use Rattle.text.specs.Name.{bits-length}
+use Rattle.theorems.specs.Pieces.{from-length}
 use Rattle.text.specs.Reads.{Reads}
 use Rattle.network_text.specs.Term.{spacedTerm}
 use Rattle.network_text.specs.Sum.{linRest, sumLine}
@@ -107,7 +107,7 @@ bits-at l a e h = by (run isBitByte (drop a l)) (leb 1 (length (run isBitByte (d
         → onward (if t then give w (drop (length w) (drop a l)) else none) (λ u. give (bitsFrom u)) ≡ some (record { value = v; rest = drop e l }) → BitsAt l a e
     by w true g d q =
         let f : bitsFrom w ≡ v = ap (λ (p : Piece (List ℕ)). p .value) (Option·some-injective _ _ q) in
-        let n : length w ≡ length (take (e - a) (drop a l)) = sym (bits-length w) ∙ ap length f ∙ bits-length (take (e - a) (drop a l)) in
+        let n : length w ≡ length (take (e - a) (drop a l)) = sym (from-length w) ∙ ap length f ∙ from-length (take (e - a) (drop a l)) in
         let m = leb-true 1 (length w) g in
         record { later = omega (arith, length-take (e - a) (drop a l)); inside = h; bits = subst (λ (x : List ℕ). T (allBits x)) f d }
     by w false g d q = absurd (Option·none-ne-some _ q)
@@ -131,7 +131,7 @@ clash [] v = false
 clash (b ∷ w) [] = false
 clash (b ∷ w) (c ∷ v) = if eqb b c then clash w v else true
 
-clashes : (w v s : List ℕ) {p : Piece (Unit {0})} → clash w v ≡ true → exactly w s ≡ some p → exactly v s ≡ none
+pub clashes : (w v s : List ℕ) {p : Piece (Unit {0})} → clash w v ≡ true → exactly w s ≡ some p → exactly v s ≡ none
 unfolding clash exactly
 clashes [] v s k e = absurd (true≢false (sym k))
 clashes (b ∷ w) [] s k e = absurd (true≢false (sym k))

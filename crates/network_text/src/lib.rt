@@ -6,3 +6,4 @@ pub use line::Line;
 pub use line::Read;
 pub use line::read_line;
 pub use sum::Lin;
+pub use sum::is_closed;

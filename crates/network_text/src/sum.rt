@@ -198,7 +198,7 @@ fn read_terms(l: &[u8], at: usize, constant: i64) -> Gathered
 }
 
 // The bracket and the newline that end the line.
-fn is_closed(l: &[u8], at: usize) -> bool
+pub fn is_closed(l: &[u8], at: usize) -> bool
     requires { ⌜ at ≤ length (now l) ⌝ }
     ensures { λ r. ⌜ r ≡ closed (drop at (now (l .entry))) ⌝ }
 {

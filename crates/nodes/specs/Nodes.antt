@@ -37,6 +37,14 @@ bytesIn (Input g) = g .name
 bytesIn (Linear c ts) = []
 bytesIn (Bootstrap i table) = table
 
+-- ---- laws: a bootstrap has a source
+
+pub some-need : (n : LutNode) {kind : ℕ} → kind ≡ kindOf n → kind ≡ 2 → 0 < length (needs n)
+unfolding kindOf needs
+some-need (Input g) e h = absurd (omega arith)
+some-need (Linear c ts) e h = absurd (omega arith)
+some-need (Bootstrap i t) e h = omega arith
+
 -- ---- laws: bytes of a record
 
 packed-drop : (ts : List Term) (rest : List ℕ) (k : ℕ) → k ≤ length ts → drop (3 * k) (packed ts ++ rest) ≡ packed (drop k ts) ++ rest

@@ -13,3 +13,4 @@ pub mod Buffers
 pub mod Sessions
 pub mod NineCases
 pub mod Depths
+pub mod Editions

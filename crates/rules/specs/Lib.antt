@@ -9,6 +9,8 @@ pub mod CircuitText
 pub mod Scale
 pub mod Network
 pub mod NetworkText
+pub mod Edition2
+pub mod Admission
 pub mod Writing
 pub mod Runs
 pub mod Cone
@@ -18,4 +20,6 @@ pub mod Mapper
 pub mod Service
 pub mod SumReading
 pub mod Phase
+pub mod Regroup
+pub mod Converter
 pub mod Computed

@@ -1,4 +1,4 @@
--- The network's text: its forms, how it is written, what is wrong with a line, admission (document 01, "The text forms", "Refused with").
+-- The network's text: its forms, how it is written, what is wrong with a line (document 01, "The text forms", "Refused with").
 use mathlib.Core.Bool.{Bool, true, false, _&&_, _||_, not}
 use mathlib.Core.List.{List, [], _∷_, _++_}
 use mathlib.Core.Option.{Option, none, some}
@@ -9,18 +9,15 @@ use lib.ListN.{length}
 use lib.Signed.{leZ}
 use Rattle.laws.specs.Integer.{eqZ}
 use Rattle.laws.specs.Test.{isSome}
-use Rattle.rules.specs.declared.AdmitReply.{AdmitReply}
-use Rattle.rules.specs.declared.AdmitReply.the-variants as Reply
 use Rattle.rules.specs.declared.Limit.{Limit}
 use Rattle.rules.specs.declared.Limit.the-variants.{Unlimited, AtMost}
-use Rattle.rules.specs.declared.Stats.{Stats}
 use Rattle.rules.specs.declared.Wire.{Wire}
 use Rattle.rules.specs.declared.Wire.the-variants.{Const, Node}
 use Rattle.rules.specs.Builder.{tableLimits}
 use Rattle.rules.specs.Circuit.{Name, Output}
 use Rattle.rules.specs.CircuitText.{listed, noNode}
 use Rattle.rules.specs.Form.{Reader, give, _>>=_, _>>_, _or_, whole, many, word, number, signed, bits, norm, inLine, outLine, lines, Condition, _when_, Reading, Good, Refused, readLines}
-use Rattle.rules.specs.Network.{Term, LutNode, Input, Linear, Bootstrap, Network, nodeAt, leastOf, greatestOf, nodeNorm, isInput, isLinear, count, member, stats}
+use Rattle.rules.specs.Network.{Term, LutNode, Input, Linear, Bootstrap, Network, nodeAt, leastOf, greatestOf, nodeNorm, isInput, isLinear, count, member}
 use Rattle.rules.specs.Rotation.{rotatable}
 
 -- ---- The forms.
@@ -225,27 +222,3 @@ readNetwork text = readLines networkLine 21 textConditions withNetworkLine netwo
 -- What admission reads: 21 to 26 are judged.
 unfoldable pub readAdmitted : List ℕ → Reading Network
 readAdmitted text = readLines networkLine 21 admissionConditions withNetworkLine networkEnded 1 noNetwork (lines text)
-
--- What admission answers. Accepted: number 0 and the statistics. Refused: a number and a line.
-pub record Admission : Type 0 where
-  pub number : ℕ
-  pub line : ℕ
-  pub stats : Option Stats
-
-abbrev pub admitted : Stats → Admission
-admitted s = record { number = 0; line = 0; stats = some s }
-
-abbrev pub rejected : ℕ → ℕ → Admission
-rejected k i = record { number = k; line = i; stats = none }
-
-unfoldable pub admissionOf : Reading Network → Admission
-admissionOf (Good w) = admitted (stats w)
-admissionOf (Refused k i) = rejected k i
-
-unfoldable pub admission : List ℕ → Admission
-admission text = admissionOf (readAdmitted text)
-
--- Document 01's number and values for each reply.
-abbrev pub admitReply : AdmitReply → Admission
-admitReply (Reply.Admitted s) = admitted s
-admitReply (Reply.Refused k i) = rejected k i

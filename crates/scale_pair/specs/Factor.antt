@@ -10,7 +10,7 @@ use lib.IntN.{ℤ, pos, negsuc, negℤ, natAbs, _*ℤ_, zero-*ℤ}
 use lib.ListN.{getD}
 use Rattle.laws.specs.Gcd.{gcd, gcd-is, gcd-zero}
 use Rattle.laws.specs.Integer.{eq-of, plus-mul, minus-mul, abs-mul}
-use Rattle.laws.specs.Test.{if_then_else_, eq-or-ne}
+use Rattle.laws.specs.Test.{if_then_else_, eq-or-ne, positive-of}
 use Rattle.rules.specs.Scale.{gcdFrom, startsNegative, divisor, quotients, normalised}
 use Rattle.theorems.specs.Normalised.{divides-all}
 use Rattle.scale.specs.Divisor.{divisor-not-zero}
@@ -120,10 +120,6 @@ abs-positive d k h g = rw (abs-mul d k) (product (natAbs d) (natAbs k) h g)
     product zero n h g = absurd (omega arith)
     product (suc m) zero h g = absurd (omega arith)
     product (suc m) (suc n) h g = omega arith
-
-pub positive-of : (n : ℕ) → (n ≡ 0 → ⊥) → 0 < n
-positive-of zero f = absurd (f refl)
-positive-of (suc n) f = omega arith
 
 pub normalised-same : (k : ℤ) (cs : List ℤ) → 0 < natAbs k → normalised (times k cs) ≡ normalised cs
 normalised-same k cs h =

@@ -15,7 +15,7 @@ use lib.Seq.{drop-cons}
 use lib.Signed.{ltZ}
 use Rattle.laws.specs.Gcd.{gcd, gcdWithin}
 use Rattle.laws.specs.Integer.{ints, plus, minus, sub-parts, abs-parts, one-part-zero, false-ltZ}
-use Rattle.laws.specs.Test.{if_then_else_, eq-or-ne, decide, both-left, both-right}
+use Rattle.laws.specs.Test.{if_then_else_, eq-or-ne, decide, both-left, both-right, positive-of}
 use Rattle.rules.specs.declared.Settings.{Settings}
 use Rattle.rules.specs.Cone.{Cone, Candidate, linearTable, values, fits, less, better, bestFrom, best, terms}
 use Rattle.rules.specs.Composition.{Scales, scales, allEqual, scalePairs, mergedCoefficients, score, evaluate}
@@ -34,7 +34,7 @@ use Rattle.search.specs.Pairs.{tried, triedAt, pairs-walked}
 use Rattle.scale_pair.specs.Score.{less-same, less-differ-number}
 use Rattle.search.specs.Search.{coneBy}
 use Rattle.search.specs.Walk.{walkRow, walk}
-use Rattle.scale_pair.specs.Factor.{positive-of, normalised-same}
+use Rattle.scale_pair.specs.Factor.{normalised-same}
 
 -- Whether two rows of coefficients are the same.
 unfoldable pub sameRow : List ℤ → List ℤ → Bool

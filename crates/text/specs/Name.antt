@@ -1,9 +1,9 @@
 -- A name and bits, from the run that they are.
-use mathlib.Core.Path.{_≡_, refl, ap, subst}
+use mathlib.Core.Path.{_≡_, refl, subst}
 use mathlib.Core.Bool.{Bool, true, false}
-use mathlib.Core.List.{List, [], _∷_}
+use mathlib.Core.List.{List}
 use mathlib.Core.Option.{none, some, Option·some-injective}
-use Prim.Native.Nat.{ℕ, suc, _+_, _-_, _<_, _≤_}
+use Prim.Native.Nat.{ℕ, _+_, _-_, _<_, _≤_}
 use native.Mathlib.Omega.{arith}
 use borrow.Author.Tests.{le-leb, lt-leb}
 use lib.Dec.{T, leb, leb→le}
@@ -34,11 +34,6 @@ module _ {s : List ℕ} {a e : ℕ} (r : RunEnd isBitByte s a e) where
   pub bits-good : (e ≡ a → ⊥) → bits (drop a s) ≡ give (bitsFrom (take (e - a) (drop a s))) (drop e s)
   unfolding bits isBits
   bits-good n = let l = r .later in step _ (run-good r isBits (rw (run-length r, le-leb 1 (e - a) (omega arith)))) refl
-
-pub bits-length : (w : List ℕ) → length (bitsFrom w) ≡ length w
-unfolding bitsFrom
-bits-length [] = refl
-bits-length (b ∷ w) = ap suc (bits-length w)
 
 -- A name that was read has 1 to 16 bytes.
 pub name-bounds : (l w x : List ℕ) → name l ≡ some (record { value = w; rest = x }) → (1 ≤ length w) × (length w ≤ 16)

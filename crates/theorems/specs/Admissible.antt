@@ -26,9 +26,16 @@ use Rattle.theorems.specs.GoodTexts.{kept}
 use Rattle.theorems.specs.LineBits.{WireBit, NodeBits, LineBits, line-bits}
 use Rattle.theorems.specs.Results.{good-same}
 
+-- What a `net` line, nodes and outputs say, so far and at the text's end.
+abbrev pub soFar : Net → List LutNode → List Output → NetPrefix
+soFar n ns os = record { net = some n; nodes = ns; outputs = os }
+
+abbrev pub network : Net → List LutNode → List Output → Network
+network n ns os = record { p = n .p; m = n .m; norm = n .norm; nodes = ns; outputs = os }
+
 -- A line after a `net` line, nodes and outputs: it meets none of 21 to 26, and its bits are bits.
 unfoldable pub Passes : Net → List LutNode → List Output → NetworkLine → Type 0
-Passes n ns os l = NoneMet (admissionConditions (record { net = some n; nodes = ns; outputs = os }) l) × LineBits l
+Passes n ns os l = NoneMet (admissionConditions (soFar n ns os) l) × LineBits l
 
 -- Each of these nodes passes after those before it.
 unfoldable pub NodesPass : Net → List LutNode → List LutNode → Type 0
@@ -63,19 +70,19 @@ outputs-snoc n ns before [] o p q = (rw append-nil at q, tt)
 outputs-snoc n ns before (y ∷ os) o p q = (p .0, outputs-snoc n ns (before ++ (y ∷ [])) os o (p .1) (rw append-assoc q))
 
 -- what the lines so far say: nothing before the `net` line
-Passed : Option Net → List LutNode → List Output → Type 0
+unfoldable pub Passed : Option Net → List LutNode → List Output → Type 0
 Passed none ns os = (ns ≡ []) × (os ≡ [])
 Passed (some n) ns os = (tableLimits (n .p) (n .m) ≡ true) × NodesPass n [] ns × OutputsPass n ns [] os
 
-PassedSoFar : NetPrefix → Type 0
+unfoldable pub PassedSoFar : NetPrefix → Type 0
 PassedSoFar w = Passed (w .net) (w .nodes) (w .outputs)
 
-nil : {A : Type 0} (l : List A) → length l < 1 → l ≡ []
+pub nil : {A : Type 0} (l : List A) → length l < 1 → l ≡ []
 nil [] h = refl
 nil (x ∷ l) h = absurd (omega arith)
 
 -- a node line comes before the outputs
-no-outputs : (w : NetPrefix) (x : LutNode) → NoneMet (admissionConditions w (NodeLine x)) → w .outputs ≡ []
+pub no-outputs : (w : NetPrefix) (x : LutNode) → NoneMet (admissionConditions w (NodeLine x)) → w .outputs ≡ []
 unfolding NoneMet admissionConditions textConditions ending
 no-outputs w (Input a) m = nil (w .outputs) (leb-false 1 (length (w .outputs)) (neither-left _ _ (m .1 .0)))
 no-outputs w (Linear c ts) m = nil (w .outputs) (leb-false 1 (length (w .outputs)) (m .1 .0))
@@ -88,7 +95,7 @@ with-node n ns os x m b s =
     let e = no-outputs (record { net = some n; nodes = ns; outputs = os }) x m in
     (s .0, nodes-snoc n [] ns x (s .1) (rw e at m, b), rw e tt)
 
-with-line : (o : Option Net) (ns : List LutNode) (os : List Output) (i : ℕ) (l : NetworkLine) → NoneMet (admissionConditions (record { net = o; nodes = ns; outputs = os }) l)
+pub with-line : (o : Option Net) (ns : List LutNode) (os : List Output) (i : ℕ) (l : NetworkLine) → NoneMet (admissionConditions (record { net = o; nodes = ns; outputs = os }) l)
     → LineBits l → Passed o ns os → PassedSoFar (withNetworkLine i (record { net = o; nodes = ns; outputs = os }) l)
 unfolding PassedSoFar Passed withNetworkLine NoneMet admissionConditions textConditions started NodesPass OutputsPass Passes
 with-line none ns os i (NetLine n) m b s = (not-false _ (m .0), rw (s .0) tt, rw (s .1) tt)
@@ -102,7 +109,7 @@ with-line (some n) ns os i (OutLine o) m b s = (s .0, s .1, outputs-snoc n ns []
 
 -- ---- At the text's end.
 
-at-end : (o : Option Net) (i : ℕ) (ns : List LutNode) (os : List Output) (w : Network) → Passed o ns os
+pub at-end : (o : Option Net) (i : ℕ) (ns : List LutNode) (os : List Output) (w : Network) → Passed o ns os
     → withNet i (record { net = o; nodes = ns; outputs = os }) o ≡ Good w → Admissible w
 unfolding Passed withNet netOf
 at-end none i ns os w s e = absurd (zero≢one (cc))

@@ -7,7 +7,7 @@ use Rattle.rules.specs.Circuit.{Output}
 use Rattle.rules.specs.Form.{Reading, Good, onLine, readLines}
 use Rattle.rules.specs.Network.{LutNode, Network}
 use Rattle.rules.specs.NetworkText.{Net, NetworkLine, NetLine, NodeLine, OutLine, NetPrefix, started, networkLine, textConditions, safetyConditions, admissionConditions, withNetworkLine, withNet, networkEnded, noNetwork}
-use Rattle.theorems.specs.Admissible.{Passes, NodesPass, OutputsPass, netOf, Admissible}
+use Rattle.theorems.specs.Admissible.{Passes, NodesPass, OutputsPass, netOf, Admissible, soFar, network}
 use Rattle.theorems.specs.Readings.{NoneMet, judged-none}
 
 -- The forms of a network's lines.
@@ -25,12 +25,6 @@ AreForms (s ∷ ls) (f ∷ fs) = (networkLine s ≡ some f) × AreForms ls fs
 
 reading : ℕ → NetPrefix → List (List ℕ) → Reading Network
 reading = readLines networkLine 21 admissionConditions withNetworkLine networkEnded
-
-abbrev soFar : Net → List LutNode → List Output → NetPrefix
-soFar n ns os = record { net = some n; nodes = ns; outputs = os }
-
-abbrev network : Net → List LutNode → List Output → Network
-network n ns os = record { p = n .p; m = n .m; norm = n .norm; nodes = ns; outputs = os }
 
 passed : (i : ℕ) (w : NetPrefix) (s : List ℕ) (l : NetworkLine) (ls : List (List ℕ)) → networkLine s ≡ some l → NoneMet (admissionConditions w l)
     → reading i w (s ∷ ls) ≡ reading (i + 1) (withNetworkLine i w l) ls

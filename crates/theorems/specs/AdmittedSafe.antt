@@ -20,22 +20,24 @@ use Rattle.rules.specs.declared.Limit.the-variants.{Unlimited, AtMost}
 use Rattle.rules.specs.declared.Stats.{Stats}
 use Rattle.rules.specs.declared.Wire.{Wire}
 use Rattle.rules.specs.declared.Wire.the-variants.{Const, Node}
+use Rattle.rules.specs.Admission.{admitted, admission}
 use Rattle.rules.specs.Circuit.{Output}
 use Rattle.rules.specs.CircuitText.{noNode}
-use Rattle.rules.specs.Form.{Good, lines}
+use Rattle.rules.specs.Edition2.{isEdition2, readEither, readRun}
+use Rattle.rules.specs.Form.{Reading, Good}
 use Rattle.rules.specs.Network.{Term, LutNode, Input, Linear, Bootstrap, Network, isInput, count, stats, leastOf, greatestOf, norm, nodeNorm, nodeValue, withValue, nodeValues, wireValue, outputValues, networkRun, sumFrom, nodeAt}
-use Rattle.rules.specs.NetworkText.{Net, NodeLine, sources, isBit, noBit, over as overLimit, textConditions, networkEnded, noNetwork, readNetwork, readAdmitted, admitted, admission}
+use Rattle.rules.specs.NetworkText.{Net, NodeLine, sources, isBit, noBit, over as overLimit, readNetwork}
 use Rattle.rules.specs.Outcome.{written}
 use Rattle.rules.specs.Rotation.{Rotatable, rotated}
 use Rattle.rules.specs.Runs.{Numbered, ran, allBits, bitsFor, withValues, runOn, runNetworkOn, runNetwork}
-use Rattle.theorems.specs.AdmissionExact.{admissions, admission-text, statistics-recounted}
-use Rattle.theorems.specs.Admissible.{Passes, NodesPass, OutputsPass, netOf, Admissible, lin-passes, BootPasses, boot-passes, OutPasses, out-passes, admitted-admissible}
+use Rattle.theorems.specs.AdmissionExact.{statistics-recounted}
+use Rattle.theorems.specs.Admissible.{Passes, NodesPass, OutputsPass, netOf, Admissible, lin-passes, BootPasses, boot-passes, OutPasses, out-passes}
+use Rattle.theorems.specs.Admissible2.{either-admissible, either-read}
 use Rattle.theorems.specs.Bounds.{ZeroOrOne, Bounded, bit-between, sum-bounded, bounded-snoc}
 use Rattle.theorems.specs.LineBits.{WireBit}
 use Rattle.theorems.specs.NodesAt.{node-next, node-none}
 use Rattle.theorems.specs.SumLine.{line-of}
 use Rattle.theorems.specs.Weights.{same-norm, longer-weights, sources-within}
-use Rattle.theorems.specs.GoodTexts.{fewer}
 use Rattle.theorems.specs.RotationRule.{rotation-rule}
 use Rattle.theorems.specs.Bits.{bit-at}
 
@@ -62,16 +64,17 @@ pub record Safe (w : Network) (bits : List ℕ) : Type 0 where
   pub norms : (k limit : ℕ) (c : ℤ) (ts : List Term) → nodeAt (w .nodes) k ≡ Linear c ts → w .norm ≡ AtMost limit
       → nodeNorm (w .nodes) (Linear c ts) ≤ limit
 
--- A text that is admitted, s its statistics: a run reads the network that admission has read, it is s recounted, it is safe on every
--- assignment of its input bits, and the run's entry answers its outputs.
+-- A text of either edition that is admitted, s its statistics: a run reads the network that admission has read, it is s recounted, it is safe on
+-- every assignment of its input bits, and a run answers its outputs. So does the run's entry, which reads plain texts only.
 pub record AdmittedSafe (text : List ℕ) (s : Stats) : Type 0 where
   pub network : Network
-  pub read : readNetwork text ≡ Good network
+  pub read : readRun text ≡ Good network
   pub recounted : s ≡ stats network
   pub safe : (bits : List ℕ) → T (bitsFor (count isInput (network .nodes)) bits) → Safe network bits
   pub runs : (bits : List ℕ) (buffer : List ℤ) (b : T (bitsFor (count isInput (network .nodes)) bits)) → length (network .outputs) ≤ length buffer
-      → runNetwork text bits buffer
+      → runNetworkOn (readRun text) bits buffer
       ≡ ran (Numbered (written (length (network .outputs)))) (over (outputValues (network .outputs) (safe bits b .values)) buffer)
+  pub entry : isEdition2 text ≡ false → (bits : List ℕ) (buffer : List ℤ) → runNetwork text bits buffer ≡ runNetworkOn (readRun text) bits buffer
 
 -- ---- A `boot`.
 
@@ -278,38 +281,38 @@ safe-on w bits a good =
       norms = norms-within (netOf w) (w .nodes) (a .nodes);
     }
 
--- an admitted text is read by a run
-pub admitted-read : (text : List ℕ) (w : Network) → readAdmitted text ≡ Good w → readNetwork text ≡ Good w
-unfolding admissions readAdmitted readNetwork
-admitted-read text w e = fewer admissions networkEnded textConditions admission-text 1 noNetwork (lines text) w e
-
-entry-runs : (text bits : List ℕ) (buffer : List ℤ) (w : Network) (values : List ℤ) → readNetwork text ≡ Good w
+rule-runs : (r : Reading Network) (bits : List ℕ) (buffer : List ℤ) (w : Network) (values : List ℤ) → r ≡ Good w
     → networkRun w bits ≡ some (outputValues (w .outputs) values) → T (bitsFor (count isInput (w .nodes)) bits) → length (w .outputs) ≤ length buffer
-    → runNetwork text bits buffer ≡ ran (Numbered (written (length (w .outputs)))) (over (outputValues (w .outputs) values) buffer)
-unfolding runNetwork runNetworkOn runOn withValues outputValues
-entry-runs text bits buffer w values e f b l =
+    → runNetworkOn r bits buffer ≡ ran (Numbered (written (length (w .outputs)))) (over (outputValues (w .outputs) values) buffer)
+unfolding runNetworkOn runOn withValues outputValues
+rule-runs r bits buffer w values e f b l =
     rw (e, T-is (bitsFor (count isInput (w .nodes)) bits) b, le-ltb (length buffer) (length (w .outputs)) l, f)
     (ap (λ n. ran (Numbered (written n)) (over (outputValues (w .outputs) values) buffer)) (length-map (w .outputs) (λ o. wireValue values (o .wire))))
 
+plain-run : (text : List ℕ) → isEdition2 text ≡ false → readRun text ≡ readNetwork text
+unfolding readRun
+plain-run text p = rw p
+
 pub admitted-safe : (text : List ℕ) (s : Stats) → admission text ≡ admitted s → AdmittedSafe text s
-unfolding bitsFor
+unfolding bitsFor runNetwork
 admitted-safe text s e =
     record {
       network = w;
       read = read;
       recounted = c .2;
       safe = safe;
-      runs = λ bits buffer b l. entry-runs text bits buffer w (safe bits b .values) read (safe bits b .outputs) b l;
+      runs = λ bits buffer b l. rule-runs (readRun text) bits buffer w (safe bits b .values) read (safe bits b .outputs) b l;
+      entry = λ p bits buffer. ap (λ r. runNetworkOn r bits buffer) (sym (plain-run text p));
     }
   where
-    c : (w : Network) × (readAdmitted text ≡ Good w) × (s ≡ stats w)
+    c : (w : Network) × (readEither text ≡ Good w) × (s ≡ stats w)
     c = statistics-recounted text s e
 
     w : Network
     w = c .0
 
-    read : readNetwork text ≡ Good w
-    read = admitted-read text w (c .1)
+    read : readRun text ≡ Good w
+    read = either-read text w (c .1)
 
     safe : (bits : List ℕ) → T (bitsFor (count isInput (w .nodes)) bits) → Safe w bits
-    safe bits b = safe-on w bits (admitted-admissible text w (c .1)) (and-right (eqb (length bits) (count isInput (w .nodes))) (allBits bits) b)
+    safe bits b = safe-on w bits (either-admissible text w (c .1)) (and-right (eqb (length bits) (count isInput (w .nodes))) (allBits bits) b)

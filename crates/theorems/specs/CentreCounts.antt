@@ -7,10 +7,12 @@ use lib.Dec.{eqb}
 use Rattle.laws.specs.Test.{if_then_else_}
 use Rattle.rules.specs.declared.Stats.{Stats}
 use Rattle.rules.specs.Network.{LutNode, Input, Linear, Bootstrap, isBootstrap, count, nodeCentre, hasCentre, stats}
-use Rattle.rules.specs.NetworkText.{Net, admitted, admission}
+use Rattle.rules.specs.Admission.{admitted, admission}
+use Rattle.rules.specs.NetworkText.{Net}
 use Rattle.rules.specs.Rotation.{centreOf}
 use Rattle.theorems.specs.AdmissionExact.{statistics-recounted}
-use Rattle.theorems.specs.Admissible.{NodesPass, netOf, boot-passes, admitted-admissible}
+use Rattle.theorems.specs.Admissible.{NodesPass, netOf, boot-passes}
+use Rattle.theorems.specs.Admissible2.{either-admissible}
 use Rattle.theorems.specs.Centres.{centre-most}
 
 -- a number up to 2 is one of the three
@@ -37,4 +39,4 @@ unfolding stats netOf
 counts-add-up text s e =
     let c = statistics-recounted text s e in
     let w = c .0 in
-    subst (λ (t : Stats). t .centre0 + t .centre1 + t .centre2 ≡ t .boots) (sym (c .2)) (pass-counts (netOf w) [] (w .nodes) (admitted-admissible text w (c .1) .nodes))
+    subst (λ (t : Stats). t .centre0 + t .centre1 + t .centre2 ≡ t .boots) (sym (c .2)) (pass-counts (netOf w) [] (w .nodes) (either-admissible text w (c .1) .nodes))

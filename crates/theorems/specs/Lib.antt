@@ -31,6 +31,9 @@ pub mod AdmissibleLines
 pub mod EarlierNodes
 pub mod Depths
 pub mod AdmissionExact
+pub mod ManyLines
+pub mod Admissible2
+pub mod OldReaders
 pub mod AdmittedSafe
 pub mod LongestChains
 pub mod CentreCounts
@@ -47,6 +50,7 @@ pub mod ZeroSources
 pub mod SimplifiedCones
 pub mod Interned
 pub mod Decimals
+pub mod OneDecimal
 pub mod Pieces
 pub mod PlainPieces
 pub mod FirstAssignment

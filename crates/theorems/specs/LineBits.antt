@@ -1,18 +1,20 @@
--- What the forms of a network text give: BITS are bits, and so is the constant of a WIRE; a weight is from 1 to 64.
+-- What the forms of a network text give, in either edition: BITS are bits, and so is the constant of a WIRE; a weight is from 1 to 64.
 use mathlib.Core.Path.{_≡_, refl, subst}
 use mathlib.Core.Bool.{Bool, true, false, _&&_, _||_}
 use mathlib.Core.List.{List, [], _∷_}
 use mathlib.Core.Option.{Option, none, some}
-use Prim.Native.Nat.{ℕ, _-_, _≤_}
+use Prim.Native.Nat.{ℕ, zero, suc, _-_, _≤_}
 use native.Mathlib.Omega.{arith}
 use borrow.Author.Tests.{leb-true}
 use lib.Dec.{T, leb, eqb, eqb→eq, le→leb}
 use lib.ListN.{length, drop}
 use Rattle.laws.specs.Test.{if_then_else_, and-both, both-left, both-right, zero≢one}
+use Rattle.laws.specs.Lists.{Each}
 use Rattle.rules.specs.declared.Wire.{Wire}
 use Rattle.rules.specs.declared.Wire.the-variants.{Const, Node}
 use Rattle.rules.specs.Circuit.{Given, Output}
-use Rattle.rules.specs.Form.{Piece, Reader, give, onward, either, only, run, runOf, isBitByte, isBits, bitsFrom, bits, wire, word, number, from2To64, weight, outLine, inLine}
+use Rattle.rules.specs.Edition2.{Table, Line2, Plain, Many, net2Line, table, manyLine, line2}
+use Rattle.rules.specs.Form.{Piece, Reader, give, onward, _>>_, either, only, gather, upTo, many, run, runOf, isBitByte, isBits, bitsFrom, bits, wire, word, number, from2To64, weight, outLine, inLine}
 use Rattle.rules.specs.Network.{LutNode, Input, Linear, Bootstrap}
 use Rattle.rules.specs.NetworkText.{NetworkLine, NetLine, NodeLine, OutLine, netLine, linLine, bootLine, networkLine}
 use Rattle.rules.specs.Runs.{allBits}
@@ -33,6 +35,14 @@ unfoldable pub LineBits : NetworkLine → Type 0
 LineBits (NetLine n) = Unit {0}
 LineBits (NodeLine x) = NodeBits x
 LineBits (OutLine o) = WireBit (o .wire)
+
+-- Edition 2: the bits of each table are.
+unfoldable pub TableBits : Table → Type 0
+TableBits t = T (allBits (t .bits))
+
+unfoldable pub Line2Bits : Line2 → Type 0
+Line2Bits (Plain l) = LineBits l
+Line2Bits (Many i ts) = Each TableBits ts
 
 -- ---- Readers: what they give, if anything, is Q.
 
@@ -168,3 +178,42 @@ line-bits s l e =
     (either-gives LineBits _ _ (onward-gives NodeBits LineBits (linLine s) _ (lin-gives s) (λ n s r. r))
     (either-gives LineBits _ _ (onward-gives NodeBits LineBits (bootLine s) _ (boot-gives s) (λ n s r. r))
     (onward-gives OutputBit LineBits (outLine s) _ (out-gives s) (λ n s r. r)))))) l e
+
+-- ---- Edition 2.
+
+-- as many pieces as there are
+module _ {A : Type 0} (Q : A → Type 0) (r : Reader A) (gives : (s : List ℕ) → Gives Q (r s)) where
+  upTo-gives : (k : ℕ) (s : List ℕ) → Gives (Each Q) (upTo k r s)
+  unfolding upTo gather Gives
+  upTo-gives zero s = tt
+  upTo-gives (suc k) s = by (r s) (gives s) (upTo-gives k)
+    where
+      by : (o : Option (Piece A)) → Gives Q o → ((u : List ℕ) → Gives (Each Q) (upTo k r u)) → Gives (Each Q) (gather s o (upTo k r))
+      by none g ih = tt
+      by (some t) g ih = onward-gives (Each Q) (Each Q) (upTo k r (t .rest)) _ (ih (t .rest)) (λ l s h. (g, h))
+
+-- `(BITS CENTRE)`
+table-gives : (s : List ℕ) → Gives TableBits ((word " " >> table) s)
+unfolding table TableBits Gives
+table-gives s =
+    then-gives TableBits _ _
+    (λ _ s. then-gives TableBits _ _ (λ _ s. onward-gives (λ b. T (allBits b)) TableBits (bits s) _ (bits-gives s)
+    (λ b s r. then-gives TableBits _ _ (λ _ s. then-gives TableBits _ _ (λ c s. then-gives TableBits _ _ (λ _ s. r))))))
+
+-- `(many ID (BITS CENTRE) ..)`
+many-gives : (s : List ℕ) → Gives Line2Bits (manyLine s)
+unfolding manyLine Line2Bits Gives
+many-gives s =
+    then-gives Line2Bits _ _
+    (λ _ s. then-gives Line2Bits _ _ (λ i s. onward-gives (Each TableBits) Line2Bits (many (word " " >> table) s) _ (upTo-gives TableBits (word " " >> table) table-gives (length s) s)
+    (λ ts s r. then-gives Line2Bits _ _ (λ _ s. r))))
+
+pub line2-bits : (s : List ℕ) (l : Line2) → line2 s ≡ some l → Line2Bits l
+unfolding line2 Line2Bits LineBits NodeBits GivenWeight OutputBit Gives
+line2-bits s l e =
+    only-gives Line2Bits _
+    (either-gives Line2Bits _ _ (then-gives Line2Bits (net2Line s) _ (λ n s. tt))
+    (either-gives Line2Bits _ _ (onward-gives GivenWeight Line2Bits (inLine s) _ (in-gives s) (λ n s r. r))
+    (either-gives Line2Bits _ _ (onward-gives NodeBits Line2Bits (linLine s) _ (lin-gives s) (λ n s r. r))
+    (either-gives Line2Bits _ _ (many-gives s)
+    (onward-gives OutputBit Line2Bits (outLine s) _ (out-gives s) (λ n s r. r)))))) l e

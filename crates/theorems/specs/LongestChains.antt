@@ -8,12 +8,15 @@ use native.Mathlib.Omega.{arith}
 use lib.ListN.{length, getD}
 use Rattle.laws.specs.Test.{if_then_else_, lt-or-le}
 use Rattle.rules.specs.declared.Stats.{Stats}
+use Rattle.rules.specs.Admission.{admitted, admission}
+use Rattle.rules.specs.Edition2.{readEither}
 use Rattle.rules.specs.Form.{Good}
 use Rattle.rules.specs.Network.{Term, LutNode, Input, Linear, Bootstrap, Network, isBootstrap, member, nodeAt, largest, nodeDepth, depthsFrom, depths, depth, largestDepth, stats}
-use Rattle.rules.specs.NetworkText.{sources, readAdmitted, admitted, admission}
+use Rattle.rules.specs.NetworkText.{sources}
 use Rattle.rules.specs.Store.{needs}
-use Rattle.theorems.specs.Admissible.{netOf, admitted-admissible}
+use Rattle.theorems.specs.Admissible.{netOf}
 use Rattle.theorems.specs.AdmissionExact.{statistics-recounted}
+use Rattle.theorems.specs.Admissible2.{either-admissible}
 use Rattle.theorems.specs.Depths.{depths-length, depth-is, depth-most}
 use Rattle.theorems.specs.EarlierNodes.{Ordered, pass-ordered}
 use Rattle.theorems.specs.Members.{member-head, member-tail, member-cons}
@@ -47,7 +50,7 @@ pub record LongestOfAll (nodes : List LutNode) (d : ℕ) : Type 0 where
 -- A text that is admitted, s its statistics: of each of its nodes the depth is the longest chain that ends in it, and the statistics have the longest of all.
 pub record DepthExact (text : List ℕ) (s : Stats) : Type 0 where
   pub network : Network
-  pub read : readAdmitted text ≡ Good network
+  pub read : readEither text ≡ Good network
   pub each : (i : ℕ) → i < length (network .nodes) → LongestChain (network .nodes) i (depth (network .nodes) i)
   pub shown : LongestOfAll (network .nodes) (s .depth)
 
@@ -210,11 +213,11 @@ depth-exact text s e =
       shown = subst (LongestOfAll (w .nodes)) (sym (ap (λ (t : Stats). t .depth) (c .2))) (longest-of-all (w .nodes) ordered);
     }
   where
-    c : (w : Network) × (readAdmitted text ≡ Good w) × (s ≡ stats w)
+    c : (w : Network) × (readEither text ≡ Good w) × (s ≡ stats w)
     c = statistics-recounted text s e
 
     w : Network
     w = c .0
 
     ordered : Ordered (w .nodes)
-    ordered = pass-ordered (netOf w) (w .nodes) (admitted-admissible text w (c .1) .nodes)
+    ordered = pass-ordered (netOf w) (w .nodes) (either-admissible text w (c .1) .nodes)

@@ -1,6 +1,6 @@
 -- The reading of a text refuses by the first line where a condition holds, and by the lowest number there.
 use mathlib.Core.Path.{_≡_, refl, sym, ap, ap₂, subst, subst₂, _∙_}
-use mathlib.Core.Bool.{Bool, true, false, true≢false}
+use mathlib.Core.Bool.{Bool, true, false}
 use mathlib.Core.List.{List, [], _∷_}
 use mathlib.Core.Logic.{_⊎_, inl, inr, ⊎-elim}
 use mathlib.Core.Option.{Option, none, some}
@@ -9,7 +9,8 @@ use native.Mathlib.Nat.{not-suc-le-zero}
 use native.Mathlib.Omega.{arith}
 use lib.Dec.{eqb}
 use lib.ListN.{length}
-use Rattle.laws.specs.Test.{if_then_else_, decide, zero≢one}
+use Rattle.laws.specs.Test.{if_then_else_, decide, zero≢one, both, both-left, both-right, not-both}
+use Rattle.laws.specs.Select.{all}
 use Rattle.rules.specs.Form.{before, lines, Condition, Reading, Good, Refused, judged, onLine, readLines}
 use Rattle.theorems.specs.Refusals.{Met, Kind, conditionsOf, saidWith, said, AtLine, Holds, First, Exact}
 
@@ -24,9 +25,6 @@ LowestFirst a b (c ∷ cs) = (a ≤ c .no) × (c .no ≤ b) × LowestFirst (c .n
 unfoldable pub NoneMet : List Condition → Type 0
 NoneMet [] = Unit {0}
 NoneMet (c ∷ cs) = (c .met ≡ false) × NoneMet cs
-
-not-both : (b : Bool) → b ≡ true → b ≡ false → ⊥
-not-both b e f = true≢false (sym e ∙ f)
 
 none-met : (cs : List Condition) → NoneMet cs → (k : ℕ) → Met k cs → ⊥
 unfolding NoneMet Met
@@ -44,6 +42,16 @@ unfolding LowestFirst Met
 met-within a b [] t k m = absurd m
 met-within a b (c ∷ cs) t k (inl m) = omega arith
 met-within a b (c ∷ cs) t k (inr m) = let h = met-within (c .no) b cs (t .2) k m in omega arith
+
+-- Each of these has a number that f holds of.
+abbrev pub numbers : (ℕ → Bool) → List Condition → Bool
+numbers f cs = all (λ (c : Condition). f (c .no)) cs
+
+met-one-of : (f : ℕ → Bool) (cs : List Condition) → numbers f cs ≡ true → (k : ℕ) → Met k cs → f k ≡ true
+unfolding all Met
+met-one-of f [] n k m = absurd m
+met-one-of f (c ∷ cs) n k (inl m) = subst (λ j. f j ≡ true) (m .0) (both-left (f (c .no)) (numbers f cs) n)
+met-one-of f (c ∷ cs) n k (inr m) = met-one-of f cs (both-right (f (c .no)) (numbers f cs) n) k m
 
 pub judged-none : {A : Type 0} (i : ℕ) (cs : List Condition) (next : Reading A) → NoneMet cs → judged i cs next ≡ next
 unfolding judged NoneMet
@@ -238,6 +246,18 @@ pub record Regular {S L A : Type 0} (K : Kind S L) (ended : ℕ → S → Readin
   pub opens : (n : ℕ) (c : S) (l : L) → NoneMet (K .conditions c l) → Opened (K .withLine n c l)
   pub ends : (n : ℕ) (c : S) → Opened c → (x : A) × (ended n c ≡ Good x)
   pub lacks : ended 1 (K .start) ≡ Refused (K .missing) 1
+
+-- every condition that holds has a number that f holds of
+module _ {S L : Type 0} (K : Kind S L) (f : ℕ → Bool) (no-form : f (K .noForm) ≡ true) (all : (c : S) (l : L) → numbers f (K .conditions c l) ≡ true) where
+  of-line : (c : S) (o : Option L) → numbers f (conditionsOf K c o) ≡ true
+  unfolding conditionsOf all
+  of-line c none = both (f (K .noForm)) true no-form refl
+  of-line c (some l) = all c l
+
+  pub holds-one-of : f (K .missing) ≡ true → (text : List ℕ) (k i : ℕ) → Holds K text k i → f k ≡ true
+  unfolding Holds
+  holds-one-of m text k i (inl h) = met-one-of f _ (of-line _ _) k (h .met)
+  holds-one-of m text k i (inr h) = subst (λ j. f j ≡ true) (sym (h .1)) m
 
 no-cons : {A : Type 0} (x : A) (l : List A) → _≡_ {A = List A} (x ∷ l) [] → ⊥
 no-cons x l e = zero≢one (cc)

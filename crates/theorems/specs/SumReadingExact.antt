@@ -11,12 +11,16 @@ use lib.IntN.{ℤ}
 use lib.ListN.{length}
 use Rattle.laws.specs.Integer.{eqZ, eqZ-true, eqZ-of}
 use Rattle.laws.specs.Test.{T-is, T-not-is, zero≢one}
+use Rattle.rules.specs.Admission.{Admission, rejected, admissionOf, admission}
 use Rattle.rules.specs.Cone.{rowFrom}
+use Rattle.rules.specs.Edition2.{isEdition2}
 use Rattle.rules.specs.Form.{Reading, Good}
 use Rattle.rules.specs.Form as Form
 use Rattle.rules.specs.Network.{Term, LutNode, Input, Linear, Bootstrap, Network, leastOf, greatestOf, isLinear, nodeAt}
-use Rattle.rules.specs.NetworkText.{readAdmitted, Admission, rejected, admissionOf, admission}
+use Rattle.rules.specs.NetworkText.{readAdmitted}
 use Rattle.rules.specs.Runs.{bitsFor}
+use Rattle.theorems.specs.Admissible2.{read-plain}
+use Rattle.theorems.specs.OldReaders.{old-admission}
 use Rattle.theorems.specs.FirstAssignment.{FirstFor, NoneFor, found-first, found-none, found-one}
 use Rattle.theorems.specs.SumBounds.{least-reached, greatest-reached}
 use Rattle.theorems.specs.SumLine.{term-count}
@@ -52,8 +56,9 @@ pub record OnSum (text : List ℕ) (node : ℕ) (c : ℤ) (ts : List Term) : Typ
   pub few-terms : (1 ≤ length ts) × (length ts ≤ 11)
 
 pub record SumReadingExact (text : List ℕ) (node : ℕ) : Type 0 where
-  -- admission's refusals first, then 35
-  pub unadmitted : (value : ℤ) (k i : ℕ) → admission text ≡ rejected k i → sumReading text node value ≡ Refused k i
+  -- edition 2 gets 21 at line 1; of a plain text admission's refusals come first, then 35
+  pub edition-2 : (value : ℤ) → isEdition2 text ≡ true → sumReading text node value ≡ Refused 21 1
+  pub unadmitted : (value : ℤ) (k i : ℕ) → isEdition2 text ≡ false → admission text ≡ rejected k i → sumReading text node value ≡ Refused k i
   pub no-sum : (value : ℤ) (w : Network) → readAdmitted text ≡ Good w → isLinear (nodeAt (w .nodes) node) ≡ false → sumReading text node value ≡ Refused 35 0
   pub on-sum : (w : Network) (c : ℤ) (ts : List Term) → readAdmitted text ≡ Good w → nodeAt (w .nodes) node ≡ Linear c ts → OnSum text node c ts
 
@@ -143,7 +148,8 @@ pub sum-reading-exact : (text : List ℕ) (node : ℕ) → SumReadingExact text 
 unfolding sumReading sumReadingOn admission
 sum-reading-exact text node =
     record {
-      unadmitted = λ value k i e. refused-first (readAdmitted text) node value k i e;
+      edition-2 = λ value e. ap (λ r. sumReadingOn r node value) (old-admission text e);
+      unadmitted = λ value k i p e. refused-first (readAdmitted text) node value k i (ap admissionOf (sym (read-plain text p)) ∙ e);
       no-sum = λ value w e f. ap (λ r. sumReadingOn r node value) e ∙ no-linear (nodeAt (w .nodes) node) value f;
       on-sum = on-sum text node;
     }

@@ -10,9 +10,10 @@ use lib.Dec.{T}
 use lib.IntN.{ℤ, pos}
 use lib.ListN.{length, getD, replicate}
 use Rattle.rules.specs.declared.Stats.{Stats}
+use Rattle.rules.specs.Admission.{admitted, admission}
+use Rattle.rules.specs.Edition2.{readRun}
 use Rattle.rules.specs.Form.{Good}
 use Rattle.rules.specs.Network.{Bootstrap, Network, nodeAt, isInput, count, nodeValues}
-use Rattle.rules.specs.NetworkText.{readNetwork, admitted, admission}
 use Rattle.rules.specs.Phase.{isPeriod, slot, found, slotAnswer}
 use Rattle.rules.specs.Rotation.{Rotatable, rotated}
 use Rattle.rules.specs.Runs.{bitsFor}
@@ -28,10 +29,10 @@ pub record Tried (P : ℕ) (table : List ℕ) (v : ℕ) (e bit : ℤ) : Type 0 w
   pub answers : slotAnswer P (pos v) e ≡ found (slot P v e)
   pub gives : rotated P table (pos (slot P v e)) ≡ some bit
 
--- The network of an admitted text, where its P is one of the four.
+-- The network of an admitted text of either edition, where its P is one of the four.
 pub record TrialRuns (text : List ℕ) : Type 0 where
   pub network : Network
-  pub read : readNetwork text ≡ Good network
+  pub read : readRun text ≡ Good network
   -- each table, each v within its length: bit v
   pub table-bit : isPeriod (network .p) ≡ true → (k i : ℕ) (table : List ℕ) → nodeAt (network .nodes) k ≡ Bootstrap i table
       → (v : ℕ) → v < length table → (e : ℤ) → Signed32 e → Within (network .p) v e → Tried (network .p) table v e (pos (getD table v 0))

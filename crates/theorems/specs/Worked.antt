@@ -11,16 +11,13 @@ use Rattle.laws.specs.Over.{over}
 use Rattle.rules.specs.declared.Limit.the-variants.{Unlimited}
 use Rattle.rules.specs.declared.Policy.the-variants.{Span}
 use Rattle.rules.specs.declared.Settings.{Settings}
+use Rattle.rules.specs.Admission.{Admission, admitted, rejected, admission}
 use Rattle.rules.specs.Builder.{withTable, noTable, Built, built, fromTable, fromKnown, builder}
 use Rattle.rules.specs.Composition.{unionSupport, gateTruth, Scales, scales, mergedCoefficients, evaluate}
-use Rattle.rules.specs.Computed.Computing.{computing}
+use Rattle.rules.specs.Computed.Computing.{computing, judging}
 use Rattle.rules.specs.Cone.{Cone, Candidate, identity}
-use Rattle.rules.specs.Form
 use Rattle.rules.specs.Form.{bytes as bytesOf}
 use Rattle.rules.specs.Mapper.{mapper}
-use Rattle.rules.specs.Network
-use Rattle.rules.specs.NetworkText
-use Rattle.rules.specs.NetworkText.{Admission, admitted, rejected, admission}
 use Rattle.rules.specs.Outcome.{written, refused, Outcome, outcome}
 use Rattle.rules.specs.Rotation
 
@@ -63,10 +60,8 @@ refusal k line = answers (outcome (refused k line) buffer)
 
 -- Admitted, with the statistics: inputs, sums, tables, different sources, longest table, largest norm, outputs, largest depth, tables of centre 0, 1 and 2.
 abbrev counts : ℕ → ℕ → ℕ → ℕ → ℕ → ℕ → ℕ → ℕ → ℕ → ℕ → ℕ → Reply
-counts inputs sums boots sources longest norm outputs depth c0 c1 c2 =
-    judges
-    (admitted
-    (record { inputs = inputs; sums = sums; boots = boots; sources = sources; longest = longest; norm = norm; outputs = outputs; depth = depth; centre0 = c0; centre1 = c1; centre2 = c2 }))
+counts inputs sums boots sources longest norm outputs depth centre0 centre1 centre2 =
+    judges (admitted (record { inputs = inputs; sums = sums; boots = boots; sources = sources; longest = longest; norm = norm; outputs = outputs; depth = depth; centre0 = centre0; centre1 = centre1; centre2 = centre2 }))
 
 unfoldable pub scoresOf : ℕ → ℕ → Cone → Cone → List ℕ → Scales → List (List ℤ)
 scoresOf P M left right gate p =
@@ -165,11 +160,6 @@ cases =
     -- centres: tables of P + 1 bits with the pair sums 0, 1 and 2, and one of P bits
     ∷ (admitting "(net 2 4 none)\n(in a)\n(in b)\n(lin 0 (1 0) (1 1))\n(boot 2 010)\n(boot 2 001)\n(boot 2 101)\n(boot 0 11)\n(out y (n 3))\n" ⇒ counts 2 1 4 2 3 2 1 1 2 1 1)
     ∷ []
-
--- from a network's text to its statistics
-unfoldable pub judging : Unit {0}
-unfolding Form.below Form.signed NetworkText.netLine NetworkText.term NetworkText.linLine NetworkText.bootLine NetworkText.networkLine NetworkText.small NetworkText.goodTerms NetworkText.allDifferent NetworkText.goodSum NetworkText.names NetworkText.allInputs NetworkText.unknown NetworkText.anyBadSource NetworkText.started NetworkText.ending NetworkText.textConditions NetworkText.settingsOf NetworkText.fitsTable NetworkText.isBit NetworkText.noBit NetworkText.safetyConditions NetworkText.admissionConditions NetworkText.withNetworkLine NetworkText.withNet NetworkText.networkEnded NetworkText.noNetwork NetworkText.readAdmitted NetworkText.admissionOf NetworkText.admission Network.below0 Network.above0 Network.leastSum Network.greatestSum Network.leastOf Network.greatestOf Network.isInput Network.isLinear Network.isBootstrap Network.tableLength Network.count Network.different Network.nodeDepth Network.depthsFrom Network.depths Network.largestDepth Network.nodeCentre Network.hasCentre Network.stats
-judging = tt
 
 pub worked : map (λ c. reply (c .asks)) cases ≡ map (λ c. c .gives) cases
 unfolding cases reply buffer parity scoresOf builder fromKnown fromTable Rotation.centreOf computing judging

@@ -13,11 +13,11 @@ use Rattle.laws.specs.Test.{if_then_else_, decide}
 use Rattle.rules.specs.Network.{Term, LutNode, Input, Linear, Bootstrap, member, nodeAt}
 use Rattle.rules.specs.NetworkText.{sources}
 use Rattle.rules.specs.Store.{needs, wantedBelow, renumbered, renumberedTerm, renumberedNode, keptFrom}
-use Rattle.theorems.specs.Members.{member-head, member-tail}
+use Rattle.theorems.specs.Members.{member-head, member-tail, member-at}
 use Rattle.theorems.specs.Wanted.{wanted-closed}
 use Rattle.nodes.specs.Nodes.{fine-needs, store-ordered}
 use Rattle.nodes.specs.View.{nodeOf, storeOf, IsStore, at-store, store-length}
-use Rattle.writer.specs.Live.{newNumber, newTerm, newNode, liveFrom, liveNodes, Ready, Sourced, member-at}
+use Rattle.writer.specs.Live.{newNumber, newTerm, newNode, liveFrom, liveNodes, Ready, Sourced}
 
 -- `live` numbers the nodes that are kept
 unfoldable pub Numbered : List ℕ → List ℕ → ℕ → Type 0

@@ -2,8 +2,7 @@
 use mathlib.Core.Path.{_≡_, refl, sym, ap, ap₂, _∙_}
 use mathlib.Core.Bool.{Bool, true, false}
 use mathlib.Core.List.{List, [], _∷_, _++_, map}
-use Prim.Native.Nat.{ℕ, zero, suc, _+_, _-_, _<_, _≤_}
-use native.Mathlib.Nat.{not-suc-le-zero, le-of-suc-le-suc}
+use Prim.Native.Nat.{ℕ, suc, _+_, _-_, _<_, _≤_}
 use native.Mathlib.Numerals.{add-one}
 use native.Mathlib.Omega.{arith}
 use borrow.Author.Tests.{eq-eqb, ne-eqb}
@@ -13,10 +12,10 @@ use lib.ListN.{length, getD, drop, drop-of-length-le}
 use lib.Seq.{drop-cons}
 use Rattle.laws.specs.Test.{if_then_else_}
 use Rattle.rules.specs.Form.{bytes}
-use Rattle.rules.specs.Network.{Term, LutNode, Input, Linear, Bootstrap, isLinear, weightOf, member}
+use Rattle.rules.specs.Network.{Term, LutNode, Input, Linear, Bootstrap, isLinear, weightOf}
 use Rattle.rules.specs.Store.{needs, termsOf}
 use Rattle.rules.specs.Writing.{signedText, termsText, nodeText, nodesText}
-use Rattle.theorems.specs.Members.{member-head, member-tail}
+use Rattle.theorems.specs.Members.{member-at}
 use Rattle.theorems.specs.NodesAt.{drop-node}
 use Rattle.nodes.specs.Nodes.{kindOf, constantOf, bytesIn, as-many, terms-need, fine-needs}
 use Rattle.nodes.specs.View.{term, nodeOf, storeOf, Fine, IsNode, IsStore, at-store, store-length, is-node}
@@ -64,11 +63,6 @@ ready-at live bytes count i s h n =
     record { node = is-node bytes count i (s .store) h; long = s .long; ready = s .ready i h (omega arith) }
 
 -- ---- laws: what a node needs
-
-pub member-at : (ns : List ℕ) (k : ℕ) → k < length ns → member (getD ns k 0) ns ≡ true
-member-at [] k h = absurd (not-suc-le-zero h)
-member-at (n ∷ ns) zero h = member-head n ns
-member-at (n ∷ ns) (suc k) h = member-tail (getD ns k 0) n ns (member-at ns k (le-of-suc-le-suc h))
 
 module _ {live bytes : List ℕ} {i : ℕ} (r : ReadyAt live bytes i) (k : ℕ) (h : k < length (needs (nodeOf bytes i))) where
   pub source-near : getD (needs (nodeOf bytes i)) k 0 < 672

@@ -30,7 +30,7 @@ pub fn number_of(live: &[u16; 672], node: usize) -> usize
 }
 
 // The new number of source k of node i.
-fn new_source(nodes: &[u8; 27552], live: &[u16; 672], i: usize, k: usize) -> usize
+pub fn new_source(nodes: &[u8; 27552], live: &[u16; 672], i: usize, k: usize) -> usize
     requires { ⌜ ReadyAt (now live) (now nodes) i × (k < length (needs (nodeOf (now nodes) i))) ⌝ }
     ensures { λ r. ⌜ r ≡ newNumber (now (live .entry)) (getD (needs (nodeOf (now (nodes .entry)) i)) k 0) ⌝ }
 {
@@ -83,7 +83,13 @@ fn put_lin(out: &mut [u8], at: usize, nodes: &[u8; 27552], live: &[u16; 672], i:
 }
 
 // Node i, which is live.
-fn put_node(out: &mut [u8], at: usize, nodes: &[u8; 27552], live: &[u16; 672], i: usize) -> usize
+pub fn put_node(
+    out: &mut [u8],
+    at: usize,
+    nodes: &[u8; 27552],
+    live: &[u16; 672],
+    i: usize,
+) -> usize
     requires { ⌜ ReadyAt (now live) (now nodes) i ⌝ }
     requires { ⌜ Room at (nodeText (newNode (now live) (nodeOf (now nodes) i))) ⌝ }
     ensures { λ r. ⌜ Put at (nodeText (newNode (now (live .entry)) (nodeOf (now (nodes .entry)) i))) (now (out .entry)) r (now (out .exit)) ⌝ }

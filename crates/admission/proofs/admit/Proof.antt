@@ -18,21 +18,21 @@ stats-of-requires c κs =
     let k = c .before .before in
     let p = k .before .before in
     let A = p .before .before .before .before .args in
-    admit-held (A .text .now) (p .read .last .1 .1 .0) (p .read .last .1 .1 .1 .0) _ (p .read .ensures .0) _ (k .r2 .given .1) (p .read .ensures .1)
+    admit-held (A .text .now) (p .read .last .1 .0) (p .read .last .1 .1 .0) _ (p .read .ensures .0) _ (k .r2 .given .1) (p .read .ensures .1)
 
 returns : tie.Need-returns
 returns c =
     let k = c .before in
     let p = k .before .before in
     let A = p .before .before .before .before .args in
-    admit-refused (A .text .now) (p .read .last .1 .1 .0) (p .read .last .1 .1 .1 .0) _ (p .read .ensures .0) _ _ (k .r .given .1)
+    admit-refused (A .text .now) (p .read .last .1 .0) (p .read .last .1 .1 .0) _ (p .read .ensures .0) _ _ (k .r .given .1)
 
 returns-2 : tie.Need-returns-2
 returns-2 c =
     let k = c .before .before .before in
     let p = k .before .before in
     let A = p .before .before .before .before .args in
-    admit-good (A .text .now) (p .read .last .1 .1 .0) (p .read .last .1 .1 .1 .0) _ (p .read .ensures .0) _ (k .r2 .given .1) _ (c .stats-of .ensures _ (admit-centred (A .text .now) (p .read .last .1 .1 .0) (p .read .last .1 .1 .1 .0) _ (p .read .ensures .0) _ (k .r2 .given .1) (p .read .ensures .1)))
+    admit-good (A .text .now) (p .read .last .1 .0) (p .read .last .1 .1 .0) _ (p .read .ensures .0) _ (k .r2 .given .1) _ (c .stats-of .ensures _ (admit-centred (A .text .now) (p .read .last .1 .0) (p .read .last .1 .1 .0) _ (p .read .ensures .0) _ (k .r2 .given .1) (p .read .ensures .1)))
 
 pub admit-spec : {M : Type 1} → statement M
 admit-spec =

@@ -1,7 +1,8 @@
 use mathlib.Core.Path.{sym}
 use lib.Seq.{length-take-le}
 use borrow.Author.Needs.{needs}
-use Rattle.conclude.specs.Conclude.{untouched-length, answer-short, written-length, answer-written}
+use Rattle.conclude.specs.Conclude.{answer-short, answer-written}
+use Rattle.lines.specs.Front.{untouched-length, written-length}
 use Rattle.conclude.proofs.answer.Statement.{statement}
 use Rattle.conclude.proofs.answer.Tie as tie
 

@@ -1,7 +1,8 @@
 use Prim.Native.Nat.{_-_}
 use lib.ListN.{length}
 use native.Mathlib.Omega.{arith}
-use Rattle.network.specs.Step.{Lines, noLines, lines-start, lines-refused, lines-next, lines-unstarted, lines-ended, lines-held}
+use Rattle.network.specs.Step.{Lines, noLines, lines-start, lines-refused, lines-next, lines-unstarted, lines-ended}
+use Rattle.network.specs.View.{held}
 use borrow.Author.Needs.{needs}
 use Rattle.network.proofs.read.Statement.{statement}
 use Rattle.network.proofs.read.Tie as tie
@@ -44,7 +45,7 @@ returns-2 c =
 returns-3 : tie.Need-returns-3 Inv-loop μ-loop
 returns-3 c =
     let k = c .before .before .before .loop .inv in
-    (lines-ended k (c .before .before .loop-test .left) (c .if2 .left), lines-held k (c .before .before .loop-test .left) (c .if2 .left))
+    (lines-ended k (c .before .before .loop-test .left) (c .if2 .left), held (k .holds) (c .if2 .left))
 
 pub read-spec : {M : Type 1} → statement M
 read-spec =

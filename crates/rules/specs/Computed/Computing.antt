@@ -6,16 +6,20 @@ use Rattle.laws.specs.Over
 use Rattle.laws.specs.Select
 use Rattle.laws.specs.Tabulate
 use Rattle.laws.specs.Test
+use Rattle.rules.specs.Admission
 use Rattle.rules.specs.Builder
 use Rattle.rules.specs.Circuit
 use Rattle.rules.specs.CircuitText
 use Rattle.rules.specs.Composition
 use Rattle.rules.specs.Computed.Case
 use Rattle.rules.specs.Cone
+use Rattle.rules.specs.Converter
+use Rattle.rules.specs.Edition2
 use Rattle.rules.specs.Form
 use Rattle.rules.specs.Mapper
 use Rattle.rules.specs.Network
 use Rattle.rules.specs.NetworkText
+use Rattle.rules.specs.Regroup
 use Rattle.rules.specs.Rotation
 use Rattle.rules.specs.Scale
 use Rattle.rules.specs.Span
@@ -50,3 +54,13 @@ writing = tt
 unfoldable pub computing : Unit {0}
 unfolding reading tables cones gates writing
 computing = tt
+
+-- from a network's text to its statistics
+unfoldable pub judging : Unit {0}
+unfolding Form.below Form.signed NetworkText.netLine NetworkText.term NetworkText.linLine NetworkText.bootLine NetworkText.networkLine NetworkText.small NetworkText.goodTerms NetworkText.allDifferent NetworkText.goodSum NetworkText.names NetworkText.allInputs NetworkText.unknown NetworkText.anyBadSource NetworkText.started NetworkText.ending NetworkText.textConditions NetworkText.settingsOf NetworkText.fitsTable NetworkText.isBit NetworkText.noBit NetworkText.safetyConditions NetworkText.admissionConditions NetworkText.withNetworkLine NetworkText.withNet NetworkText.networkEnded NetworkText.noNetwork NetworkText.readAdmitted Edition2.isEdition2 Edition2.readEither Admission.admissionOf Admission.admission Network.below0 Network.above0 Network.leastSum Network.greatestSum Network.leastOf Network.greatestOf Network.isInput Network.isLinear Network.isBootstrap Network.tableLength Network.count Network.different Network.nodeDepth Network.depthsFrom Network.depths Network.largestDepth Network.nodeCentre Network.hasCentre Network.stats
+judging = tt
+
+-- from a network's text to its text in the other edition
+unfoldable pub converting : Unit {0}
+unfolding Rotation.centreOf Edition2.net2Line Edition2.centreDigit Edition2.table Edition2.manyLine Edition2.line2 Edition2.tooLong Edition2.notFitting Edition2.notTurning Edition2.otherCentre Edition2.textConditions2 Edition2.safetyConditions2 Edition2.conditions2 Edition2.withLine2 Edition2.readAdmitted2 Regroup.sameGroup Regroup.behind Regroup.orderUpTo Regroup.order Regroup.placeIn Regroup.movedTerm Regroup.movedNode Regroup.movedWire Regroup.movedOutput Regroup.reordered Regroup.regrouped Converter.joinTable Converter.nodeLines Converter.linesOf Converter.tablesText Converter.line2Text Converter.lines2Text Converter.networkText2 Converter.otherEdition Converter.convert Converter.answerText Converter.converter
+converting = tt

@@ -1,6 +1,6 @@
 use mathlib.Core.Path.{sym, ap}
 use borrow.Author.Needs.{needs}
-use Rattle.rules.specs.NetworkText.{admitReply}
+use Rattle.rules.specs.Admission.{admitReply}
 use Rattle.exports.specs.Numbers.{admissionNumbers, statistics}
 use Rattle.exports.proofs.numbers.admission_numbers.Statement.{statement}
 use Rattle.exports.proofs.numbers.admission_numbers.Tie as tie
