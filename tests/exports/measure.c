@@ -1,15 +1,17 @@
-/* Time and stack of fbs_map on the circuits of standard input, and of fbs_admit on what it wrote (tools/check_exports --measure). Of
- * five calls the quickest counts; the stack is what a thread wrote of one that was filled with a pattern before. */
+/* Time and stack of fbs_map on the circuits of standard input, and of fbs_admit and fbs_convert on what it wrote; then of these two on a
+ * network of 672 nodes whose tables stand as far apart as they can (tools/check_exports --measure). Of five calls the quickest counts;
+ * the stack is what a thread wrote of one that was filled with a pattern before. */
 #define _POSIX_C_SOURCE 200809L
 #include <pthread.h>
+#include <stdio.h>
 #include <stdlib.h>
 #include <time.h>
 
 #include "job.h"
 
 enum { STACK = 1 << 20, PATTERN = 0xCD, MOST = 100000 };
-static uint8_t out[FBS_ANSWER_BYTES];
-static size_t length, written;
+static uint8_t out[FBS_ANSWER_BYTES], second[3 * FBS_ANSWER_BYTES], plain[3 * FBS_ANSWER_BYTES];
+static size_t length, written, converted;
 
 static void *map(void *unused) {
     fbs_reply r = fbs_map(text, length, out, sizeof out);
@@ -20,6 +22,19 @@ static void *map(void *unused) {
 static void *admit(void *unused) {
     fbs_admission a = fbs_admit(out, written);
     if (a.number != FBS_OK) abort();
+    return unused;
+}
+
+static void *convert(void *unused) {
+    fbs_reply r = fbs_convert(out, written, second, sizeof second);
+    if (r.number != FBS_OK) abort();
+    converted = r.count;
+    return unused;
+}
+
+static void *convert_back(void *unused) {
+    fbs_reply r = fbs_convert(second, converted, plain, sizeof plain);
+    if (r.number != FBS_OK) abort();
     return unused;
 }
 
@@ -77,14 +92,30 @@ static void show(const char *name, Measured *m) {
     printf("%s: %zu texts, median %.1f us, most %.1f us, stack at most %zu bytes\n", name, m->count, m->times[m->count / 2], m->times[m->count - 1], m->stack);
 }
 
+/* 32 inputs and 640 tables, on each input in turn. */
+static void largest(void) {
+    size_t at = (size_t)sprintf((char *)out, "(net 4 8 none)\n");
+    for (int i = 0; i < 32; i++) at += (size_t)sprintf((char *)out + at, "(in i%d)\n", i);
+    for (int i = 0; i < 640; i++) at += (size_t)sprintf((char *)out + at, "(boot %d 10)\n", i % 32);
+    written = at + (size_t)sprintf((char *)out + at, "(out o (n 671))\n");
+}
+
 int main(void) {
-    static Measured mapping, admission;
+    static Measured mapping, admission, to_second, to_plain;
     while (next_job(&length)) {
         add(&mapping, map);
-        if (written != 0) add(&admission, admit);
+        if (written == 0) continue;
+        add(&admission, admit);
+        add(&to_second, convert);
+        add(&to_plain, convert_back);
     }
     show("fbs_map", &mapping);
     show("fbs_admit", &admission);
+    show("fbs_convert to edition 2", &to_second);
+    show("fbs_convert back", &to_plain);
+    largest();
+    printf("672 nodes: fbs_admit %.1f us, fbs_convert to edition 2 %.1f us, ", microseconds(admit), microseconds(convert));
+    printf("back %.1f us\n", microseconds(convert_back));
     printf("a thread that calls nothing: stack %zu bytes\n", stack_bytes(nothing));
     return 0;
 }
