@@ -1,7 +1,7 @@
 -- Texts are refused exactly when a listed condition holds (document 01, "Refused with"; document 02, S-11, for both editions of the network text).
 use Rattle.std.specs.Prelude.{◌≡◌, refl, Bool, true, false, List, [], ◌∷◌, ◌++◌, ◌↔◌, ℕ}
 use Rattle.std.proofs.Common.{sym, ap, ap₂, arith}
-use Rattle.std.proofs.Math.Logic.{Iff·trans}
+use Rattle.std.proofs.Math.Logic.Iff
 use Rattle.std.proofs.Math.Option.{Option, none, some, some-injective, none-ne-some}
 use Rattle.std.proofs.lemmas.Bool.{not-false}
 use Rattle.laws.specs.Test.{if◌then◌else◌, is_some, zero≢one, neither_left}
@@ -297,8 +297,8 @@ pub admission_exact : (text : List ℕ) → AdmissionExact text
 unfolding admission
 admission_exact text =
     record {
-      refused = λ k i. Iff·trans (reply_refused (read_either text) k i) ((either_exact text).refused k i);
-      admitted = Iff·trans (admitted_good text) (either_exact text).good;
+      refused = λ k i. Iff.trans (reply_refused (read_either text) k i) ((either_exact text).refused k i);
+      admitted = Iff.trans (admitted_good text) (either_exact text).good;
       plain-listed = plain-listed text;
       edition_2_listed = edition_2_listed text;
     }

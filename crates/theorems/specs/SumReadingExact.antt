@@ -3,7 +3,7 @@
 use Rattle.std.specs.Prelude.{◌≡◌, Bool, true, false, List, ◌↔◌, ℕ, ◌≤◌, T, ℤ, length}
 use Rattle.std.proofs.Math.Path.{refl, ap}
 use Rattle.std.proofs.Common.{sym, subst, ap₂, ◌∙◌, true≢false}
-use Rattle.std.proofs.Math.Logic.{Iff·trans}
+use Rattle.std.proofs.Math.Logic.Iff
 use Rattle.std.proofs.Math.Option.{Option, none, some, none-ne-some}
 use Rattle.laws.specs.Integer.{eq_z, eq_z_true, eq_z_of}
 use Rattle.laws.specs.Test.{T-is, T-not_is, zero≢one}
@@ -93,11 +93,11 @@ module _ (c : ℤ) (ts : List Term) (value : ℤ) where
 
   at_first : (bits : List ℕ) → (reading_at (Linear c ts) value ≡ Shown bits) ↔ FirstGiving c ts value bits
   unfolding reading_at first_reading
-  at_first bits = Iff·trans (shown_some _ bits) (Iff·trans (found_first (length ts) meets bits) (first_giving bits))
+  at_first bits = Iff.trans (shown_some _ bits) (Iff.trans (found_first (length ts) meets bits) (first_giving bits))
 
   at_none : (reading_at (Linear c ts) value ≡ NoneGives) ↔ NeverGiven c ts value
   unfolding reading_at first_reading
-  at_none = Iff·trans (shown_none _) (Iff·trans (found_none (length ts) meets) never_giving)
+  at_none = Iff.trans (shown_none _) (Iff.trans (found_none (length ts) meets) never_giving)
 
   at_accepts : (k i : ℕ) → reading_at (Linear c ts) value ≡ Refused k i → ⊥
   unfolding reading_at
