@@ -1,4 +1,6 @@
 // Admission: a network's text of either edition judged (21 to 26, 38 and 39), and its statistics. It leans on the reader (`edition`).
+#![tactic(auto)]
+
 mod count;
 
 ghost use Rattle.std.specs.Prelude.{◌≡◌};

@@ -1,5 +1,7 @@
 // What the service prints, in one buffer, so that the program writes it by one call: the answer to a job, or a refusal,
 // and `(end)` behind it. It leans on `mapper` and `framing`.
+#![tactic(auto)]
+
 ghost use Rattle.std.specs.Prelude.{◌++◌, ◌≤◌, length, take};
 ghost use Rattle.framing.specs.Step.{Within};
 ghost use Rattle.framing.specs.Feeding.{said, closing};

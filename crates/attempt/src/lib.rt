@@ -1,5 +1,7 @@
 // One attempt to merge two cones under a gate, without a bootstrap: both tables, the search and the merged cone.
 // It leans on `compose`, `search` and `cone`.
+#![tactic(auto)]
+
 ghost use Rattle.std.specs.Prelude.{◌≡◌, true, false, List, ℕ, ◌≤◌, length, take};
 ghost use Rattle.rules.specs.CircuitText.{in_limits};
 ghost use Rattle.rules.specs.Cone.{linear_table};
@@ -30,7 +32,7 @@ use search::find_candidate;
 use support::union_support_size;
 
 // The cone, if the two sides are composed.
-#[derive(Drop)]
+#[derive(Clone, Copy)]
 pub struct Tried {
     pub found: bool,
     pub cone: Cone,

@@ -1,4 +1,6 @@
 // The bits that a run is handed. It leans on no other code.
+#![tactic(auto)]
+
 ghost use Rattle.std.specs.Prelude.{◌≡◌};
 ghost use Rattle.rules.specs.Runs.{bits_for};
 

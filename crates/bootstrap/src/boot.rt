@@ -16,7 +16,7 @@ use nodes::record::Terms;
 use rules::Settings;
 
 // The cone that takes the place, and how many nodes there are.
-#[derive(Drop)]
+#[derive(Clone, Copy)]
 pub struct Booted {
     pub count: usize,
     pub cone: Cone,

@@ -20,14 +20,14 @@ use nodes::node::{BOOTSTRAP, kind_of};
 use rules::Settings;
 
 // A cone by another form, where one was found; else the cone as it was.
-#[derive(Drop)]
+#[derive(Clone, Copy)]
 pub struct Form {
     pub found: bool,
     pub cone: Cone,
 }
 
 // The truth at each value, the least first; not ok where one value has two truths.
-#[derive(Drop)]
+#[derive(Clone, Copy)]
 pub struct Entered {
     pub ok: bool,
     pub known: [u8; 32],

@@ -1,4 +1,6 @@
 // The builder of bootstrap tables from rows, a public entry. It leans on `rotation`.
+#![tactic(auto)]
+
 ghost use Rattle.std.specs.Prelude.{◌≡◌, ◌≤◌, ltb, length, replicate};
 ghost use Rattle.laws.specs.Over.{over};
 ghost use Rattle.laws.specs.Test.{if◌then◌else◌};

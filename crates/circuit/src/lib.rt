@@ -1,4 +1,6 @@
 // A circuit's text read into two arrays, or its refusal 1 to 7 with the line. It leans on one line's reader (`circuit_text`).
+#![tactic(auto)]
+
 pub mod slot;
 mod take;
 
@@ -14,7 +16,7 @@ use rules::{Limit, Policy, Settings};
 //   ports   two numbers an input, where its name starts and ends in the text; from 64 on three an output, its name's start and end and its wire;
 //           from 160 on the inputs' weights
 // A slot is a node's number, or 128 and 129 for the constants; an output's wire is a node's number, or 1000 and 1001.
-#[derive(Drop)]
+#[derive(Clone, Copy)]
 pub struct Circuit {
     pub settings: Settings,
     pub inputs: usize,
@@ -23,7 +25,7 @@ pub struct Circuit {
 }
 
 // What a text says: its circuit, or the number and the line of its refusal.
-#[derive(Drop)]
+#[derive(Clone, Copy)]
 pub enum Reading {
     Good(Circuit),
     Refused(usize, usize),

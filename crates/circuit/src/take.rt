@@ -25,7 +25,7 @@ use circuit_text::line::{Line, read_line};
 use rules::{Settings, Wire};
 
 // What a line makes of the circuit: the lowest number that it meets, or 0 and the circuit with the line; and where the line ends.
-#[derive(Drop)]
+#[derive(Clone, Copy)]
 pub struct Step {
     pub number: usize,
     pub circuit: Circuit,

@@ -1,5 +1,7 @@
 // What decides the conditions 2 to 7 of a circuit's line: what is kept of a gate's wires, and the lowest number that a line meets, 0 for none,
 // by counts of the lines before it and tests of its own. It leans on no other code.
+#![tactic(auto)]
+
 ghost use Rattle.std.specs.Prelude.{◌≡◌, ◌&&◌, ◌||◌, not, [], ◌∷◌, leb, ltb};
 ghost use Rattle.rules.specs.CircuitText.{no_node};
 ghost use Rattle.rules.specs.Form.{◌when◌};
@@ -9,7 +11,7 @@ ghost use Rattle.circuit_conditions.specs.Wires.{with_wire, shape};
 use rules::Wire;
 
 // What is kept of a gate's wires: how many (3 for more), the first two, and whether one of them goes to no earlier node.
-#[derive(Drop)]
+#[derive(Clone, Copy)]
 pub struct Wires {
     pub count: usize,
     pub left: Wire,

@@ -1,4 +1,6 @@
 // A run of the circuit that a text describes, on a bit for each input. It leans on the reader (`circuit`): its arrays and their slots.
+#![tactic(auto)]
+
 mod run;
 
 ghost use Rattle.std.specs.Prelude.{◌≡◌};

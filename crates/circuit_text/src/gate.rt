@@ -25,7 +25,7 @@ fn spaced_wire(s: &[u8], at: usize) -> WireRead
 }
 
 // The wires of a gate, and where they end.
-#[derive(Drop)]
+#[derive(Clone, Copy)]
 struct WiresRead {
     wires: Wires,
     end: usize,
@@ -54,7 +54,7 @@ fn read_wires(s: &[u8], at: usize, n: usize) -> WiresRead
 }
 
 // A gate's line: where its bits start and end, its wires, and where the line ends.
-#[derive(Drop)]
+#[derive(Clone, Copy)]
 pub enum GateRead {
     At(usize, usize, Wires, usize),
     Nothing,

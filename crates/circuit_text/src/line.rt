@@ -9,7 +9,7 @@ use forms::{InRead, OutRead};
 use rules::{Settings, Wire};
 
 // Its settings; its name from start to end, and its weight; its bits from start to end, and its wires; its name, and its wire. Last, where the line ends.
-#[derive(Drop)]
+#[derive(Clone, Copy)]
 pub enum Line {
     Fbs(Settings, usize),
     In(usize, usize, u8, usize),

@@ -10,7 +10,7 @@ use rules::{Limit, Policy, Settings};
 use text::{Found, Number};
 
 // POLICY, and where it ends.
-#[derive(Drop)]
+#[derive(Clone, Copy)]
 enum PolicyRead {
     At(Policy, usize),
     Nothing,
@@ -33,7 +33,7 @@ fn read_policy(s: &[u8], at: usize) -> PolicyRead
 }
 
 // TABLES, whether there may be many, and where it ends.
-#[derive(Drop)]
+#[derive(Clone, Copy)]
 enum TablesRead {
     At(bool, usize),
     Nothing,
@@ -53,7 +53,7 @@ fn read_tables(s: &[u8], at: usize) -> TablesRead
 }
 
 // NORM, POLICY and TABLES, and where the line ends.
-#[derive(Drop)]
+#[derive(Clone, Copy)]
 enum TailRead {
     At(Limit, Policy, bool, usize),
     Nothing,
@@ -85,7 +85,7 @@ fn read_tail(s: &[u8], at: usize) -> TailRead
 }
 
 // An `fbs` line, its numbers at most 65536, and where it ends.
-#[derive(Drop)]
+#[derive(Clone, Copy)]
 pub enum FbsRead {
     At(Settings, usize),
     Nothing,

@@ -1,4 +1,6 @@
 // Two cones under a gate: their sources together, and at each row over them both values and the gate's answer. It leans on `cone`, `support` and `linear`.
+#![tactic(auto)]
+
 pub mod simplify;
 
 ghost use Rattle.std.specs.Prelude.{◌≡◌, map, ◌≤◌, ◌^◌, length, take};
@@ -16,7 +18,7 @@ use linear::{rows_of, values_of};
 use support::{Support, coefficients_over, toggle_masks, union_support};
 
 // Two cones laid over their sources together: the first n sources, and both rows of coefficients over them.
-#[derive(Drop)]
+#[derive(Clone, Copy)]
 pub struct Basis {
     pub n: usize,
     pub support: [usize; 11],

@@ -10,7 +10,7 @@ ghost use Rattle.compose.specs.Simplify.{IsRetained};
 use cone::Cone;
 
 // The first n sources and coefficients of a sum.
-#[derive(Drop)]
+#[derive(Clone, Copy)]
 pub struct Retained {
     pub n: usize,
     pub support: [usize; 11],

@@ -1,4 +1,6 @@
 // What is left when all outputs are mapped: the nodes that are kept, Basic's last check, and the text. It leans on `prune` and `writer`.
+#![tactic(auto)]
+
 pub mod live;
 pub mod norm;
 

@@ -1,5 +1,7 @@
 // Cones: sources, a coefficient each, a bit for each assignment (first source the highest bit). A cone alone: its values, its order, a gate of one
 // input behind it, and whether it may be bootstrapped. It leans on `linear`, `scale`, `rotation` and the store's records (`nodes`).
+#![tactic(auto)]
+
 pub mod order;
 pub mod table;
 pub mod unary;
@@ -18,7 +20,7 @@ use linear::{linear_least, linear_span};
 
 // The first n sources and coefficients, and the truth of the rows at each value, the least value first: 0, 1, or 2 where no row has it.
 // What stands past the sources and past the span does not matter.
-#[derive(Drop)]
+#[derive(Clone, Copy)]
 pub struct Cone {
     pub n: usize,
     pub support: [usize; 11],
@@ -27,7 +29,7 @@ pub struct Cone {
 }
 
 // What a cone with no source is.
-#[derive(Drop)]
+#[derive(Clone, Copy)]
 pub enum Constant {
     Bit(u8),
     No,

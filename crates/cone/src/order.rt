@@ -11,7 +11,7 @@ ghost use Rattle.cone.specs.Order.{key_of, sides_of};
 use crate::Cone;
 
 // Span, then norm.
-#[derive(Drop)]
+#[derive(Clone, Copy)]
 pub struct OrderKey {
     pub span: usize,
     pub norm: u64,
@@ -40,14 +40,14 @@ pub fn is_less(a: OrderKey, b: OrderKey) -> bool
 }
 
 // One side of a binary gate: its cone, and whether it was bootstrapped here.
-#[derive(Drop)]
+#[derive(Clone, Copy)]
 pub struct Side {
     pub cone: Cone,
     pub new: bool,
 }
 
 // Both sides, the gate's answers for them, and whether they have changed places.
-#[derive(Drop)]
+#[derive(Clone, Copy)]
 pub struct Sides {
     pub left: Side,
     pub right: Side,

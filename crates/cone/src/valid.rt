@@ -11,7 +11,7 @@ use crate::Cone;
 use rules::{Limit, Settings};
 
 // What validate_cone finds.
-#[derive(Drop)]
+#[derive(Clone, Copy)]
 pub enum Validity {
     Valid,
     // 8: the norm is over the limit

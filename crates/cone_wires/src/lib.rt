@@ -3,6 +3,8 @@
 //   1    three bytes for each source: its coefficient + 32, its node's number / 256 and % 256
 //   34   the truth at each value
 // It leans on `cone`.
+#![tactic(auto)]
+
 ghost use Rattle.std.specs.Prelude.{◌≡◌, ℕ, ◌+◌, ◌≤◌, ◌<◌, nat_abs, length, get_or, take};
 ghost use Rattle.scale.specs.Limits.{Within};
 ghost use Rattle.cone.specs.View.{IsCone};

@@ -1,4 +1,6 @@
 // The converter between the editions of the network text (document 02, S-11). It leans on the reader (`edition`), on `regroup` and the writers.
+#![tactic(auto)]
+
 mod arrays;
 mod texts;
 

@@ -1,5 +1,7 @@
 // A network's text of either edition (document 02, S-11), told by how it begins, read as admission reads it. It leans on the plain text's
 // reader (`network`), on one line of edition 2 (`many_text`) and on the conditions of its `many` lines (`many_judge`).
+#![tactic(auto)]
+
 mod take;
 
 ghost use Rattle.std.specs.Prelude.{◌≡◌, length};

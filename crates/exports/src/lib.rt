@@ -1,5 +1,7 @@
 // The entries for an evaluator in C, C++ or Rust: include/wonkpecan.h says how to call them. A reply is numbers in a struct, by value.
 // It leans on the entries and on nothing below them.
+#![tactic(auto)]
+
 mod numbers;
 
 ghost use Rattle.std.specs.Prelude.{◌≡◌};
@@ -19,7 +21,7 @@ use crate::numbers::{
 
 // 0 and the count of bytes or values written, or the number and the line of the refusal.
 #[repr(C)]
-#[derive(Drop)]
+#[derive(Clone, Copy)]
 pub struct FbsReply {
     pub number: usize,
     pub line: usize,
@@ -28,7 +30,7 @@ pub struct FbsReply {
 
 // 0, the count of bits written and the centre of the table, or the number; the line is 0.
 #[repr(C)]
-#[derive(Drop)]
+#[derive(Clone, Copy)]
 pub struct FbsTable {
     pub number: usize,
     pub line: usize,
@@ -38,7 +40,7 @@ pub struct FbsTable {
 
 // 0 and the statistics, or the number and the line of the refusal.
 #[repr(C)]
-#[derive(Drop)]
+#[derive(Clone, Copy)]
 pub struct FbsAdmission {
     pub number: usize,
     pub line: usize,
@@ -60,7 +62,7 @@ pub struct FbsAdmission {
 
 // 0 and the count of bits, or the number and the line; the bits of the terms in their order, 0 in each place that is none of theirs.
 #[repr(C)]
-#[derive(Drop)]
+#[derive(Clone, Copy)]
 pub struct FbsSum {
     pub number: usize,
     pub line: usize,
@@ -70,7 +72,7 @@ pub struct FbsSum {
 
 // 0 and the slot, or the number; the line is 0.
 #[repr(C)]
-#[derive(Drop)]
+#[derive(Clone, Copy)]
 pub struct FbsSlot {
     pub number: usize,
     pub line: usize,

@@ -62,4 +62,4 @@ cap_exact (negsuc n) h =
 pub cap_back : (z u : ℤ) → z ≡ cap_signed u → to_z w64 (of_z w64 z) ≡ cap_signed u
 cap_back z u e =
     let h : nat_abs z < 2 ^ 63 = rw (e, cap_abs u) (omega arith) in
-    to_z-of_z (fits_abs z h) ∙ e
+    to_z-of_z {w = w64} (fits_abs z h) ∙ e

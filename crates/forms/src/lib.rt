@@ -1,5 +1,7 @@
 // What both texts are made of, from pieces: wires, norm limits, numbers with a sign, weights, and the lines `(in NAME)`, `(in NAME W)` and `(out NAME WIRE)`.
 // It leans on the pieces (`text`) and on no other code.
+#![tactic(auto)]
+
 ghost use Rattle.std.specs.Prelude.{◌≡◌, ◌≤◌, pos, neg_ℤ, length, drop};
 ghost use Rattle.rules.specs.Form.{wire, norm, signed};
 ghost use Rattle.text.specs.Capped.{capped};
@@ -14,7 +16,7 @@ use rules::{Limit, Wire};
 use text::{Found, Number, read_name, read_number, read_word};
 
 // A wire, its ID at most 65536, and where it ends.
-#[derive(Drop)]
+#[derive(Clone, Copy)]
 pub enum WireRead {
     At(Wire, usize),
     Nothing,
@@ -55,7 +57,7 @@ pub fn read_wire(s: &[u8], at: usize) -> WireRead
 }
 
 // A norm limit, and where it ends.
-#[derive(Drop)]
+#[derive(Clone, Copy)]
 pub enum LimitRead {
     At(Limit, usize),
     Nothing,
@@ -79,7 +81,7 @@ pub fn read_norm(s: &[u8], at: usize) -> LimitRead
 }
 
 // A number with a sign, from -65536 to 65536, and where it ends.
-#[derive(Drop)]
+#[derive(Clone, Copy)]
 pub enum Signed {
     At(i64, usize),
     Nothing,
@@ -124,7 +126,7 @@ pub fn read_signed(s: &[u8], at: usize) -> Signed
 }
 
 // The weight behind an input's name, and where it ends.
-#[derive(Drop)]
+#[derive(Clone, Copy)]
 struct Weight {
     value: u8,
     end: usize,
@@ -155,7 +157,7 @@ fn read_weight(s: &[u8], at: usize) -> Weight
 }
 
 // An input's name, from its start to its end, its weight, and where the line ends.
-#[derive(Drop)]
+#[derive(Clone, Copy)]
 pub enum InRead {
     At(usize, usize, u8, usize),
     Nothing,
@@ -180,7 +182,7 @@ pub fn read_in(s: &[u8], at: usize) -> InRead
 }
 
 // A line's name, from its start to its end, its wire, and where the line ends.
-#[derive(Drop)]
+#[derive(Clone, Copy)]
 pub enum OutRead {
     At(usize, usize, Wire, usize),
     Nothing,

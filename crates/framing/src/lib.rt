@@ -1,10 +1,12 @@
 // The service's framing: jobs cut out of a stream of bytes, each closed by a line that is exactly `(end)`. It leans on no other code.
+#![tactic(auto)]
+
 ghost use Rattle.std.specs.Prelude.{◌≡◌, ◌+◌, ◌<◌, min, ltb, get_or, set};
 ghost use Rattle.framing.specs.Step.{end_word, start, next, next_match, closed_by, line_ended, line_on, fed_to, fed, Within};
 
 // What is known of the bytes since the last job. Both counts stop at 32,769, one over the limit, so that no input is
 // too long for them.
-#[derive(Drop)]
+#[derive(Clone, Copy)]
 pub struct Feed {
     // how many bytes have come
     pub count: usize,
@@ -15,7 +17,7 @@ pub struct Feed {
 }
 
 // What a byte brings about.
-#[derive(Drop)]
+#[derive(Clone, Copy)]
 pub enum Event {
     // the job goes on
     More(Feed),

@@ -22,7 +22,7 @@ use cone::{Cone, Constant};
 use rules::Settings;
 
 // The gate's cone, and both sides, the first input left, with those that were bootstrapped; or the number of the refusal.
-#[derive(Drop)]
+#[derive(Clone, Copy)]
 pub struct Mapped {
     pub number: usize,
     pub count: usize,
@@ -32,7 +32,7 @@ pub struct Mapped {
 }
 
 // Both sides after bootstraps.
-#[derive(Drop)]
+#[derive(Clone, Copy)]
 pub struct Limited {
     pub count: usize,
     pub sides: Sides,

@@ -1,5 +1,7 @@
 // The gates of a circuit in turn, from its inputs on: each mapped, forced where it must be, and put among the wires.
 // It leans on one gate (`gate`) and on the wires (`cone_wires`).
+#![tactic(auto)]
+
 pub mod start;
 
 ghost use Rattle.std.specs.Prelude.{◌≡◌, true, List, map, ℕ, ◌+◌, ◌*◌, ◌≤◌, ◌<◌, length, get_or};
@@ -24,7 +26,7 @@ use gate::map::{Mapped, map_two, map_unary};
 use rules::{Policy, Settings};
 
 // How many nodes there are; or the refusal with its line.
-#[derive(Drop)]
+#[derive(Clone, Copy)]
 pub struct Work {
     pub number: usize,
     pub line: usize,

@@ -1,4 +1,6 @@
 // The values of a linear form, one for each assignment of its sources, their span and the least of them. It leans on `scale`.
+#![tactic(auto)]
+
 ghost use Rattle.std.specs.Prelude.{◌≡◌, ◌++◌, ◌+◌, ◌≤◌, ◌^◌, length, take, nat_abs};
 ghost use Rattle.laws.specs.Over.{over};
 ghost use Rattle.rules.specs.Cone.{linear_table};

@@ -7,7 +7,7 @@ ghost use Rattle.lut.specs.Forms.{place_of, AlignedTo, FormOf, form_terms, Nodes
 use nodes::node::{BOOTSTRAP, LINEAR, coef_of, kind_of, size_of, source_of};
 
 // The coefficients of a sum over a support; not ok where it has other sources.
-#[derive(Drop)]
+#[derive(Clone, Copy)]
 pub struct Aligned {
     pub ok: bool,
     pub coefs: [i64; 11],

@@ -1,5 +1,7 @@
 // The node store (src/lut.rs): the records of `nodes` and a count, equal nodes shared, sums with their terms in order, what is bootstrapped already.
 // It leans on `nodes`.
+#![tactic(auto)]
+
 pub mod forms;
 mod order;
 pub mod reuse;
@@ -17,14 +19,14 @@ use nodes::record::Terms;
 use rotation::{centre_of, complete};
 
 // LutSignal
-#[derive(Drop)]
+#[derive(Clone, Copy)]
 pub enum Signal {
     Const(u8),
     Node(usize),
 }
 
 // The count of nodes, and the signal that was made or found.
-#[derive(Drop)]
+#[derive(Clone, Copy)]
 pub struct Linked {
     pub count: usize,
     pub signal: Signal,

@@ -1,5 +1,7 @@
 // The lowest of 21 to 24, 38 and 39 that a `many` line of edition 2 meets after the lines before it, 0 for none (document 02, S-11).
 // It leans on `network_bounds`, `network_judge` and `many_text`.
+#![tactic(auto)]
+
 mod table;
 
 ghost use Rattle.std.specs.Prelude.{◌≡◌, ◌≤◌, length};

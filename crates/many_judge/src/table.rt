@@ -14,7 +14,7 @@ ghost use Rattle.many_judge.specs.Faults.{faulty};
 use many_text::TableRead;
 
 // Its length is not the node's or over M (23); no rotation gives it (24); its centre is not the builder's (38).
-#[derive(Drop)]
+#[derive(Clone, Copy)]
 pub enum Fault {
     Misfit,
     Bent,

@@ -9,7 +9,7 @@ use rules::Limit;
 use text::{Found, Number};
 
 // What a line says: P, M and NORM; the node, where its tables stand, and how many there are; or what the plain text's line says.
-#[derive(Drop)]
+#[derive(Clone, Copy)]
 pub enum Line {
     Bad,
     Net(usize, usize, Limit),
@@ -17,7 +17,7 @@ pub enum Line {
     Plain,
 }
 
-#[derive(Drop)]
+#[derive(Clone, Copy)]
 enum Net2Read {
     At(usize, usize, Limit, usize),
     Nothing,

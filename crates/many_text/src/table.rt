@@ -7,7 +7,7 @@ ghost use Rattle.many_text.specs.Tables.{centre_taken, centre_end, ReadsTable, T
 use text::Found;
 
 // A centre, and where it ends.
-#[derive(Drop)]
+#[derive(Clone, Copy)]
 enum CentreRead {
     At(u8, usize),
     Nothing,
@@ -31,7 +31,7 @@ fn read_centre(l: &[u8], at: usize) -> CentreRead
 }
 
 // A table: where its bits start and end, its centre, and where it ends.
-#[derive(Drop)]
+#[derive(Clone, Copy)]
 pub enum TableRead {
     At(usize, usize, u8, usize),
     Nothing,
@@ -64,7 +64,7 @@ pub fn read_table(l: &[u8], at: usize) -> TableRead
 }
 
 // How many tables there are and where they end, if none has over 32 bits.
-#[derive(Drop)]
+#[derive(Clone, Copy)]
 pub struct Tables {
     pub good: bool,
     pub n: usize,

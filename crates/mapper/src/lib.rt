@@ -1,4 +1,6 @@
 // The mapper, from a circuit's text to a network's: the text read, gates and outputs in turn, the end. It leans on `circuit`, `gates`, `outputs` and `conclude`.
+#![tactic(auto)]
+
 mod once;
 
 ghost use Rattle.std.specs.Prelude.{◌≡◌};

@@ -2,7 +2,7 @@
 ghost use Rattle.std.specs.Prelude.{◌≡◌, ℕ, ◌+◌, ◌≤◌, ◌<◌, ◌^◌, pos, nat_abs, ◌+ℤ◌, ◌*ℤ◌, length, get_or, take};
 ghost use Rattle.merged_rows.specs.EnergyRows.{no_row, row_of, Small, InRows, SoFar, add_row, moments_of};
 
-#[derive(Drop)]
+#[derive(Clone, Copy)]
 pub struct Moments {
     pub xx: i64,
     pub xy: i64,
@@ -10,7 +10,7 @@ pub struct Moments {
 }
 
 // A compacted row: the two values, the gate's answer, and how many assignments have them.
-#[derive(Drop)]
+#[derive(Clone, Copy)]
 pub struct CandidateRow {
     pub x: i32,
     pub y: i32,

@@ -4,7 +4,7 @@ ghost use Rattle.merged_rows.specs.RowsFrame.{InFrame, Framed, Moved, cell_of};
 ghost use Rattle.merged_rows.specs.RowsCompacted.{Compacted};
 
 // The grid of all rows: the least values of both sides, and how many values the right one has.
-#[derive(Drop)]
+#[derive(Clone, Copy)]
 pub struct Frame {
     pub x_low: i64,
     pub y_low: i64,

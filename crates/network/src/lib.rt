@@ -1,5 +1,7 @@
 // A network's text read once: judged line by line (21 and 22, or 21 to 26), its nodes put into the node store, its outputs among the ports.
 // It leans on `network_judge`, one line's reader (`network_text`) and the store (`lut`).
+#![tactic(auto)]
+
 pub mod put;
 
 ghost use Rattle.std.specs.Prelude.{◌≡◌, length};
@@ -11,7 +13,7 @@ use network_judge::Header;
 use rules::Limit;
 
 // What a text says: its network, or the number and the line of its refusal.
-#[derive(Drop)]
+#[derive(Clone, Copy)]
 pub enum Reading {
     Good(Header),
     Refused(usize, usize),

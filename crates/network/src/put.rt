@@ -169,7 +169,7 @@ fn put_line(
 }
 
 // The lines so far with one more, or the number that it is refused with.
-#[derive(Drop)]
+#[derive(Clone, Copy)]
 pub struct Step {
     pub number: usize,
     pub header: Header,

@@ -1,4 +1,6 @@
 // The lowest of 21 to 26 that a line of a network meets after the lines before it, 0 for none. It leans on `network_bounds` and `network_text`.
+#![tactic(auto)]
+
 ghost use Rattle.std.specs.Prelude.{◌≡◌, false, ◌-◌, ◌<◌, length, take, drop};
 ghost use Rattle.rules.specs.CircuitText.{same_name, listed};
 ghost use Rattle.rules.specs.Network.{is_linear};
@@ -15,7 +17,7 @@ use network_text::{Lin, Line, Read};
 use rules::{Limit, Wire};
 
 // P, M and NORM of the `net` line, and how many nodes, inputs and outputs there are; P is 0 before the `net` line.
-#[derive(Drop)]
+#[derive(Clone, Copy)]
 pub struct Header {
     pub p: usize,
     pub m: usize,

@@ -1,4 +1,6 @@
 // A network run: its text read into the node store, its nodes run in order, its outputs' values written. It leans on the reader (`network`).
+#![tactic(auto)]
+
 mod value;
 mod walk;
 mod write;

@@ -9,7 +9,7 @@ ghost use Rattle.network_run.specs.Value.{value_of, SmallValue, looked, Before, 
 use nodes::node::{INPUT, LINEAR, coef_of, constant_of, kind_of, size_of, source_of, table_of};
 
 // A node's value, or that its boot breaks off.
-#[derive(Drop)]
+#[derive(Clone, Copy)]
 pub enum Value {
     At(i64),
     Broken,

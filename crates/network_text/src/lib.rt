@@ -1,4 +1,6 @@
 // The lines of a network's text. It leans on what both texts are made of (`forms`, `text`).
+#![tactic(auto)]
+
 mod line;
 mod sum;
 

@@ -11,7 +11,7 @@ use rules::{Limit, Wire};
 use text::{Found, Number};
 
 // What a line says: P, M and NORM; where the name stands, and the weight; a sum; the node and where the bits stand; where the name stands, and the wire.
-#[derive(Drop)]
+#[derive(Clone, Copy)]
 pub enum Line {
     Bad,
     Net(usize, usize, Limit),
@@ -22,19 +22,19 @@ pub enum Line {
 }
 
 // A line, and the sum that `Line::Lin` is.
-#[derive(Drop)]
+#[derive(Clone, Copy)]
 pub struct Read {
     pub line: Line,
     pub lin: Lin,
 }
 
-#[derive(Drop)]
+#[derive(Clone, Copy)]
 enum NetRead {
     At(usize, usize, Limit, usize),
     Nothing,
 }
 
-#[derive(Drop)]
+#[derive(Clone, Copy)]
 enum BootRead {
     At(usize, usize, usize, usize),
     Nothing,

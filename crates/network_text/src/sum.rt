@@ -11,7 +11,7 @@ use forms::Signed;
 use text::{Found, Number};
 
 // A sum: CONST, and n terms of a coefficient and a node each. A node's number is kept up to 65536.
-#[derive(Drop)]
+#[derive(Clone, Copy)]
 pub struct Lin {
     pub constant: i64,
     pub n: usize,
@@ -20,7 +20,7 @@ pub struct Lin {
 }
 
 // A term: its coefficient, its node, where the node's digits stand, and where the term ends.
-#[derive(Drop)]
+#[derive(Clone, Copy)]
 enum TermRead {
     At(i64, usize, usize, usize, usize),
     Nothing,
@@ -73,7 +73,7 @@ fn is_good_coef(coef: i64) -> bool
 }
 
 // The terms so far, and where the digits of their nodes stand.
-#[derive(Drop)]
+#[derive(Clone, Copy)]
 struct Terms {
     lin: Lin,
     starts: [usize; 11],
@@ -160,7 +160,7 @@ fn is_good_term(l: &[u8], t: Terms, coef: i64, a: usize, e: usize) -> bool
 }
 
 // The sum so far, whether it is a good one, and where its terms end.
-#[derive(Drop)]
+#[derive(Clone, Copy)]
 struct Gathered {
     good: bool,
     lin: Lin,
@@ -209,7 +209,7 @@ pub fn is_closed(l: &[u8], at: usize) -> bool
 }
 
 // A sum, if it is a good one.
-#[derive(Drop)]
+#[derive(Clone, Copy)]
 pub struct LinRead {
     pub good: bool,
     pub lin: Lin,

@@ -125,7 +125,7 @@ module _ (count : ℕ) (t : Terms) (g : GoodTerms count t) (e : length t.coefs �
 
   -- what the machine reads
   pub good_read : to_z w64 (of_z w64 (get_or t.coefs k (pos 0))) ≡ get_or t.coefs k (pos 0)
-  good_read = to_z-of_z (fits_abs (get_or t.coefs k (pos 0)) (omega (arith, good_near)))
+  good_read = to_z-of_z {w = w64} (fits_abs (get_or t.coefs k (pos 0)) (omega (arith, good_near)))
 
 fine_select : (count : ℕ) (g : Term → Bool) (ts : List Term) → FineTerms count ts → FineTerms count (select g ts)
 unfolding FineTerms select

@@ -8,6 +8,8 @@
 //   38  its depth / 256 and % 256
 //   40  a bootstrap: the centre of its table
 // Bytes that are not used are 0, so equal nodes have equal records; depth and centre, which the 38 bytes before them give, are not compared.
+#![tactic(auto)]
+
 pub mod centre;
 pub mod depth;
 pub mod node;

@@ -5,7 +5,7 @@ ghost use Rattle.rules.specs.Network.{Input, Linear, Bootstrap};
 ghost use Rattle.nodes.specs.View.{given, biased, padded, record_of, terms_in, GoodTerms};
 
 // The terms of a sum: the first n.
-#[derive(Drop)]
+#[derive(Clone, Copy)]
 pub struct Terms {
     pub n: usize,
     pub constant: i64,

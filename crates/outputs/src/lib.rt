@@ -1,4 +1,6 @@
 // The outputs of a circuit in turn: the wire that each is, bootstrapped where it must be. It leans on `gates` and `bootstrap`.
+#![tactic(auto)]
+
 ghost use Rattle.std.specs.Prelude.{◌≡◌, true, List, [], ◌∷◌, ℕ, ◌+◌, ◌*◌, ◌≤◌, ◌<◌, pos, negsuc};
 ghost use Rattle.rules.specs.CircuitText.{in_limits};
 ghost use Rattle.rules.specs.Mapper.{cone_at, wire_of, output_signal, map_outputs};

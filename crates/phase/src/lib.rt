@@ -1,5 +1,7 @@
 // Phases on the 32-bit circle (document 02, S-5 and S-8): a value stands at a phase, an error is added, and the nearest slot is found.
 // It leans on no other code.
+#![tactic(auto)]
+
 ghost use Rattle.std.specs.Prelude.{◌≡◌, ◌+◌, ◌%◌, ◌^◌, ◌<◌, true, T, unsigned_abs};
 ghost use Rattle.std.specs.Int.Signed.{non_neg};
 ghost use Rattle.laws.specs.Modulo.{modulo};

@@ -1,4 +1,6 @@
 // What outputs need of the nodes: marks, and the numbers that the kept ones get. It leans on `nodes`.
+#![tactic(auto)]
+
 ghost use Rattle.std.specs.Prelude.{◌≡◌, not, ◌+◌, ◌≤◌, ◌<◌, eqb, length};
 ghost use Rattle.laws.specs.Test.{if◌then◌else◌};
 ghost use Rattle.rules.specs.Store.{needs, wanted_below};

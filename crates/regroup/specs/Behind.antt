@@ -1,6 +1,6 @@
 -- One put behind others, by its place among them.
 use Rattle.std.specs.Prelude.{◌≡◌, Bool, ◌&&◌, ◌⊎◌, set, take}
-use Rattle.std.proofs.Math.Path.{refl, sym, ap}
+use Rattle.std.proofs.Math.Path.{refl, sym, ap, subst}
 use Rattle.std.proofs.Common.{◌∙◌, true≢false, not-suc-le-zero, le_of_suc-le-suc, length-set, take_at, drop-cons, get_or-drop, get_or-set_other}
 use Rattle.std.proofs.Math.Bool.{true, false, not}
 use mathlib.Core.List.{List, [], ◌∷◌, ◌++◌}
@@ -105,7 +105,7 @@ module _ (f : ℕ → Bool) (x : ℕ) where
   behind_keeps j (y ∷ l) h = if_both (λ (r : List ℕ). member j r ≡ true) (f y && not (any f l)) (old (x ∷ l) (λ m. member-tail j x l m)) (old (behind f x l) (behind_keeps j l))
     where
       old : (r : List ℕ) → (member j l ≡ true → member j r ≡ true) → member j (y ∷ r) ≡ true
-      old r k = ⊎_elim (λ (e : j ≡ y). rw e (member_head y r)) (λ (m : member j l ≡ true). member-tail j y r (k m)) (member_cons j y l h)
+      old r k = ⊎_elim (λ (e : j ≡ y). subst (λ z. member z (y ∷ r) ≡ true) (sym e) (member_head y r)) (λ (m : member j l ≡ true). member-tail j y r (k m)) (member_cons j y l h)
 
   pub behind_from : (j : ℕ) (l : List ℕ) → member j (behind f x l) ≡ true → (j ≡ x) ⊎ (member j l ≡ true)
   unfolding behind

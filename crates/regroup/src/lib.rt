@@ -1,4 +1,6 @@
 // All tables of one node together: the new order of a network's nodes, and their new numbers. It leans on `nodes`.
+#![tactic(auto)]
+
 pub mod order;
 pub mod place;
 

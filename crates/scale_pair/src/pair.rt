@@ -9,7 +9,7 @@ ghost use Rattle.scale_pair.specs.Pair.{Rows, Scaling, merged_row, merged, weigh
 use rules::Settings;
 
 // Whether the pair is a candidate, the pair, the divisor of its coefficients, and of the normalised ones the least value, the span and the norm by weights.
-#[derive(Drop)]
+#[derive(Clone, Copy)]
 pub struct Pair {
     pub ok: bool,
     pub a: i64,

@@ -4,7 +4,7 @@ ghost use Rattle.rules.specs.Cone.{less};
 ghost use Rattle.scale_pair.specs.Score.{score_list, better_score, no_score};
 
 // Score: where a pair was found, what it is ranked by, in this order up to b; then the known entries of its table.
-#[derive(Drop)]
+#[derive(Clone, Copy)]
 pub struct Score {
     pub found: bool,
     pub reuse: usize,

@@ -1,4 +1,6 @@
 // The search for the scale pair under which two cones become one. It leans on `scale_pair`, `merged_rows` and the store (`lut`).
+#![tactic(auto)]
+
 mod forms;
 
 ghost use Rattle.std.specs.Prelude.{◌≡◌, Bool, List, ℕ, ◌-◌, ◌≤◌, ◌<◌, ◌^◌, nat_abs, neg_ℤ, ◌*ℤ◌, length, take};
@@ -25,7 +27,7 @@ use scale_pair::pair::{Pair, candidate_at, level, prepare_coefficients};
 use scale_pair::score::{Score, better, no_score};
 
 // The pairs: a from bottom up to and not including top; b from start to end likewise, less the origin.
-#[derive(Drop)]
+#[derive(Clone, Copy)]
 pub struct Ranges {
     pub bottom: usize,
     pub top: usize,

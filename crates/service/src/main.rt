@@ -1,5 +1,7 @@
 // The service: circuits on standard input, each closed by a line `(end)`; each is answered on standard output as soon as
 // that line has come, and before a later byte is looked at. It leans on `answer`, `framing` and the kit's read and write.
+#![tactic(auto)]
+
 ghost use Rattle.std.specs.Prelude.{true, ◌≡◌, ◌≤◌, length};
 ghost use Rattle.framing.specs.Step.{Within};
 ghost use Rattle.framing.specs.Feeding.{said, closing, fed_all, state_with};
@@ -37,7 +39,7 @@ fn tell_at_end(f: Feed, out: &mut [u8]) -> bool
 }
 
 // Whether the program goes on, and the state.
-#[derive(Drop)]
+#[derive(Clone, Copy)]
 struct Turn {
     more: bool,
     feed: Feed,

@@ -1,5 +1,7 @@
 // A reading that gives this sum (document 02, S-1): the first bits for the nodes that a `lin` adds which give a wanted value.
 // It leans on the reader (`network`).
+#![tactic(auto)]
+
 mod search;
 
 ghost use Rattle.std.specs.Prelude.{◌≡◌, true};

@@ -1,4 +1,6 @@
 // The sources of two cones together, and the masks by which a row of one moves to its next row over them. It leans on no other code.
+#![tactic(auto)]
+
 ghost use Rattle.std.specs.Prelude.{◌≡◌, map, ℕ, ◌+◌, ◌≤◌, ◌<◌, ◌^◌, length, take, get_or};
 ghost use Rattle.rules.specs.Composition.{union_support};
 ghost use Rattle.rules.specs.Store.{coefficient_of};
@@ -6,7 +8,7 @@ ghost use Rattle.theorems.specs.Terms.{terms_over};
 ghost use Rattle.support.specs.Rows.{position, hit_mask, toggle_mask};
 
 // The sources of a cone, or of two together: the first n; 0 past them.
-#[derive(Drop)]
+#[derive(Clone, Copy)]
 pub struct Support {
     pub n: usize,
     pub nodes: [usize; 11],

@@ -1,5 +1,7 @@
 // The pieces of a text: where a line ends, words, names, bits and numbers, each read from a place of the text; and bytes compared.
 // It leans on no other code.
+#![tactic(auto)]
+
 ghost use Rattle.std.specs.Prelude.{◌≡◌, ◌+◌, ◌*◌, ◌-◌, ◌<◌, ◌≤◌, min, length, take, drop};
 ghost use Rattle.rules.specs.CircuitText.{same_name};
 ghost use Rattle.rules.specs.Form.{exactly, is_digit, is_name_byte, is_bit_byte, name, bits};
@@ -24,7 +26,7 @@ pub fn line_end(s: &[u8], at: usize) -> usize
 }
 
 // Where a piece ends.
-#[derive(Drop)]
+#[derive(Clone, Copy)]
 pub enum Found {
     At(usize),
     Nothing,
@@ -49,7 +51,7 @@ pub fn read_word(s: &[u8], at: usize, w: &[u8]) -> Found
 }
 
 // The bytes that a run is made of.
-#[derive(Drop)]
+#[derive(Clone, Copy)]
 enum Kind {
     NameByte,
     Digit,
@@ -139,7 +141,7 @@ pub fn read_bits(s: &[u8], at: usize) -> Found
 }
 
 // A number: its value, at most 65536, and where it ends.
-#[derive(Drop)]
+#[derive(Clone, Copy)]
 pub enum Number {
     At(usize, usize),
     Nothing,

@@ -1,9 +1,11 @@
 // Numbers of a text, for programs that replay stored cases. It leans on no other code.
+#![tactic(auto)]
+
 ghost use Rattle.std.specs.Prelude.{◌≡◌, ◌≤◌, min};
 ghost use Rattle.vectors.specs.Token.{is_digit, starts_number, skipped, with_digit, digits_at, next_token, signed_of};
 
 // A number of a text: its absolute value, its sign, and where the text goes on.
-#[derive(Drop)]
+#[derive(Clone, Copy)]
 pub struct Token {
     pub value: u64,
     pub negative: bool,

@@ -1,6 +1,8 @@
 // Replays the table builder on the cases of standard input, a line of numbers each:
 // P, M, the answer buffer's length, the count of values and the values, the count of truths and the truths.
 // For each case it writes the reply's number, count and centre and the buffer, whose bytes were letters before.
+#![tactic(auto)]
+
 ghost use Rattle.std.specs.Prelude.{◌≡◌, map, ◌≤◌, length};
 ghost use Rattle.rules.specs.Builder.{builder};
 ghost use Rattle.vectors.specs.Token.{signed_of};

@@ -1,5 +1,7 @@
 // Replays composing and simplifying on the cones of standard input, a line each: P, M and NORM (0 for no limit), two cones and a gate's four answers.
 // A cone is the number of its sources, the sources, their coefficients and its truths. Each source weighs 1.
+#![tactic(auto)]
+
 ghost use Rattle.std.specs.Prelude.{◌≡◌, true, ℕ, ◌≤◌, ◌<◌, ◌^◌, length, get_or, take, nat_abs};
 ghost use Rattle.std.proofs.Math.Option.{some};
 ghost use Rattle.rules.specs.Builder.{known_entries};
@@ -22,7 +24,7 @@ use vectors::{Token, at_most, next_token, skip};
 // ---- reading
 
 // The sources of a cone, and where the text goes on.
-#[derive(Drop)]
+#[derive(Clone, Copy)]
 struct Nodes {
     nodes: [usize; 11],
     next: usize,
@@ -54,7 +56,7 @@ fn signed(n: Token) -> i64 {
     n.value as i64
 }
 
-#[derive(Drop)]
+#[derive(Clone, Copy)]
 struct Coefs {
     coefs: [i64; 11],
     next: usize,
@@ -85,7 +87,7 @@ fn behind(text: &[u8], at: usize) -> usize {
     if at < text.len() { at + 1 } else { at }
 }
 
-#[derive(Drop)]
+#[derive(Clone, Copy)]
 struct Truth {
     bits: [u8; 2048],
     next: usize,
@@ -106,7 +108,7 @@ fn read_truth(text: &[u8], from: usize, rows: usize) -> Truth
 }
 
 // A cone by its rows: the first n sources and coefficients, and a truth for each assignment of them.
-#[derive(Drop)]
+#[derive(Clone, Copy)]
 struct ConeRows {
     n: usize,
     support: [usize; 11],
@@ -114,7 +116,7 @@ struct ConeRows {
     truth: [u8; 2048],
 }
 
-#[derive(Drop)]
+#[derive(Clone, Copy)]
 struct Got {
     cone: ConeRows,
     next: usize,
@@ -213,7 +215,7 @@ fn is_form(n: usize, support: [usize; 11], coefs: [i64; 11]) -> bool
 }
 
 // The truth at each value; `one` where each value has one truth.
-#[derive(Drop)]
+#[derive(Clone, Copy)]
 struct Known {
     one: bool,
     known: [u8; 32],
@@ -241,7 +243,7 @@ fn known_of(n: usize, coefs: [i64; 11], truth: [u8; 2048]) -> Known
 }
 
 // A cone, where the rows are those of one.
-#[derive(Drop)]
+#[derive(Clone, Copy)]
 struct Made {
     is: bool,
     cone: Cone,

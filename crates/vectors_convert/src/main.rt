@@ -1,5 +1,7 @@
 // Replays the converter on the cases of standard input: a line `LEN COUNT`, LEN bytes of text and a newline each. The text is converted into a
 // buffer of COUNT bytes, each a `#` before. For each case it writes `0 BYTES` or `no NUMBER LINE`, and on a new line the buffer.
+#![tactic(auto)]
+
 use libc::{STDIN_FILENO, STDOUT_FILENO};
 use rules::MapReply;
 use vectors::{at_most, next_token, skip};

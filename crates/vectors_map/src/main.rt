@@ -1,5 +1,7 @@
 // Maps the circuits of standard input, each closed by an `(end)` line, into buffers that are long enough and too short.
 // For each: the answer with its `(end)`, then a line that says what every buffer got.
+#![tactic(auto)]
+
 ghost use Rattle.std.specs.Prelude.{◌≡◌, ◌≤◌, length};
 ghost use Rattle.framing.specs.Feeding.{state_with, after, fed_all};
 ghost use Rattle.framing.specs.Step.{fed};

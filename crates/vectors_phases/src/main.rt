@@ -1,4 +1,6 @@
 // Replays slots on the cases of standard input, a line `P VALUE ERROR` each. For each case it writes the reply's number and the slot.
+#![tactic(auto)]
+
 use libc::{STDIN_FILENO, STDOUT_FILENO};
 use vectors::{next_token, signed, skip};
 

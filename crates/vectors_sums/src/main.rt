@@ -1,5 +1,7 @@
 // Replays readings of sums on the cases of standard input: a line `LEN NODE VALUE`, LEN bytes of text and a newline each.
 // For each case it writes `0 COUNT`, `none` or `no NUMBER LINE`, and the 11 places for bits.
+#![tactic(auto)]
+
 use libc::{STDIN_FILENO, STDOUT_FILENO};
 use rules::{SumAnswer, SumReply};
 use vectors::{at_most, next_token, signed, skip};

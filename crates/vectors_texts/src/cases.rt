@@ -7,7 +7,7 @@ use crate::print::{end_line, put, put_all, put_next, put_value};
 use circuit::Reading;
 use rules::{AdmitReply, RunReply, Stats};
 
-#[derive(Drop)]
+#[derive(Clone, Copy)]
 struct Number {
     value: usize,
     end: usize,

@@ -1,4 +1,6 @@
 // Texts and their replies: each case on standard input is answered with one line. `cases` says how a case is laid out.
+#![tactic(auto)]
+
 mod cases;
 mod circuits;
 mod print;

@@ -1,4 +1,6 @@
 // Writing a network's text from the node store, dead nodes left out and numbers renewed. It leans on `lines` and `nodes`.
+#![tactic(auto)]
+
 pub mod node_lines;
 pub mod outputs;
 
@@ -12,7 +14,7 @@ ghost use Rattle.writer.specs.Whole.{network_of};
 use rules::Limit;
 
 // What is written beside the nodes: the settings, and how many outputs and nodes there are.
-#[derive(Drop)]
+#[derive(Clone, Copy)]
 pub struct Network {
     pub p: usize,
     pub m: usize,

@@ -1,4 +1,6 @@
 // Writing a network's text in edition 2 from the node store, its nodes in a new order. It leans on `writer`, `lines` and `nodes`.
+#![tactic(auto)]
+
 pub mod many;
 pub mod tables;
 

@@ -1,0 +1,100 @@
+use Rattle.std.proofs.Common.{◌≡◌, sym, ap, subst, ◌∙◌, Bool, true, false, List, ℕ, arith, T, ltb, ℤ, length, replicate, to_z-of_z, w32, to_z, of_z}
+use mathlib.Core.Option.{none, some}
+use borrow.Author.Tests.{not-true, not-false}
+use lib.ListN.{length-replicate}
+use Rattle.laws.specs.Over.{over}
+use Rattle.laws.specs.Test.{if◌then◌else◌}
+use Rattle.rules.specs.Builder.{Entries, completion, enter, known_entries, with_table, no_table, Built, built, from_table, from_known}
+use Rattle.rules.specs.Rotation.{rotatable, centre_of}
+use Rattle.rules.specs.Runs.{all_bits}
+use Rattle.rules.specs.Span.{least, span}
+use Rattle.theorems.specs.Completions.{completion_is, completes_bits}
+use Rattle.theorems.specs.Rows.{entered_entries, unknown_entries}
+use Rattle.builder.proofs.build_from_rows.Goals as goal
+use Rattle.builder.proofs.build_from_rows.Goals.{Else-not-enter, Start}
+
+-- `builder::build_from_rows` meets its contract.
+-- what was entered: r says whether the rows agree, k are the known entries after them
+module _ (low : ℤ) (values : List ℤ) (truths known k : List ℕ) (r : Bool)
+    (e : (if r then some k else none) ≡ enter low values truths known) (unknown : known ≡ replicate (span values) 2) where
+  known_entered : r ≡ true → Entries k
+  known_entered f =
+      let found : (if r then some k else none) ≡ some k = rw f in
+      (entered_entries low values truths known k (sym e ∙ found) (subst Entries (sym unknown) (unknown_entries (span values)))).0
+
+  -- the reply to it
+  module _ (P : ℕ) (b : List ℕ) (is-low : low ≡ least values) where
+    conflict : r ≡ false → built (no_table 32) b ≡ from_known P b (known_entries values truths)
+    unfolding from_known known_entries
+    conflict f = rw (← is-low, ← unknown, ← e, f)
+
+    all_entered : (o : Built) → r ≡ true → o ≡ from_table P b (completion P k) → o ≡ from_known P b (known_entries values truths)
+    unfolding from_known known_entries
+    all_entered o f g = rw (← is-low, ← unknown, ← e, f) g
+
+-- what was found: r says whether a completion was, t is the table after the search
+module _ (P : ℕ) (known t : List ℕ) (r : Bool) (e : (if r then some t else none) ≡ completion P known) where
+  found_turns : Entries known → r ≡ true → T (all_bits t) × T (rotatable P t)
+  found_turns entries f =
+      let found : (if r then some t else none) ≡ some t = rw f in
+      let is = completion_is known entries P t (sym e ∙ found) in
+      (completes_bits known t is.0, is.1)
+
+  -- the reply to it
+  module _ (b : List ℕ) where
+    no-completion : r ≡ false → built (no_table 33) b ≡ from_table P b (completion P known)
+    unfolding from_table
+    no-completion f = rw (← e, f)
+
+    completed : (o : Built) (c : ℕ) → r ≡ true → c ≡ centre_of P t
+        → o ≡ (if ltb (length b) (length t) then built (no_table 34) b else built (with_table (length t) c) (over t b)) → o ≡ from_table P b (completion P known)
+    unfolding from_table
+    completed o c f is g = rw (← e, f, ← is) g
+
+module _ (c : Start) where
+  low-is : to_z w32 (of_z w32 c.args.low) ≡ least c.args.values.now
+  low-is = to_z-of_z c.ranges.low ∙ c.requires.low_value.0
+
+  long : length c.args.known.now ≡ span c.args.values.now
+  long = ap length c.requires.low_value.1.0 ∙ length-replicate {A = ℕ} (span c.args.values.now) 2
+
+-- from where the rows are entered
+module _ (c : Else-not-enter) where
+  entries : Entries c.enter.new.1.1.1.0
+  entries =
+      let rows = c.enter in
+      known_entered _ _ _ _ rows.new.1.1.1.0 rows.result rows.ensures.1 c.requires.low_value.1.0 (not-false rows.result c.if-not-enter.false)
+
+  replied : (o : Built)
+      → o ≡ from_table c.args.size c.args.out.now (completion c.args.size c.enter.new.1.1.1.0)
+      → o ≡ from_known c.args.size c.args.out.now (known_entries c.args.values.now c.args.truths.now)
+  replied o g =
+      let rows = c.enter in
+      all_entered _ _ _ _ rows.new.1.1.1.0 rows.result rows.ensures.1 c.requires.low_value.1.0 _ _ (low-is start) o (not-false rows.result c.if-not-enter.false) g
+
+pub enter-requires : goal.enter-requires
+enter-requires c = (c.requires.values_len, (low-is (goal.at.enter-requires c).Start, omega (arith, long (goal.at.enter-requires c).Start)))
+
+pub returns-then-not-enter : goal.returns-then-not-enter
+returns-then-not-enter c =
+    let rows = c.enter in
+    conflict _ _ _ _ rows.new.1.1.1.0 rows.result rows.ensures.1 c.requires.low_value.1.0 _ _ (low-is (goal.at.returns-then-not-enter c).Start) (not-true rows.result c.if-not-enter.true)
+
+pub complete-requires : goal.complete-requires
+complete-requires c = record { known_len = omega (arith, long (start (goal.at.complete-requires c).After-slice_known-4-1)); entries = entries (goal.at.complete-requires c).After-slice_known-4-1 }
+
+pub returns-then-not-complete : goal.returns-then-not-complete
+returns-then-not-complete c =
+    let found = c.complete in
+    replied (goal.at.returns-then-not-complete c).After-slice_known-4-1 _ (no-completion _ _ found.new.1.1.0 found.result found.ensures.1 _ (not-true found.result c.if-not-complete.true))
+
+pub centre-c-requires : goal.centre-c-requires
+centre-c-requires c =
+    let found = c.complete in
+    found_turns _ _ found.new.1.1.0 found.result found.ensures.1 (entries (goal.at.centre-c-requires c).After-known-1) (not-false found.result c.if-not-complete.false)
+
+pub returns : goal.returns
+returns c =
+    let found = c.complete in
+    replied (goal.at.returns c).After-enter _
+    (completed _ _ found.new.1.1.0 found.result found.ensures.1 _ _ _ (not-false found.result c.if-not-complete.false) c.centre-c.ensures c.write_table.ensures)

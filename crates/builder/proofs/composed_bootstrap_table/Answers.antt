@@ -1,0 +1,76 @@
+use Rattle.std.proofs.Common.{◌≡◌, sym, ap, ap₂, ◌∙◌, true, ◌+◌, ◌≤◌, arith, ℤ, nat_abs, ◌-ℤ◌, replicate, length-take-le, ◌≤ℤ◌, w32}
+use borrow.Author.Tests.{not-true, not-false}
+use Rattle.laws.specs.Integer.{ints, read_back-at}
+use Rattle.laws.specs.Tail.{take-replicate}
+use Rattle.rules.specs.Builder.{table_limits}
+use Rattle.rules.specs.Span.{span}
+use Rattle.theorems.specs.BuilderExact.{limits_most, bad_settings, lengths_differ, no_row, too_long_lem, from_rows}
+use Rattle.theorems.specs.Spans.{least_le, le_greatest, span_is}
+use Rattle.builder.proofs.composed_bootstrap_table.Goals as goal
+use Rattle.builder.proofs.composed_bootstrap_table.Goals.{After-span_of-length, Else-not-table_limits}
+
+-- `builder::composed_bootstrap_table` meets its contract.
+settings : (c : Else-not-table_limits) → table_limits c.args.p c.args.m ≡ true
+settings c = sym c.table_limits.ensures ∙ not-false c.table_limits.result c.if-not-table_limits.false
+
+-- the span is what the code reckons, and fits the arrays
+module _ (c : After-span_of-length) where
+  length_is : c.Span-of.result ≡ span c.args.values.now
+  length_is =
+      let bounds = c.bounds_of-bounds.ensures in
+      c.Span-of.ensures
+      ∙ ap (λ n. n + 1) (ap₂ (λ h l. nat_abs (h -ℤ l)) bounds.1 bounds.0)
+      ∙ sym (span_is c.args.values.now (omega (arith, c.if-values-eq0.false)))
+
+  fits : c.Span-of.result ≤ c.args.m → c.Span-of.result ≤ 32
+  fits h = omega (arith, limits_most _ _ (settings (goal.at.HERE c).Else-not-table_limits))
+
+ordered : (l h a b v : ℤ) → l ≡ a → h ≡ b → a ≤ℤ v → v ≤ℤ b → l ≤ℤ h
+ordered l h a b v e f i j = omega (arith, ints)
+
+pub returns-then-not-table_limits : goal.returns-then-not-table_limits
+returns-then-not-table_limits c = sym (bad_settings _ _ _ _ _ (sym c.table_limits.ensures ∙ not-true c.table_limits.result c.if-not-table_limits.true))
+
+pub returns-then-values-truths : goal.returns-then-values-truths
+returns-then-values-truths c = sym (lengths_differ _ _ _ _ _ (settings (goal.at.returns-then-values-truths c).Else-not-table_limits) c.if-values-truths.true)
+
+pub returns-then-values-eq0 : goal.returns-then-values-eq0
+returns-then-values-eq0 c = sym (no_row _ _ _ _ _ (settings (goal.at.returns-then-values-eq0 c).Else-not-table_limits) c.if-values-truths.false c.if-values-eq0.true)
+
+pub span_of-length-requires : goal.span_of-length-requires
+span_of-length-requires c =
+    let values = c.args.values.now in
+    ordered _ _ _ _ _ c.bounds_of-bounds.ensures.0 c.bounds_of-bounds.ensures.1 (least_le values 0 (omega (arith, c.if-values-eq0.false))) (le_greatest values 0 (omega (arith, c.if-values-eq0.false)))
+
+pub returns-then-m-length : goal.returns-then-m-length
+returns-then-m-length c = sym (too_long_lem _ _ _ _ _ (settings (goal.at.returns-then-m-length c).Else-not-table_limits) c.if-values-truths.false c.if-values-eq0.false (omega (arith, length_is (goal.at.returns-then-m-length c).After-span_of-length)))
+
+pub slice_bounds-known-end : goal.slice_bounds-known-end
+slice_bounds-known-end c = fits (goal.at.slice_bounds-known-end c).After-span_of-length c.if-m-length.false
+
+pub slice_bounds-build_from_rows-end : goal.slice_bounds-build_from_rows-end
+slice_bounds-build_from_rows-end c = sym (length-take-le _ _ (fits (goal.at.slice_bounds-build_from_rows-end c).After-span_of-length c.if-m-length.false))
+
+pub slice_bounds-table-end : goal.slice_bounds-table-end
+slice_bounds-table-end c = fits (goal.at.slice_bounds-table-end c).After-span_of-length c.if-m-length.false
+
+pub slice_bounds-build_from_rows-end-2 : goal.slice_bounds-build_from_rows-end-2
+slice_bounds-build_from_rows-end-2 c = sym (length-take-le _ _ (fits (goal.at.slice_bounds-build_from_rows-end-2 c).After-span_of-length c.if-m-length.false))
+
+pub build_from_rows-requires : goal.build_from_rows-requires
+build_from_rows-requires c =
+    let room = fits (goal.at.build_from_rows-requires c).After-span_of-length c.if-m-length.false in (
+      c.if-values-truths.false,
+      (
+        read_back-at w32 _ c.struct_told-1.given.0.1 ∙ c.bounds_of-bounds.ensures.0,
+        (
+          take-replicate c.Span-of.result 32 2 room ∙ ap (λ n. replicate n 2) (length_is (goal.at.build_from_rows-requires c).After-span_of-length),
+          length-take-le _ _ room ∙ length_is (goal.at.build_from_rows-requires c).After-span_of-length,
+        ),
+      ),
+    )
+
+pub returns : goal.returns
+returns c =
+    c.build_from_rows.ensures
+    ∙ sym (from_rows _ _ _ _ _ (settings (goal.at.returns c).Else-not-table_limits) c.if-values-truths.false c.if-values-eq0.false (omega (arith, length_is (goal.at.returns c).After-span_of-length, c.if-m-length.false)))

@@ -1,0 +1,20 @@
+use Rattle.std.proofs.Common.{refl, sym, rules}
+use Rattle.rules.specs.CircuitText.{tables}
+use Rattle.text.specs.Chain.{step, stop, first, second}
+use Rattle.text.specs.Reads.{passed, end_of, found, ends}
+use Rattle.circuit_text.proofs.settings.read_tables.Goals as goal
+
+pub returns-in-At : goal.returns-in-At
+unfolding tables
+returns-in-At c =
+    record { same = sym (first _ (step _ (found (passed _) c.read_word.ensures c.in-At.is) refl)); inside = (ends end_of c.read_word.ensures c.in-At.is) }
+
+pub returns-in_default-read_word : goal.returns-in_default-read_word
+unfolding tables
+returns-in_default-read_word c =
+    record { same = sym (second _ (stop _ (found (passed _) c.read_word.ensures c.in_default.is)) (stop _ (found (passed _) c.read_word-2.ensures c.in_default-read_word.is))); inside = search rules }
+
+pub returns : goal.returns
+unfolding tables
+returns c =
+    record { same = sym (second _ (stop _ (found (passed _) c.read_word.ensures c.in_default.is)) (step _ (found (passed _) c.read_word-2.ensures c.in-At-read_word.is) refl)); inside = (ends end_of c.read_word-2.ensures c.in-At-read_word.is) }

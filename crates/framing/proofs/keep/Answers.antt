@@ -1,0 +1,6 @@
+use Rattle.std.proofs.Common.{sym, arith}
+use lib.Seq.{set_out}
+use Rattle.framing.proofs.keep.Goals as goal
+
+pub returns-else-at-job : goal.returns-else-at-job
+returns-else-at-job c = sym (set_out _ _ _ (omega arith))

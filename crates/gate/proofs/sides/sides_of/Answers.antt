@@ -1,0 +1,20 @@
+use Rattle.std.proofs.Common.{◌≡◌, sym, ap₂, ◌∙◌, Bool, ℕ}
+use Rattle.rules.specs.Cone.{less, cone_order_key}
+use Rattle.cone.specs.View.{cone_of}
+use Rattle.cone.specs.Sources.{Below}
+use Rattle.nodes.specs.View.{store_of}
+use Rattle.gate.specs.GateSteps.{sides_switched, sides_kept, same_switched, same_kept}
+use Rattle.gate.proofs.sides.sides_of.Goals as goal
+use Rattle.gate.proofs.sides.sides_of.Goals.{After-is_less}
+
+-- `gate::sides::sides_of` meets its contract.
+test : (c : After-is_less) → let a = c.args in
+    (count : ℕ) → Below count (cone_of a.left) → Below count (cone_of a.right)
+    → less (cone_order_key (store_of a.nodes.now count) (cone_of a.left)) (cone_order_key (store_of a.nodes.now count) (cone_of a.right)) ≡ c.is_less.result
+test c count l r = sym (c.is_less.ensures ∙ ap₂ {C = Bool} less (c.cone_order_key.ensures count l) (c.cone_order_key-2.ensures count r))
+
+pub returns-then-is_less : goal.returns-then-is_less
+returns-then-is_less c = let a = c.args in let w = c.switch_inputs in (λ count l r. sides_switched a.left a.right a.gate _ _ (test (goal.at.returns-then-is_less c).After-is_less count l r ∙ c.if-is_less.true) (w.ensures.0 _), same_switched a.left a.right a.gate _ w.ensures.0 w.ensures.1)
+
+pub returns : goal.returns
+returns c = let a = c.args in (λ count l r. sides_kept a.left a.right a.gate _ (test (goal.at.returns c).After-is_less count l r ∙ c.if-is_less.false), same_kept a.left a.right a.gate)

@@ -1,0 +1,24 @@
+use Rattle.std.proofs.Common.{sym, ◌∙◌}
+use Rattle.network_bounds.specs.Bounds.{other-bit, bit_low, bit_high}
+use Rattle.laws.specs.Integer.{read_back}
+use Rattle.network_bounds.proofs.bounds.is_bit.Goals as goal
+
+pub returns-then-not-is_sum : goal.returns-then-not-is_sum
+returns-then-not-is_sum c = other-bit _ (sym c.is_sum.ensures ∙ c.if-not-is_sum.true)
+
+pub extreme_sum-requires : goal.extreme_sum-requires
+extreme_sum-requires c = (c.requires, sym c.is_sum.ensures ∙ c.if-not-is_sum.false)
+
+pub returns-then-extreme_sum-lt0 : goal.returns-then-extreme_sum-lt0
+returns-then-extreme_sum-lt0 c =
+    let r = c.extreme_sum in
+    bit_low _ _ r.ensures.0 (simp (read_back r.result r.type_inv) at c.if-extreme_sum-lt0.true)
+
+pub extreme_sum-requires-2 : goal.extreme_sum-requires-2
+extreme_sum-requires-2 c = (c.requires, sym c.is_sum.ensures ∙ c.if-not-is_sum.false)
+
+pub returns : goal.returns
+returns c =
+    let r = c.extreme_sum in
+    let q = c.extreme_sum-2 in
+    simp (read_back q.result q.type_inv) (bit_high _ _ r.ensures.0 _ q.ensures.0 (simp (read_back r.result r.type_inv) at c.if-extreme_sum-lt0.false))

@@ -1,0 +1,65 @@
+use Rattle.std.proofs.Common.{◌≡◌, sym, ap₂, ◌∙◌, true≢false, Option, ◌<◌, arith, ℤ, pos, get_or}
+use Rattle.laws.specs.Integer.{read_back}
+use Rattle.nodes.specs.Kinds.{sum_kind, boot_kind, third_kind}
+use Rattle.nodes.specs.Nodes.{kind_of, source_before}
+use Rattle.lut.specs.Reuse.{boot_source}
+use Rattle.nodes.specs.View.{node_of}
+use Rattle.network_run.specs.Value.{looked, input_value, sum_value, table_value}
+use Rattle.network_run.proofs.value.node_value.Goals as goal
+use Rattle.network_run.proofs.value.node_value.Goals.{After-table_of, Else-kind-eq-LINEAR}
+
+-- what is left is a boot
+boot : (c : Else-kind-eq-LINEAR) → kind_of (node_of c.args.nodes.now c.args.i) ≡ 2
+boot c =
+    let k = c.kind_of-kind.ensures in
+    third_kind _ (λ e. c.if-kind-eq-INPUT.false (k ∙ e)) (λ e. c.if-kind-eq-LINEAR.false (k ∙ e))
+
+source : (c : After-table_of) → c.source_of-source.result < 672
+source c =
+    let n = node_of c.args.nodes.now c.args.i in
+    omega (arith, source_before c.args.i n c.requires.node.fine 0 (boot_source n (boot (goal.at.HERE c).Else-kind-eq-LINEAR)), c.source_of-source.ensures, c.requires.node.inside)
+
+-- `network_run::value::node_value` meets its contract.
+pub kind_of-kind-requires : goal.kind_of-kind-requires
+kind_of-kind-requires c = c.requires.node
+
+pub returns-then-kind-eq-INPUT : goal.returns-then-kind-eq-INPUT
+returns-then-kind-eq-INPUT c =
+    let k = c.kind_of-kind.ensures in
+    simp (read_back c.bit_at.result c.bit_at.type_inv)
+    (record { is = input_value c.args.bits.now c.args.values.now c.args.i (node_of c.args.nodes.now c.args.i) _ (sym k ∙ c.if-kind-eq-INPUT.true) c.bit_at.ensures.0; small = λ _. c.bit_at.ensures.1 })
+
+pub sum_of-requires : goal.sum_of-requires
+sum_of-requires c =
+    (c.requires, sum_kind (node_of c.args.nodes.now c.args.i) (sym c.kind_of-kind.ensures ∙ c.if-kind-eq-LINEAR.true))
+
+pub returns-then-kind-eq-LINEAR : goal.returns-then-kind-eq-LINEAR
+returns-then-kind-eq-LINEAR c =
+    let n = node_of c.args.nodes.now c.args.i in
+    let k = sym c.kind_of-kind.ensures ∙ c.if-kind-eq-LINEAR.true in
+    simp (read_back c.sum_of.result c.sum_of.type_inv)
+    (record { is = sum_value c.args.bits.now c.args.values.now c.args.i n _ k c.sum_of.ensures; small = λ e. absurd (true≢false (sym (sum_kind n k) ∙ e)) })
+
+pub source_of-source-requires : goal.source_of-source-requires
+source_of-source-requires c = (c.requires.node, boot_source _ (boot c))
+
+pub table_of-requires : goal.table_of-requires
+table_of-requires c = (c.requires.node, boot_kind _ (boot (goal.at.table_of-requires c).Else-kind-eq-LINEAR))
+
+pub offset_bounds-values-source : goal.offset_bounds-values-source
+offset_bounds-values-source c = omega (arith, source c)
+
+pub bounds-values-source : goal.bounds-values-source
+bounds-values-source c = source c
+
+pub returns : goal.returns
+returns c =
+    let n = node_of c.args.nodes.now c.args.i in
+    let g = c.source_of-source in
+    let t = c.table_of in
+    record {
+      is = table_value c.args.bits.now c.args.values.now c.args.i n _ (boot (goal.at.returns c).Else-kind-eq-LINEAR)
+          (simp (read_back (get_or c.args.values.now g.result (pos 0)) c.look_up-arg-1.given) at c.look_up.ensures.0
+          ∙ ap₂ {C = Option ℤ} (λ table j. looked table (get_or c.args.values.now j (pos 0))) t.ensures g.ensures);
+      small = λ _. c.look_up.ensures.1;
+    }

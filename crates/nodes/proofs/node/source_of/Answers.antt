@@ -1,0 +1,37 @@
+use Rattle.std.proofs.Common.{ap₂, ◌∙◌, ℕ, ◌+◌, ◌*◌, ◌<◌, arith}
+use Rattle.nodes.specs.View.{node_of}
+use Rattle.nodes.specs.Nodes.{few_sources, source_at}
+use Rattle.nodes.proofs.node.source_of.Goals as goal
+use Rattle.nodes.proofs.node.source_of.Goals.{Start}
+
+-- `nodes::node::source_of` meets its contract.
+few : (c : Start) → c.args.k < 11
+few c = omega (arith, few_sources c.args.i (node_of c.args.nodes.now c.args.i) c.requires.0.fine, c.requires.1)
+
+pub overflow_mul-k : goal.overflow_mul-k
+overflow_mul-k c = omega (arith, few c)
+
+pub overflow_add-k : goal.overflow_add-k
+overflow_add-k c = omega (arith, few c)
+
+pub overflow_add-i : goal.overflow_add-i
+overflow_add-i c = omega (arith, few c)
+
+pub bounds-nodes-i : goal.bounds-nodes-i
+bounds-nodes-i c = omega (arith, few c)
+
+pub overflow_mul-k-2 : goal.overflow_mul-k-2
+overflow_mul-k-2 c = omega (arith, few (goal.at.overflow_mul-k-2 c).After-way_told-1)
+
+pub overflow_add-k-2 : goal.overflow_add-k-2
+overflow_add-k-2 c = omega (arith, few (goal.at.overflow_add-k-2 c).After-way_told-1)
+
+pub overflow_add-i-2 : goal.overflow_add-i-2
+overflow_add-i-2 c = omega (arith, few (goal.at.overflow_add-i-2 c).After-way_told-1)
+
+pub bounds-nodes-i-2 : goal.bounds-nodes-i-2
+bounds-nodes-i-2 c = omega (arith, few (goal.at.bounds-nodes-i-2 c).After-way_told-1)
+
+pub returns : goal.returns
+returns c =
+    ap₂ {C = ℕ} (λ x y. 256 * x + y) c.wide.ensures.0 c.wide-2.ensures.0 ∙ source_at c.args.nodes.now c.args.i c.requires.0 c.args.k c.requires.1

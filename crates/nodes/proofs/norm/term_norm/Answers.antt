@@ -1,0 +1,38 @@
+use Rattle.std.proofs.Common.{◌≡◌, ap, ◌∙◌, ◌<◌, arith, w64, to_z, of_z, pos, nat_abs, get_or}
+use Rattle.laws.specs.Integer.{read_back}
+use Rattle.rules.specs.Store.{terms_of}
+use Rattle.nodes.specs.View.{term, node_of, IsNode, is_node}
+use Rattle.nodes.specs.Nodes.{coefficient-small, source_before, terms_need}
+use Rattle.nodes.specs.Norm.{term_norm_lem}
+use Rattle.nodes.proofs.norm.term_norm.Goals as goal
+use Rattle.nodes.proofs.norm.term_norm.Goals.{After-coef_of, After-source_of-source, Start}
+
+-- `nodes::norm::term_norm` meets its contract.
+stands : (c : Start) → IsNode c.args.nodes.now c.args.i
+stands c = is_node c.args.nodes.now _ c.args.i c.requires.0 (omega arith)
+
+-- the source stands before the node
+before : (c : After-source_of-source) → c.source_of-source.result < c.args.i
+before c =
+    let n = node_of c.args.nodes.now c.args.i in
+    omega (arith, c.source_of-source.ensures, source_before c.args.i n (stands (goal.at.HERE c).Start).fine c.args.k (terms_need n c.args.k c.requires.1).0)
+
+-- the coefficient as it is read
+is : (c : After-coef_of) → to_z w64 (of_z w64 c.coef_of.result) ≡ (get_or (terms_of (node_of c.args.nodes.now c.args.i)) c.args.k (term (pos 0) 0)).coef
+is c = read_back _ c.coef_of.type_inv ∙ c.coef_of.ensures
+
+pub source_of-source-requires : goal.source_of-source-requires
+source_of-source-requires c = (stands c, (terms_need _ _ c.requires.1).0)
+
+pub coef_of-requires : goal.coef_of-requires
+coef_of-requires c = (stands (goal.at.coef_of-requires c).Start, c.requires.1)
+
+pub source_norm-requires : goal.source_norm-requires
+source_norm-requires c =
+    let small = coefficient-small _ _ (stands (goal.at.source_norm-requires c).Start).fine _ c.requires.1 in
+    (is_node c.args.nodes.now _ _ c.requires.0 (omega (arith, before (goal.at.source_norm-requires c).After-source_of-source)), omega (arith, ap nat_abs (is c), small))
+
+pub returns : goal.returns
+returns c =
+    let n = node_of c.args.nodes.now c.args.i in
+    (term_norm_lem c.args.nodes.now c.args.i _ _ _ _ (is (goal.at.returns c).After-coef_of) (c.source_of-source.ensures ∙ (terms_need n c.args.k c.requires.1).1) (before (goal.at.returns c).After-source_of-source) c.source_norm.ensures.0, c.source_norm.ensures.1)

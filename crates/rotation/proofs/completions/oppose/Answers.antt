@@ -1,0 +1,18 @@
+use Rattle.std.proofs.Common.{sym, ◌∙◌, ◌-◌, arith, rules}
+use Rattle.laws.specs.Front.{filling_start, filling_step}
+use Rattle.rules.specs.Builder.{opposed}
+use Rattle.theorems.specs.Completions.{opposed-length, opposed-at}
+use Rattle.rotation.proofs.completions.oppose.Goals as goal
+
+pub loop-i-init : goal.loop-i-init
+loop-i-init c = (search rules, filling_start _ _)
+
+pub loop-i-preserved : goal.loop-i-preserved
+loop-i-preserved c =
+    let o = c.loop-i in
+    let a = c.args in
+    let n = opposed-length a.size a.known.now in (
+      omega arith,
+      filling_step (opposed a.size a.known.now) a.table.now o.table o.i _ 0 o.invariant.1
+          (c.opposed_at.ensures ∙ sym (opposed-at a.size a.known.now o.i (omega arith))) (omega arith) (omega arith),
+    )

@@ -1,0 +1,63 @@
+use Rattle.std.proofs.Common.{◌≡◌, sym, ap, subst, ◌∙◌, List, ◌++◌, append_assoc, append-nil, ⊎_elim, ℕ, ◌+◌, ◌-◌, ◌≤◌, ◌<◌, add-one, arith, rules, length, get_or, drop, take, set, length-set, take-suc-set}
+use Rattle.laws.specs.Select.{select}
+use Rattle.rules.specs.Composition.{union_support}
+use Rattle.support.specs.Rows.{position}
+use Rattle.support.specs.Support.{is_new, union_is, union_length, new_on, old_on, new_end}
+use Rattle.support.proofs.union_support.Goals as goal
+
+-- `support::union_support` meets its contract: the sources so far, and the new ones among those that are left, are the union.
+-- what is there of the union, as n of the nodes, where the right sources from i on are left
+record Joined (left right : List ℕ) (i n : ℕ) (nodes : List ℕ) : Type 0 where
+  room : length nodes ≡ 11
+  count : n + length (select (is_new left) (drop i right)) ≡ length (union_support left right)
+  whole : take n nodes ++ select (is_new left) (drop i right) ≡ union_support left right
+
+start : (left right nodes : List ℕ) (n : ℕ) → n ≡ length left → take n nodes ≡ left → length nodes ≡ 11 → Joined left right 0 n nodes
+start left right nodes n e f h = record { room = h; count = omega (arith, union_length left right); whole = rw f (sym (union_is left right)) }
+
+module _ (left right nodes : List ℕ) (i n : ℕ) (h : i < length right) (j : Joined left right i n nodes) where
+  has_room : position left (get_or right i 0) ≡ length left → length (union_support left right) ≤ 11 → n < 11
+  has_room e l = omega (arith, ap length (new_on left right i h e), j.count)
+
+  added : position left (get_or right i 0) ≡ length left → n < 11 → Joined left right (i + 1) (n + 1) (set nodes n (get_or right i 0))
+  added e l =
+      let m = new_on left right i h e in
+      record {
+        room = rw length-set j.room;
+        count = omega (arith, ap length m, j.count);
+        whole = rw (add-one n, take-suc-set nodes n (get_or right i 0) (omega (arith, j.room)), append_assoc) (rw m at j.whole);
+      }
+
+  passed : (position left (get_or right i 0) ≡ length left → ⊥) → Joined left right (i + 1) n nodes
+  passed e = let m = old_on left right i h e in record { room = j.room; count = rw m at j.count; whole = rw m at j.whole }
+
+done : (left right nodes : List ℕ) (i n : ℕ) → length right ≤ i → Joined left right i n nodes → (n ≡ length (union_support left right)) × (take n nodes ≡ union_support left right)
+done left right nodes i n h j =
+    let m = new_end left right i h in
+    (omega (arith, ap length m, j.count), sym (append-nil (take n nodes)) ∙ (rw m at j.whole))
+
+pub left_support-s-requires : goal.left_support-s-requires
+left_support-s-requires c = omega (arith, union_length c.args.left.now c.args.right.now)
+
+pub loop-i-init : goal.loop-i-init
+loop-i-init c = (omega arith, start _ _ _ _ c.left_support-s.ensures.0 c.left_support-s.ensures.1 (search rules))
+
+pub bounds-s-n : goal.bounds-s-n
+bounds-s-n c =
+    let o = c.loop-i in
+    has_room _ _ _ o.i _ c.loop-i-test.true o.invariant.1 (sym c.position.ensures ∙ c.if-position-left.true) c.requires
+
+pub loop-i-preserved : goal.loop-i-preserved
+loop-i-preserved c =
+    let o = c.loop-i in
+    let h = c.loop-i-test.true in
+    let p = c.position.ensures in (
+      omega arith,
+      ⊎_elim
+          (λ w. subst (λ t. Joined c.args.left.now c.args.right.now (o.i + 1) t.n t.nodes) (sym w.1) (added _ _ _ o.i _ h o.invariant.1 (sym p ∙ w.0.true) (has_room _ _ _ o.i _ h o.invariant.1 (sym p ∙ w.0.true) c.requires)))
+          (λ w. subst (λ t. Joined c.args.left.now c.args.right.now (o.i + 1) t.n t.nodes) (sym w.1) (passed _ _ _ o.i _ h o.invariant.1 (λ e. w.0.false (p ∙ e))))
+          c.if-position-left.branch,
+    )
+
+pub returns : goal.returns
+returns c = done _ _ _ c.loop-i.i _ c.loop-i-test.false c.loop-i.invariant.1

@@ -1,0 +1,25 @@
+use Rattle.rules.specs.Writing.{nodes_text, outputs_text}
+use Rattle.lines.specs.Put.{put_both, put_text, room, room_text, shorter}
+use Rattle.writer.specs.Live.{live_nodes}
+use Rattle.writer.specs.Outputs.{live_outputs}
+use Rattle.writer.specs.Whole.{whole_text}
+use Rattle.writer.proofs.write.Goals as goal
+
+pub put_net-a-requires : goal.put_net-a-requires
+put_net-a-requires c =
+    let w = room_text (whole_text c.args.n c.args.s.now c.args.ports.now c.args.nodes.now c.args.live.now) c.requires.1 in
+    shorter (nodes_text (live_nodes c.args.live.now c.args.nodes.now c.args.n.count)) (shorter (outputs_text (live_outputs c.args.live.now c.args.s.now c.args.ports.now c.args.n.outs)) w)
+
+pub put_nodes-b-requires : goal.put_nodes-b-requires
+put_nodes-b-requires c =
+    let w = room_text (whole_text c.args.n c.args.s.now c.args.ports.now c.args.nodes.now c.args.live.now) c.requires.1 in
+    (c.requires.0.0, room c.put_net-a.ensures (shorter (outputs_text (live_outputs c.args.live.now c.args.s.now c.args.ports.now c.args.n.outs)) w))
+
+pub put_outs-requires : goal.put_outs-requires
+put_outs-requires c =
+    let w = room_text (whole_text c.args.n c.args.s.now c.args.ports.now c.args.nodes.now c.args.live.now) c.requires.1 in
+    (c.requires.0.1, room (put_both c.put_net-a.ensures c.put_nodes-b.ensures) w)
+
+pub returns : goal.returns
+returns c =
+    put_text (whole_text c.args.n c.args.s.now c.args.ports.now c.args.nodes.now c.args.live.now) (put_both (put_both c.put_net-a.ensures c.put_nodes-b.ensures) c.put_outs.ensures)
