@@ -29,4 +29,3 @@ pub mod Said2
 pub mod PlainText
 -- The statements proved.
 pub mod WrittenEach
-pub mod Proved

@@ -14,9 +14,10 @@ use Rattle.rules.specs.Network.{LutNode, Input, Linear, Bootstrap, Network, is_i
 use Rattle.rules.specs.Regroup.{behind, order_up_to, order, place_in, moved_node, moved_output, reordered, regrouped}
 use Rattle.rules.specs.Runs.{all_bits}
 use Rattle.theorems.specs.Admissible.{net_of, Admissible}
-use Rattle.theorems.specs.AdmittedSafe.{Safe, safe_on}
+use Rattle.theorems.specs.AdmittedSafe.{Safe}
+use Rattle.theorems.proofs.AdmittedSafe.{safe_on}
 use Rattle.mapped.specs.Statements.{inputs_of}
-use Rattle.mapped.specs.Pruned.{inputs-append}
+use Rattle.mapped.proofs.Pruned.{inputs-append}
 use Rattle.editions.specs.Places.{Put, behind_none, behind_some}
 use Rattle.editions.specs.NewOrder.{Sorted, order-sorted, group_no_input}
 use Rattle.editions.specs.MovedPasses.{front_placed, nodes_pass, outputs_pass}

@@ -9,7 +9,8 @@ use Rattle.rules.specs.Network.{LutNode}
 use Rattle.rules.specs.NetworkText.{all_different}
 use Rattle.rules.specs.Span.{least}
 use Rattle.theorems.specs.ConeValues.{values_long}
-use Rattle.theorems.specs.SimplifiedCones.{row_in, row_in_lt, simplified_least, simplified_span, simplified_norm, simplified_value, simplified_truth}
+use Rattle.theorems.specs.SimplifiedCones.{row_in, row_in_lt, simplified_least, simplified_span, simplified_value, simplified_truth}
+use Rattle.theorems.proofs.SimplifiedCones.{simplified_norm}
 use Rattle.mapped.specs.ConeEncoded.{TableOf, valid_table, table_valid}
 use Rattle.mapped.specs.ConeSimplified.{simplified_same, simplified_rows}
 

@@ -16,7 +16,7 @@ use Rattle.rules.specs.CircuitText.{CircuitLine, FbsLine, InLine, GateLine, OutL
 use Rattle.rules.specs.Network.{Input, Linear, Bootstrap, Network, member, stats}
 use Rattle.rules.specs.NetworkText.{Net, NetworkLine, NetLine, NodeLine, NetPrefix, started, network_line, text_conditions, safety_conditions, admission_conditions, with_network_line, with_net, network_ended, no_network, read_network, read_admitted}
 use Rattle.theorems.specs.Refusals.{Kind, Holds, First, Exact}
-use Rattle.theorems.specs.Readings.{LowestFirst, NoneMet, Regular, exact, numbers, holds_one_of}
+use Rattle.theorems.specs.Readings.{LowestFirst, NoneMet, Regular, numbers, holds_one_of}
 use Rattle.rules.specs.NetworkText as NetworkText
 
 -- ---- The statement.
@@ -93,11 +93,6 @@ circuits_regular =
       lacks = refl;
     }
 
--- A circuit text, likewise.
-pub circuit_exact : (text : List ℕ) → Exact (read_circuit text) (Holds circuits text)
-unfolding circuits read_circuit
-circuit_exact text = exact circuits ended 1 7 circuits_regular text
-
 -- ---- Network texts.
 
 networks_numbered : (w : NetPrefix) (l : NetworkLine) → LowestFirst 21 22 (text_conditions w l)
@@ -108,7 +103,7 @@ networks_numbered w (NodeLine (Linear c ts)) = omega arith
 networks_numbered w (NodeLine (Bootstrap i table)) = omega arith
 networks_numbered w (NetworkText.OutLine o) = omega arith
 
-admissions_numbered : (w : NetPrefix) (l : NetworkLine) → LowestFirst 21 26 (admission_conditions w l)
+pub admissions_numbered : (w : NetPrefix) (l : NetworkLine) → LowestFirst 21 26 (admission_conditions w l)
 unfolding LowestFirst admission_conditions text_conditions safety_conditions
 admissions_numbered w (NetLine n) = omega arith
 admissions_numbered w (NodeLine (Input n)) = omega arith
@@ -117,7 +112,7 @@ admissions_numbered w (NodeLine (Bootstrap i table)) = omega arith
 admissions_numbered w (NetworkText.OutLine o) = omega arith
 
 -- a line that meets no condition has the `net` line before it or is it
-networks_open : (n : ℕ) (w : NetPrefix) (l : NetworkLine) → NoneMet (text_conditions w l) → started (with_network_line n w l) ≡ true
+pub networks_open : (n : ℕ) (w : NetPrefix) (l : NetworkLine) → NoneMet (text_conditions w l) → started (with_network_line n w l) ≡ true
 unfolding NoneMet text_conditions with_network_line started
 networks_open n w (NetLine a) m = refl
 networks_open n w (NodeLine (Input a)) m = not-false _ m.0
@@ -135,12 +130,12 @@ pub admission_text : (w : NetPrefix) (l : NetworkLine) → NoneMet (admission_co
 unfolding admission_conditions
 admission_text w l m = none_front (text_conditions w l) (safety_conditions w l) m
 
-with_net_lem : (n : ℕ) (w : NetPrefix) (o : Option Net) → is_some o ≡ true → (x : Network) × (with_net n w o ≡ Good x)
+pub with_net_lem : (n : ℕ) (w : NetPrefix) (o : Option Net) → is_some o ≡ true → (x : Network) × (with_net n w o ≡ Good x)
 unfolding with_net
 with_net_lem n w none e = absurd (zero≢one (cc))
 with_net_lem n w (some a) e = (_, refl)
 
-networks_regular : Regular networks network_ended 21 22
+pub networks_regular : Regular networks network_ended 21 22
 unfolding networks network_ended no_network with_net started
 networks_regular =
     record {
@@ -152,28 +147,6 @@ networks_regular =
       ends = λ n w o. with_net_lem n w w.net o;
       lacks = refl;
     }
-
-admissions_regular : Regular admissions network_ended 21 26
-unfolding admissions network_ended no_network with_net started
-admissions_regular =
-    record {
-      no_form_within = omega arith;
-      missing_within = omega arith;
-      lowest-first = admissions_numbered;
-      Opened = λ w. started w ≡ true;
-      opens = λ n w l m. networks_open n w l (admission_text w l m);
-      ends = λ n w o. with_net_lem n w w.net o;
-      lacks = refl;
-    }
-
--- A network text, as a run reads it and as admission reads it.
-pub network_exact : (text : List ℕ) → Exact (read_network text) (Holds networks text)
-unfolding networks read_network
-network_exact text = exact networks network_ended 21 22 networks_regular text
-
-pub admitted_exact : (text : List ℕ) → Exact (read_admitted text) (Holds admissions text)
-unfolding admissions read_admitted
-admitted_exact text = exact admissions network_ended 21 26 admissions_regular text
 
 admissions_listed : (w : NetPrefix) (l : NetworkLine) → numbers (λ k. member k listed) (admission_conditions w l) ≡ true
 unfolding all listed member admission_conditions text_conditions safety_conditions
@@ -209,7 +182,7 @@ pub admission_text2 : (w : NetPrefix) (l : Line2) → NoneMet (conditions2 w l) 
 unfolding conditions2
 admission_text2 w l m = none_front (text_conditions2 w l) (safety_conditions2 w l) m
 
-networks2_regular : Regular networks2 network_ended 21 22
+pub networks2_regular : Regular networks2 network_ended 21 22
 unfolding networks2 network_ended no_network with_net started
 networks2_regular =
     record {
@@ -222,7 +195,7 @@ networks2_regular =
       lacks = refl;
     }
 
-admissions2_regular : Regular admissions2 network_ended 21 39
+pub admissions2_regular : Regular admissions2 network_ended 21 39
 unfolding admissions2 network_ended no_network with_net started
 admissions2_regular =
     record {
@@ -235,15 +208,7 @@ admissions2_regular =
       lacks = refl;
     }
 
-pub network2_exact : (text : List ℕ) → Exact (read_network2 text) (Holds networks2 text)
-unfolding networks2 read_network2
-network2_exact text = exact networks2 network_ended 21 22 networks2_regular text
-
-pub admitted2_exact : (text : List ℕ) → Exact (read_admitted2 text) (Holds admissions2 text)
-unfolding admissions2 read_admitted2
-admitted2_exact text = exact admissions2 network_ended 21 39 admissions2_regular text
-
-admissions2_listed : (w : NetPrefix) (l : Line2) → numbers (λ k. member k listed2) (conditions2 w l) ≡ true
+pub admissions2_listed : (w : NetPrefix) (l : Line2) → numbers (λ k. member k listed2) (conditions2 w l) ≡ true
 unfolding all listed2 member conditions2 text_conditions2 safety_conditions2 text_conditions safety_conditions
 admissions2_listed w (Plain (NetLine n)) = refl
 admissions2_listed w (Plain (NodeLine (Input a))) = refl
@@ -252,23 +217,9 @@ admissions2_listed w (Plain (NodeLine (Bootstrap i table))) = refl
 admissions2_listed w (Plain (NetworkText.OutLine o)) = refl
 admissions2_listed w (Many i ts) = refl
 
--- ---- Either edition.
-
-pub either_exact : (text : List ℕ) → Exact (read_either text) (EitherHolds text)
-unfolding read_either EitherHolds
-either_exact text = by (is_edition2 text)
-  where
-    by : (b : Bool) → Exact (if b then read_admitted2 text else read_admitted text) (λ k i. if b then Holds admissions2 text k i else Holds admissions text k i)
-    by true = admitted2_exact text
-    by false = admitted_exact text
-
-plain-listed : (text : List ℕ) → is_edition2 text ≡ false → (k i : ℕ) → EitherHolds text k i → member k listed ≡ true
+pub plain-listed : (text : List ℕ) → is_edition2 text ≡ false → (k i : ℕ) → EitherHolds text k i → member k listed ≡ true
 unfolding EitherHolds admissions listed member
 plain-listed text e k i h = holds_one_of admissions (λ j. member j listed) refl admissions_listed refl text k i (rw e at h)
-
-edition_2_listed : (text : List ℕ) → is_edition2 text ≡ true → (k i : ℕ) → EitherHolds text k i → member k listed2 ≡ true
-unfolding EitherHolds admissions2 listed2 member
-edition_2_listed text e k i h = holds_one_of admissions2 (λ j. member j listed2) refl admissions2_listed refl text k i (rw e at h)
 
 -- ---- Admission's reply.
 
@@ -288,17 +239,7 @@ pub statistics_recounted : (text : List ℕ) (s : Stats) → admission text ≡ 
 unfolding admission
 statistics_recounted text s e = reply_admitted (read_either text) s e
 
-admitted_good : (text : List ℕ) → ((s : Stats) × (admission text ≡ admitted s)) ↔ ((w : Network) × (read_either text ≡ Good w))
+pub admitted_good : (text : List ℕ) → ((s : Stats) × (admission text ≡ admitted s)) ↔ ((w : Network) × (read_either text ≡ Good w))
 unfolding admission admission_of
 admitted_good text =
     (λ a. let c = statistics_recounted text a.0 a.1 in (c.0, c.1), λ a. (stats a.0, ap admission_of a.1))
-
-pub admission_exact : (text : List ℕ) → AdmissionExact text
-unfolding admission
-admission_exact text =
-    record {
-      refused = λ k i. Iff.trans (reply_refused (read_either text) k i) ((either_exact text).refused k i);
-      admitted = Iff.trans (admitted_good text) (either_exact text).good;
-      plain-listed = plain-listed text;
-      edition_2_listed = edition_2_listed text;
-    }

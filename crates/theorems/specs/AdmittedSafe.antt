@@ -34,11 +34,10 @@ use Rattle.rules.specs.Runs.{Numbered, ran, all_bits, bits_for, with_values, run
 use Rattle.theorems.specs.AdmissionExact.{statistics_recounted}
 use Rattle.theorems.specs.Admissible.{Passes, NodesPass, OutputsPass, net_of, Admissible, lin_passes, BootPasses, boot_passes, OutPasses, out_passes}
 use Rattle.theorems.specs.Admissible2.{either_admissible, either_read}
-use Rattle.theorems.specs.Bounds.{ZeroOrOne, Bounded, bit-between, sum_bounded, bounded_snoc}
+use Rattle.theorems.specs.Bounds.{ZeroOrOne, Bounded}
 use Rattle.theorems.specs.LineBits.{WireBit}
 use Rattle.theorems.specs.NodesAt.{node_next, node_none}
 use Rattle.theorems.specs.SumLine.{line_of}
-use Rattle.theorems.specs.Weights.{same_norm, longer_weights, sources_within}
 use Rattle.theorems.specs.RotationRule.{rotation_rule}
 use Rattle.theorems.specs.Bits.{bit_at}
 
@@ -79,19 +78,10 @@ pub record AdmittedSafe (text : List ℕ) (s : Stats) : Type 0 where
 
 -- ---- A `boot`.
 
-inside_table : (s g : ℤ) (n : ℕ) → pos 0 ≤ℤ s → s ≤ℤ g → g +ℤ pos 1 ≡ pos n → (v : ℕ) × (s ≡ pos v) × (v < n)
+pub inside_table : (s g : ℤ) (n : ℕ) → pos 0 ≤ℤ s → s ≤ℤ g → g +ℤ pos 1 ≡ pos n → (v : ℕ) × (s ≡ pos v) × (v < n)
 unfolding plus minus
 inside_table (pos v) g n h k e = (v, refl, omega (arith, ints, add_parts g (pos 1)))
 inside_table (negsuc v) g n h k e = absurd (omega (arith, ints))
-
-module _ (n : Net) (ns : List LutNode) (values : List ℤ) (b : Bounded ns values) where
-  pub looked_up : (i : ℕ) (table : List ℕ) → BootPasses n ns i table
-      → (v : ℕ) × (get_or values i (pos 0) ≡ pos v) × (v < length table) × (rotated n.p table (get_or values i (pos 0)) ≡ some (pos (get_or table v 0)))
-  looked_up i table p =
-      let r = rotation_rule n.p table in
-      let low : pos 0 ≤ℤ get_or values i (pos 0) = rw p.least at (b.least i p.earlier) in
-      let v = inside_table (get_or values i (pos 0)) (greatest_of (node_at ns i)) (length table) low (b.greatest i p.earlier) p.greatest in
-      (v.0, v.1, v.2, ap (rotated n.p table) v.1 ∙ r.boots (r.decides.0 p.turns) v.0 v.2)
 
 -- ---- A node.
 
@@ -104,47 +94,12 @@ unfolding plus minus
 bit-greatest b h = omega (arith, ints)
 
 -- its value after these values is within its bounds, and a `boot` is looked up
-record Valued (P : ℕ) (bits : List ℕ) (values : List ℤ) (x : LutNode) : Type 0 where
-  value : ℤ
-  is : node_value P bits values x ≡ some value
-  least : least_of x ≤ℤ value
-  greatest : value ≤ℤ greatest_of x
-  boot : (i : ℕ) (table : List ℕ) → x ≡ Bootstrap i table → (i < length values) × Lookup P table (get_or values i (pos 0)) value
-
-module _ (n : Net) (bits : List ℕ) (good : T (all_bits bits)) (ns : List LutNode) (values : List ℤ) (b : Bounded ns values) where
-  valued : (x : LutNode) → Passes n ns [] (NodeLine x) → Valued n.p bits values x
-  unfolding node_value least_of greatest_of
-  valued (Input a) p =
-      record {
-        value = pos (get_or bits (length values) 0);
-        is = refl;
-        least = bit-least (get_or bits (length values) 0);
-        greatest = bit-greatest (get_or bits (length values) 0) (bit_at bits (length values) good);
-        boot = λ i table e. absurd (zero≢one (cc));
-      }
-  valued (Linear c ts) p =
-      let s = sum_bounded ns values b c ts (lin_passes n ns c ts p).sources_in in
-      record {
-        value = sum_from values c ts;
-        is = refl;
-        least = s.0;
-        greatest = s.1;
-        boot = λ i table e. absurd (zero≢one (cc));
-      }
-  valued (Bootstrap i table) p =
-      let h = boot_passes n ns i table p in
-      let v = looked_up n ns values b i table h in
-      let l = h.earlier in
-      let g = b.long in
-      let k : i < length values = omega arith in
-      let r : Lookup n.p table (get_or values i (pos 0)) (pos (get_or table v.0 0)) = record { v = v.0; reads = v.1; inside = v.2; turns = (rotation_rule n.p table).decides.0 h.turns; gives = refl } in
-      record {
-        value = pos (get_or table v.0 0);
-        is = v.3;
-        least = bit-least (get_or table v.0 0);
-        greatest = bit-greatest (get_or table v.0 0) (bit_at table v.0 h.bits);
-        boot = λ j t e. subst₂ (λ j t. (j < length values) × Lookup n.p t (get_or values j (pos 0)) (pos (get_or table v.0 0))) (cc) (cc) (k, r);
-      }
+pub record Valued (P : ℕ) (bits : List ℕ) (values : List ℤ) (x : LutNode) : Type 0 where
+  pub value : ℤ
+  pub is : node_value P bits values x ≡ some value
+  pub least : least_of x ≤ℤ value
+  pub greatest : value ≤ℤ greatest_of x
+  pub boot : (i : ℕ) (table : List ℕ) → x ≡ Bootstrap i table → (i < length values) × Lookup P table (get_or values i (pos 0)) value
 
 -- ---- The run.
 
@@ -157,14 +112,14 @@ pub record Run (P : ℕ) (bits : List ℕ) (all : List LutNode) (values : List �
   pub boots : (k i : ℕ) (table : List ℕ) → length values ≤ k → node_at all k ≡ Bootstrap i table
       → (i < k) × Lookup P table (get_or final i (pos 0)) (get_or final k (pos 0))
 
-no-node : (ns : List LutNode) (k i : ℕ) (table : List ℕ) → length ns ≤ k → node_at ns k ≡ Bootstrap i table → ⊥
+pub no-node : (ns : List LutNode) (k i : ℕ) (table : List ℕ) → length ns ≤ k → node_at ns k ≡ Bootstrap i table → ⊥
 no-node ns k i table h e =
     let d = node_none ns k h in
     let q : ◌≡◌ {A = ℕ} 0 1 = cc in
     omega arith
 
 module _ (n : Net) (bits : List ℕ) (good : T (all_bits bits)) (all : List LutNode) where
-  ran_none : (ns : List LutNode) (values : List ℤ) → ns ++ [] ≡ all → Bounded ns values → Run n.p bits all values []
+  pub ran_none : (ns : List LutNode) (values : List ℤ) → ns ++ [] ≡ all → Bounded ns values → Run n.p bits all values []
   unfolding node_values
   ran_none ns values e b =
       let f : ns ≡ all = sym (append-nil ns) ∙ e in
@@ -178,7 +133,7 @@ module _ (n : Net) (bits : List ℕ) (good : T (all_bits bits)) (all : List LutN
       }
 
   -- the first of the nodes, and the run of the others
-  ran_one : (ns : List LutNode) (values : List ℤ) (x : LutNode) (xs : List LutNode) → ns ++ (x ∷ xs) ≡ all → Bounded ns values
+  pub ran_one : (ns : List LutNode) (values : List ℤ) (x : LutNode) (xs : List LutNode) → ns ++ (x ∷ xs) ≡ all → Bounded ns values
       → (v : Valued n.p bits values x) → Run n.p bits all (values ++ (v.value ∷ [])) xs → Run n.p bits all values (x ∷ xs)
   unfolding node_values with_value
   ran_one ns values x xs e b v r =
@@ -208,81 +163,25 @@ module _ (n : Net) (bits : List ℕ) (good : T (all_bits bits)) (all : List LutN
           let l = v.boot i table (sym (node k h) ∙ g) in
           (omega arith, rw (old i l.0, new k h) l.1)
 
-  pub ran_all : (ns : List LutNode) (values : List ℤ) (xs : List LutNode) → ns ++ xs ≡ all → NodesPass n ns xs → Bounded ns values
-      → Run n.p bits all values xs
-  unfolding NodesPass
-  ran_all ns values [] e p b = ran_none ns values e b
-  ran_all ns values (x ∷ xs) e p b =
-      let v = valued n bits good ns values b x p.0 in
-      ran_one ns values x xs e b v
-      (ran_all (ns ++ (x ∷ [])) (values ++ (v.value ∷ [])) xs (append_assoc ns (x ∷ []) xs ∙ e) p.1 (bounded_snoc ns values b x v.value v.least v.greatest))
-
 -- ---- Outputs and norms.
 
-le_z_yes : (x y : ℤ) → le_z x y ≡ true → x ≤ℤ y
+pub le_z_yes : (x y : ℤ) → le_z x y ≡ true → x ≤ℤ y
 le_z_yes x y e = record { le = is_T (le_z x y) e }
 
-≤ℤ_trans : (x y z : ℤ) → x ≤ℤ y → y ≤ℤ z → x ≤ℤ z
+pub ≤ℤ_trans : (x y z : ℤ) → x ≤ℤ y → y ≤ℤ z → x ≤ℤ z
 ≤ℤ_trans x y z h k = omega (arith, ints)
 
-module _ (ns : List LutNode) (values : List ℤ) (b : Bounded ns values) where
-  wire_bit : (w : Wire) → OutPasses ns w → ZeroOrOne (wire_value values w)
-  unfolding wire_value no_bit no_node is_bit WireBit
-  wire_bit (Const k) p = bit-between (pos k) (bit-least k) (bit-greatest k p.constant)
-  wire_bit (Node i) p =
-      let l = leb-false (length ns) i p.earlier in
-      let e = not-false (is_bit (node_at ns i)) p.is_bit in
-      bit-between (get_or values i (pos 0))
-      (≤ℤ_trans _ _ _ (le_z_yes _ _ (both_left low high e)) (b.least i l))
-      (≤ℤ_trans _ _ _ (b.greatest i l) (le_z_yes _ _ (both_right low high e)))
-    where
-      low : Bool
-      low = le_z (pos 0) (least_of (node_at ns i))
-
-      high : Bool
-      high = le_z (greatest_of (node_at ns i)) (pos 1)
-
-  output-bits : (n : Net) (before os : List Output) → OutputsPass n ns before os
-      → (j : ℕ) → j < length os → ZeroOrOne (get_or (output_values os values) j (pos 0))
-  unfolding OutputsPass output_values
-  output-bits n before [] p j h = absurd (omega arith)
-  output-bits n before (o ∷ os) p zero h = wire_bit o.wire (out_passes n ns before o p.0)
-  output-bits n before (o ∷ os) p (suc j) h = output-bits n (before ++ (o ∷ [])) os p.1 j (omega arith)
-
-within_norm : (l : Limit) (k m : ℕ) → over_limit l m ≡ false → l ≡ AtMost k → m ≤ k
+pub within_norm : (l : Limit) (k m : ℕ) → over_limit l m ≡ false → l ≡ AtMost k → m ≤ k
 unfolding over_limit
 within_norm Unlimited k m e f = absurd (zero≢one (cc))
 within_norm (AtMost j) k m e f = let g : j ≡ k = cc in let h = ltb-false j m e in omega arith
-
-norms_within : (n : Net) (all : List LutNode) → NodesPass n [] all
-    → (k limit : ℕ) (c : ℤ) (ts : List Term) → node_at all k ≡ Linear c ts → n.norm ≡ AtMost limit → node_norm all (Linear c ts) ≤ limit
-unfolding node_norm
-norms_within n all p k limit c ts e f =
-    let l = line_of n [] all k c ts p e in
-    let q = lin_passes n l.front c ts l.passes in
-    let same = same_norm (l.front ++ l.back) l.front ts (longer_weights l.front l.back (sources ts) (sources_within l.front (sources ts) q.sources_in)) in
-    subst (λ ns. norm ns ts ≤ limit) l.whole (subst (λ m. m ≤ limit) (sym same) (within_norm n.norm limit _ q.norm_in f))
 
 -- ---- A text.
 
 pub no-values : Bounded [] []
 no-values = record { long = refl; least = λ i h. absurd (omega arith); greatest = λ i h. absurd (omega arith) }
 
-pub safe_on : (w : Network) (bits : List ℕ) → Admissible w → T (all_bits bits) → Safe w bits
-unfolding network_run net_of
-safe_on w bits a good =
-    let r = ran_all (net_of w) bits good w.nodes [] [] w.nodes refl a.nodes no-values in
-    record {
-      values = r.final;
-      run = r.run;
-      long = r.bounded.long;
-      boots = λ k i table e. r.boots k i table (omega arith) e;
-      outputs = ap (map (output_values w.outputs)) r.run;
-      output_bits = output-bits w.nodes r.final r.bounded (net_of w) [] w.outputs a.outputs;
-      norms = norms_within (net_of w) w.nodes a.nodes;
-    }
-
-rule_runs : (r : Reading Network) (bits : List ℕ) (buffer : List ℤ) (w : Network) (values : List ℤ) → r ≡ Good w
+pub rule_runs : (r : Reading Network) (bits : List ℕ) (buffer : List ℤ) (w : Network) (values : List ℤ) → r ≡ Good w
     → network_run w bits ≡ some (output_values w.outputs values) → T (bits_for (count is_input w.nodes) bits) → length w.outputs ≤ length buffer
     → run_network_on r bits buffer ≡ ran (Numbered (written (length w.outputs))) (over (output_values w.outputs values) buffer)
 unfolding run_network_on run_on with_values output_values
@@ -290,30 +189,6 @@ rule_runs r bits buffer w values e f b l =
     rw (e, T-is (bits_for (count is_input w.nodes) bits) b, le-ltb (length buffer) (length w.outputs) l, f)
     (ap (λ n. ran (Numbered (written n)) (over (output_values w.outputs values) buffer)) (length-map w.outputs (λ o. wire_value values o.wire)))
 
-plain-run : (text : List ℕ) → is_edition2 text ≡ false → read_run text ≡ read_network text
+pub plain-run : (text : List ℕ) → is_edition2 text ≡ false → read_run text ≡ read_network text
 unfolding read_run
 plain-run text p = rw p
-
-pub admitted_safe : (text : List ℕ) (s : Stats) → admission text ≡ admitted s → AdmittedSafe text s
-unfolding bits_for run_network
-admitted_safe text s e =
-    record {
-      network = w;
-      read = read;
-      recounted = c.2;
-      safe = safe;
-      runs = λ bits buffer b l. rule_runs (read_run text) bits buffer w (safe bits b).values read (safe bits b).outputs b l;
-      entry = λ p bits buffer. ap (λ r. run_network_on r bits buffer) (sym (plain-run text p));
-    }
-  where
-    c : (w : Network) × (read_either text ≡ Good w) × (s ≡ stats w)
-    c = statistics_recounted text s e
-
-    w : Network
-    w = c.0
-
-    read : read_run text ≡ Good w
-    read = either_read text w c.1
-
-    safe : (bits : List ℕ) → T (bits_for (count is_input w.nodes) bits) → Safe w bits
-    safe bits b = safe_on w bits (either_admissible text w c.1) (and_right (eqb (length bits) (count is_input w.nodes)) (all_bits bits) b)

@@ -23,38 +23,22 @@ pub record Bounded (ns : List LutNode) (values : List ℤ) : Type 0 where
 
 -- ---- A coefficient times a bit.
 
-below_times : (z x : ℤ) → ZeroOrOne x → below0 z ≤ℤ (z *ℤ x)
+pub below_times : (z x : ℤ) → ZeroOrOne x → below0 z ≤ℤ (z *ℤ x)
 unfolding below0 plus minus
 below_times (pos a) x (inl e) = rw e (omega (arith, ints, plus_mul (pos a) (pos 0), minus_mul (pos a) (pos 0)))
 below_times (pos a) x (inr e) = rw e (omega (arith, ints, plus_mul (pos a) (pos 1), minus_mul (pos a) (pos 1)))
 below_times (negsuc a) x (inl e) = rw e (omega (arith, ints, plus_mul (negsuc a) (pos 0), minus_mul (negsuc a) (pos 0)))
 below_times (negsuc a) x (inr e) = rw e (omega (arith, ints, plus_mul (negsuc a) (pos 1), minus_mul (negsuc a) (pos 1)))
 
-times_above : (z x : ℤ) → ZeroOrOne x → (z *ℤ x) ≤ℤ above0 z
+pub times_above : (z x : ℤ) → ZeroOrOne x → (z *ℤ x) ≤ℤ above0 z
 unfolding above0 plus minus
 times_above (pos a) x (inl e) = rw e (omega (arith, ints, plus_mul (pos a) (pos 0), minus_mul (pos a) (pos 0)))
 times_above (pos a) x (inr e) = rw e (omega (arith, ints, plus_mul (pos a) (pos 1), minus_mul (pos a) (pos 1)))
 times_above (negsuc a) x (inl e) = rw e (omega (arith, ints, plus_mul (negsuc a) (pos 0), minus_mul (negsuc a) (pos 0)))
 times_above (negsuc a) x (inr e) = rw e (omega (arith, ints, plus_mul (negsuc a) (pos 1), minus_mul (negsuc a) (pos 1)))
 
-add_le : (a b x y : ℤ) → a ≤ℤ x → b ≤ℤ y → (a +ℤ b) ≤ℤ (x +ℤ y)
+pub add_le : (a b x y : ℤ) → a ≤ℤ x → b ≤ℤ y → (a +ℤ b) ≤ℤ (x +ℤ y)
 add_le a b x y h k = omega (arith, ints, add_parts a b, add_parts x y)
-
--- ---- A sum of bits.
-
-SourceBits : List ℤ → List Term → Type 0
-SourceBits values [] = Unit {0}
-SourceBits values (t ∷ ts) = ZeroOrOne (get_or values t.node (pos 0)) × SourceBits values ts
-
-sum-least : (values : List ℤ) (ts : List Term) (a v : ℤ) → SourceBits values ts → a ≤ℤ v → least_sum a ts ≤ℤ sum_from values v ts
-unfolding SourceBits least_sum sum_from
-sum-least values [] a v b h = h
-sum-least values (t ∷ ts) a v b h = sum-least values ts _ _ b.1 (add_le a (below0 t.coef) v _ h (below_times t.coef _ b.0))
-
-sum-greatest : (values : List ℤ) (ts : List Term) (v a : ℤ) → SourceBits values ts → v ≤ℤ a → sum_from values v ts ≤ℤ greatest_sum a ts
-unfolding SourceBits greatest_sum sum_from
-sum-greatest values [] v a b h = h
-sum-greatest values (t ∷ ts) v a b h = sum-greatest values ts _ _ b.1 (add_le v _ a (above0 t.coef) h (times_above t.coef _ b.0))
 
 -- ---- Nodes whose bounds are 0..1.
 
@@ -65,36 +49,7 @@ bit-between (pos (suc zero)) h k = inr refl
 bit-between (pos (suc (suc a))) h k = absurd (omega (arith, ints))
 bit-between (negsuc a) h k = absurd (omega (arith, ints))
 
-pub bit-node : (x : LutNode) (v : ℤ) → is_linear x ≡ false → least_of x ≤ℤ v → v ≤ℤ greatest_of x → ZeroOrOne v
-unfolding is_linear least_of greatest_of
-bit-node (Input a) v e h k = bit-between v h k
-bit-node (Linear c ts) v e h k = absurd (zero≢one (cc))
-bit-node (Bootstrap i table) v e h k = bit-between v h k
-
--- A node that is no sum is a bit.
-pub source_bit : (nodes : List LutNode) (values : List ℤ) (n : ℕ) → Bounded nodes values → n < length nodes → is_linear (node_at nodes n) ≡ false
-    → ZeroOrOne (get_or values n (pos 0))
-source_bit nodes values n b l e = bit-node (node_at nodes n) (get_or values n (pos 0)) e (b.least n l) (b.greatest n l)
-
 module _ (ns : List LutNode) (values : List ℤ) (b : Bounded ns values) where
-  -- a `lin` stands on `in` and `boot` nodes
-  source_bits : (ts : List Term) → any_bad_source ns (sources ts) ≡ false → SourceBits values ts
-  unfolding SourceBits any_bad_source sources unknown
-  source_bits [] e = tt
-  source_bits (t ∷ ts) e =
-      let bad = unknown ns t.node || is_linear (node_at ns t.node) in
-      let f = neither_left bad _ e in
-      let i = leb-false (length ns) t.node (neither_left (unknown ns t.node) _ f) in (
-        bit-node (node_at ns t.node) _ (neither_right (unknown ns t.node) _ f) (b.least _ i) (b.greatest _ i),
-        source_bits ts (neither_right bad _ e),
-      )
-
-  pub sum_bounded : (c : ℤ) (ts : List Term) → any_bad_source ns (sources ts) ≡ false
-      → (least_of (Linear c ts) ≤ℤ sum_from values c ts) × (sum_from values c ts ≤ℤ greatest_of (Linear c ts))
-  unfolding least_of greatest_of
-  sum_bounded c ts e =
-      (sum-least values ts c c (source_bits ts e) (≤ℤ_refl c), sum-greatest values ts c c (source_bits ts e) (≤ℤ_refl c))
-
   pub bounded_snoc : (x : LutNode) (v : ℤ) → least_of x ≤ℤ v → v ≤ℤ greatest_of x → Bounded (ns ++ (x ∷ [])) (values ++ (v ∷ []))
   bounded_snoc x v h k =
       record {

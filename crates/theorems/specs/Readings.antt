@@ -59,12 +59,12 @@ judged_none i [] next n = refl
 judged_none i (c ∷ cs) next n = rw n.0 (judged_none i cs next n.1)
 
 -- The first one met, which has the lowest number.
-record FirstMet (A : Type 0) (cs : List Condition) (k : ℕ) : Type 0 where
-  met : Met k cs
-  lowest : (j : ℕ) → Met j cs → k ≤ j
-  judged_so : (i : ℕ) (next : Reading A) → judged i cs next ≡ Refused k i
+pub record FirstMet (A : Type 0) (cs : List Condition) (k : ℕ) : Type 0 where
+  pub met : Met k cs
+  pub lowest : (j : ℕ) → Met j cs → k ≤ j
+  pub judged_so : (i : ℕ) (next : Reading A) → judged i cs next ≡ Refused k i
 
-first_or_none : (A : Type 0) (a b : ℕ) (cs : List Condition) → LowestFirst a b cs → ((k : ℕ) × FirstMet A cs k) ⊎ NoneMet cs
+pub first_or_none : (A : Type 0) (a b : ℕ) (cs : List Condition) → LowestFirst a b cs → ((k : ℕ) × FirstMet A cs k) ⊎ NoneMet cs
 unfolding LowestFirst NoneMet Met judged
 first_or_none A a b [] t = inr tt
 first_or_none A a b (c ∷ cs) t = ⊎_elim here (λ f. later f (first_or_none A c.no b cs t.2)) (decide c.met)
@@ -95,13 +95,13 @@ first_or_none A a b (c ∷ cs) t = ⊎_elim here (λ f. later f (first_or_none A
 -- ---- Lines in turn.
 
 module _ {S L : Type 0} (K : Kind S L) where
-  at_first : (n : ℕ) (c : S) (l : List ℕ) (ls : List (List ℕ)) (k : ℕ) → Met k (conditions_of K c (K.form l)) → AtLine K n c (l ∷ ls) k n
+  pub at_first : (n : ℕ) (c : S) (l : List ℕ) (ls : List (List ℕ)) (k : ℕ) → Met k (conditions_of K c (K.form l)) → AtLine K n c (l ∷ ls) k n
   unfolding said
   at_first n c l ls k m =
       let e : n - n ≡ 0 = omega arith in
       record { from = omega arith; there = omega arith; met = rw e m }
 
-  at_later : (n : ℕ) (c : S) (l : List ℕ) (ls : List (List ℕ)) (k i : ℕ) → AtLine K (n + 1) (said_with K n c (K.form l)) ls k i → AtLine K n c (l ∷ ls) k i
+  pub at_later : (n : ℕ) (c : S) (l : List ℕ) (ls : List (List ℕ)) (k i : ℕ) → AtLine K (n + 1) (said_with K n c (K.form l)) ls k i → AtLine K n c (l ∷ ls) k i
   unfolding said
   at_later n c l ls k i h =
       let f = h.from in
@@ -109,7 +109,7 @@ module _ {S L : Type 0} (K : Kind S L) where
       let e : i - n ≡ suc (i - (n + 1)) = omega arith in
       record { from = omega arith; there = omega arith; met = rw e h.met }
 
-  at-cases : (n : ℕ) (c : S) (l : List ℕ) (ls : List (List ℕ)) (k i : ℕ) → AtLine K n c (l ∷ ls) k i
+  pub at-cases : (n : ℕ) (c : S) (l : List ℕ) (ls : List (List ℕ)) (k i : ℕ) → AtLine K n c (l ∷ ls) k i
       → ((i ≡ n) × Met k (conditions_of K c (K.form l))) ⊎ AtLine K (n + 1) (said_with K n c (K.form l)) ls k i
   unfolding said
   at-cases n c l ls k i h = by (i - n) refl
@@ -124,11 +124,11 @@ module _ {S L : Type 0} (K : Kind S L) where
           let g : i - (n + 1) ≡ d = omega (arith, f) in
           inr (record { from = omega (arith, f); there = omega arith; met = rw g (rw e at h.met) })
 
-  not_here : (n : ℕ) (c : S) (l : List ℕ) (ls : List (List ℕ)) → NoneMet (conditions_of K c (K.form l))
+  pub not_here : (n : ℕ) (c : S) (l : List ℕ) (ls : List (List ℕ)) → NoneMet (conditions_of K c (K.form l))
       → (k i : ℕ) → AtLine K n c (l ∷ ls) k i → AtLine K (n + 1) (said_with K n c (K.form l)) ls k i
   not_here n c l ls m k i h = ⊎_elim (λ x. absurd (none_met _ m k x.1)) (λ x. x) (at-cases n c l ls k i h)
 
-  first_later : (n : ℕ) (c : S) (l : List ℕ) (ls : List (List ℕ)) → NoneMet (conditions_of K c (K.form l))
+  pub first_later : (n : ℕ) (c : S) (l : List ℕ) (ls : List (List ℕ)) → NoneMet (conditions_of K c (K.form l))
       → (k i : ℕ) → First (AtLine K (n + 1) (said_with K n c (K.form l)) ls) k i → First (AtLine K n c (l ∷ ls)) k i
   first_later n c l ls m k i f =
       record {
@@ -141,99 +141,11 @@ module _ {S L A : Type 0} (K : Kind S L) (ended : ℕ → S → Reading A) where
   abbrev pub reading : ℕ → S → List (List ℕ) → Reading A
   reading = read_lines K.form K.no_form K.conditions K.with_line ended
 
-  -- the first line is judged by its conditions, and where it meets none the others are
-  read_first : (n : ℕ) (c : S) (l : List ℕ) (ls : List (List ℕ)) (k : ℕ) → FirstMet A (conditions_of K c (K.form l)) k
-      → reading n c (l ∷ ls) ≡ Refused k n
-  unfolding read_lines on_line conditions_of judged
-  read_first n c l ls k f = by (K.form l) f
-    where
-      by : (o : Option L) → FirstMet A (conditions_of K c o) k
-          → on_line K.form K.no_form K.conditions K.with_line ended n c o (λ d. reading (n + 1) d ls) ≡ Refused k n
-      by none f = f.judged_so n (Refused k n)
-      by (some x) f = f.judged_so n _
-
-  read_later : (n : ℕ) (c : S) (l : List ℕ) (ls : List (List ℕ)) → NoneMet (conditions_of K c (K.form l))
-      → reading n c (l ∷ ls) ≡ reading (n + 1) (said_with K n c (K.form l)) ls
-  unfolding read_lines on_line conditions_of said_with NoneMet
-  read_later n c l ls m = by (K.form l) m
-    where
-      by : (o : Option L) → NoneMet (conditions_of K c o)
-          → on_line K.form K.no_form K.conditions K.with_line ended n c o (λ d. reading (n + 1) d ls) ≡ reading (n + 1) (said_with K n c o) ls
-      by none m = absurd (not_both true refl m.0)
-      by (some x) m = judged_none n (K.conditions c x) _ m
-
-  first_here : (n : ℕ) (c : S) (l : List ℕ) (ls : List (List ℕ)) (k : ℕ) → FirstMet A (conditions_of K c (K.form l)) k
-      → First (AtLine K n c (l ∷ ls)) k n
-  first_here n c l ls k f =
-      record {
-        holds = at_first K n c l ls k f.met;
-        lowest = λ j h. ⊎_elim (λ x. f.lowest j x.1) (λ x. absurd (let y = x.from in omega arith)) (at-cases K n c l ls j n h);
-        first = λ j h x. x.from;
-      }
-
-  -- the text is refused by the first line where a condition holds, or none holds and it ends
-  Outcome : ℕ → S → List (List ℕ) → Type 0
-  Outcome n c ls =
-      ((k : ℕ) × (i : ℕ) × First (AtLine K n c ls) k i × (reading n c ls ≡ Refused k i))
-      ⊎ (((k i : ℕ) → AtLine K n c ls k i → ⊥) × (reading n c ls ≡ ended (n + length ls) (said K n c ls)))
-
-  module _ (a b : ℕ) (numbered : (c : S) (o : Option L) → LowestFirst a b (conditions_of K c o)) where
-    outcome : (n : ℕ) (c : S) (ls : List (List ℕ)) → Outcome n c ls
-    unfolding Outcome read_lines said
-    outcome n c [] = inr (λ k i h. not-suc-le-zero h.there, ap (λ m. ended m c) (omega arith))
-    outcome n c (l ∷ ls) =
-        by (first_or_none A a b (conditions_of K c (K.form l)) (numbered c (K.form l))) (outcome (n + 1) (said_with K n c (K.form l)) ls)
-      where
-        by : ((k : ℕ) × FirstMet A (conditions_of K c (K.form l)) k) ⊎ NoneMet (conditions_of K c (K.form l))
-            → Outcome (n + 1) (said_with K n c (K.form l)) ls → Outcome n c (l ∷ ls)
-        by (inl f) rest = inl (f.0, n, first_here n c l ls f.0 f.1, read_first n c l ls f.0 f.1)
-        by (inr m) (inl r) = inl (r.0, r.1, first_later K n c l ls m r.0 r.1 r.2, read_later n c l ls m ∙ r.3)
-        by (inr m) (inr r) =
-            inr (
-              λ k i h. r.0 k i (not_here K n c l ls m k i h),
-              read_later n c l ls m ∙ r.1 ∙ ap (λ j. ended j (said K n c (l ∷ ls))) (omega arith),
-            )
-
 -- ---- One refusal, or none.
 
-first_one : {H : ℕ → ℕ → Type 0} (k i j h : ℕ) → First H k i → First H j h → (k ≡ j) × (i ≡ h)
-first_one {H} k i j h f g = (same line, line)
-  where
-    line : i ≡ h
-    line = let x = f.first j h g.holds in let y = g.first k i f.holds in omega arith
-
-    same : i ≡ h → k ≡ j
-    same e =
-        let x = f.lowest j (subst (λ m. H j m) (sym e) g.holds) in
-        let y = g.lowest k (subst (λ m. H k m) e f.holds) in
-        omega arith
-
 module _ {A : Type 0} where
-  good_refused : (a : A) (k i : ℕ) → Good a ≡ Refused k i → ⊥
-  good_refused a k i e = zero≢one (cc)
-
   pub refused_same : (k i j h : ℕ) → ◌≡◌ {A = Reading A} (Refused k i) (Refused j h) → (k ≡ j) × (i ≡ h)
   refused_same k i j h e = (cc, cc)
-
-  Decided : Reading A → (ℕ → ℕ → Type 0) → Type 0
-  Decided r H = ((k : ℕ) × (i : ℕ) × First H k i × (r ≡ Refused k i)) ⊎ (((k i : ℕ) → H k i → ⊥) × ((a : A) × (r ≡ Good a)))
-
-  decided : (r : Reading A) (H : ℕ → ℕ → Type 0) → Decided r H → Exact r H
-  unfolding Decided
-  decided r H (inl d) =
-      record {
-        refused =
-            λ j h. (
-              λ e. let s = refused_same d.0 d.1 j h (sym d.3 ∙ e) in subst₂ (First H) s.0 s.1 d.2,
-              λ g. let s = first_one d.0 d.1 j h d.2 g in d.3 ∙ ap₂ {C = Reading A} Refused s.0 s.1,
-            );
-        good = (λ g. absurd (good_refused g.0 d.0 d.1 (sym g.1 ∙ d.3)), λ no. absurd (no d.0 d.1 d.2.holds));
-      }
-  decided r H (inr d) =
-      record {
-        refused = λ j h. (λ e. absurd (good_refused d.1.0 j h (sym d.1.1 ∙ e)), λ g. absurd (d.0 j h g.holds));
-        good = (λ g. d.0, λ no. d.1);
-      }
 
 -- ---- A text.
 
@@ -259,20 +171,8 @@ module _ {S L : Type 0} (K : Kind S L) (f : ℕ → Bool) (no-form : f K.no_form
   holds_one_of m text k i (inl h) = met-one_of f _ (of_line _ _) k h.met
   holds_one_of m text k i (inr h) = subst (λ j. f j ≡ true) (sym h.1) m
 
-no_cons : {A : Type 0} (x : A) (l : List A) → ◌≡◌ {A = List A} (x ∷ l) [] → ⊥
-no_cons x l e = zero≢one (cc)
-
-lines_some : (b : ℕ) (s : List ℕ) → (l : List ℕ) × (ls : List (List ℕ)) × (lines (b ∷ s) ≡ l ∷ ls)
-unfolding lines before
-lines_some b s = by (eqb b 10) (lines s)
-  where
-    by : (t : Bool) (ls : List (List ℕ)) → (l : List ℕ) × (ms : List (List ℕ)) × ((if t then (b ∷ []) ∷ ls else before b ls) ≡ l ∷ ms)
-    by true ls = (b ∷ [], ls, refl)
-    by false [] = (b ∷ [], [], refl)
-    by false (l ∷ ls) = (b ∷ l, ls, refl)
-
 module _ {S L A : Type 0} (K : Kind S L) (ended : ℕ → S → Reading A) (a b : ℕ) (r : Regular K ended a b) where
-  numbered : (c : S) (o : Option L) → LowestFirst a b (conditions_of K c o)
+  pub numbered : (c : S) (o : Option L) → LowestFirst a b (conditions_of K c o)
   unfolding LowestFirst conditions_of
   numbered c none = (r.no_form_within.0, r.no_form_within.1, tt)
   numbered c (some l) = r.lowest-first c l
@@ -282,7 +182,7 @@ module _ {S L A : Type 0} (K : Kind S L) (ended : ℕ → S → Reading A) (a b 
   opened_with n c none m = absurd (not_both true refl m.0)
   opened_with n c (some l) m = r.opens n c l m
 
-  opened : (n : ℕ) (c : S) (l : List ℕ) (ls : List (List ℕ)) → ((k i : ℕ) → AtLine K n c (l ∷ ls) k i → ⊥) → r.Opened (said K n c (l ∷ ls))
+  pub opened : (n : ℕ) (c : S) (l : List ℕ) (ls : List (List ℕ)) → ((k i : ℕ) → AtLine K n c (l ∷ ls) k i → ⊥) → r.Opened (said K n c (l ∷ ls))
   unfolding said
   opened n c l [] f = opened_with n c (K.form l) (not_met _ (λ k m. f k n (at_first K n c l [] k m)))
   opened n c l (m ∷ ls) f = opened (n + 1) (said_with K n c (K.form l)) m ls (λ k i h. f k i (at_later K n c l (m ∷ ls) k i h))
@@ -301,51 +201,3 @@ module _ {S L A : Type 0} (K : Kind S L) (ended : ℕ → S → Reading A) (a b 
 
   abbrev pub read_text : List ℕ → Reading A
   read_text text = reading K ended 1 K.start (lines text)
-
-  empty_decided : Decided (read_text []) (Holds K [])
-  unfolding Decided read_lines lines Holds
-  empty_decided =
-      inl (
-        K.missing,
-        1,
-        record {
-          holds = inr (refl, refl, refl);
-          lowest = λ j h. let e = only j 1 h in omega arith;
-          first = λ j h x. let e = only j h x in omega arith;
-        },
-        r.lacks,
-      )
-    where
-      only : (k i : ℕ) → Holds K [] k i → (k ≡ K.missing) × (i ≡ 1)
-      only k i (inl h) = absurd (not-suc-le-zero h.there)
-      only k i (inr h) = (h.1, h.2)
-
-  some_decided : (x : ℕ) (s : List ℕ) → Decided (read_text (x ∷ s)) (Holds K (x ∷ s))
-  unfolding Decided Holds Outcome
-  some_decided x s = by (outcome K ended a b numbered 1 K.start (lines (x ∷ s)))
-    where
-      line : (k i : ℕ) → Holds K (x ∷ s) k i → AtLine K 1 K.start (lines (x ∷ s)) k i
-      line k i (inl h) = h
-      line k i (inr h) = absurd (no_cons x s h.0)
-
-      by : Outcome K ended 1 K.start (lines (x ∷ s)) → Decided (read_text (x ∷ s)) (Holds K (x ∷ s))
-      by (inl d) =
-          inl (
-            d.0,
-            d.1,
-            record {
-              holds = inl d.2.holds;
-              lowest = λ j h. d.2.lowest j (line j d.1 h);
-              first = λ j h y. d.2.first j h (line j h y);
-            },
-            d.3,
-          )
-      by (inr d) =
-          let e = lines_some x s in
-          let o = subst (λ ls. ((k i : ℕ) → AtLine K 1 K.start ls k i → ⊥) → r.Opened (said K 1 K.start ls)) (sym e.2) (opened 1 K.start e.0 e.1) d.0 in
-          let z = r.ends (1 + length (lines (x ∷ s))) (said K 1 K.start (lines (x ∷ s))) o in
-          inr (λ k i h. d.0 k i (line k i h), (z.0, d.1 ∙ z.1))
-
-  pub exact : (text : List ℕ) → Exact (read_text text) (Holds K text)
-  exact [] = decided (read_text []) (Holds K []) empty_decided
-  exact (x ∷ s) = decided (read_text (x ∷ s)) (Holds K (x ∷ s)) (some_decided x s)

@@ -16,16 +16,11 @@ use Rattle.theorems.specs.ConeValues.{linear_table-length}
 use Rattle.theorems.specs.LinearTables.{lower, total, least_table, span_table}
 use Rattle.theorems.specs.SourceRows.{over_rows_are, row_over, row_over_lt}
 use Rattle.theorems.specs.Terms.{terms_over, coefs, coefs_of, sources_of}
-use Rattle.theorems.specs.Weights.{norm2_weighted, terms_weighted}
 use Rattle.theorems.specs.ZeroSources.{total_used, lower_used, norm_used, used_value}
 
 -- The row of the cone, at a row without those sources.
 unfoldable pub row_in : Cone → ℕ → ℕ
 row_in c i = row_over (simplify_cone c).support c.support i
-
-pub simplified_norm : (nodes : List LutNode) (c : Cone) → norm2 nodes (simplify_cone c) ≡ norm2 nodes c
-unfolding simplify_cone norm2
-simplified_norm nodes c = norm2_weighted nodes (simplify_cone c) ∙ sym (terms_weighted nodes (select is_used (terms c))) ∙ norm_used nodes (terms c)
 
 module _ (c : Cone) (same : length c.coefficients ≡ length c.support) where
   all-coefs : coefs (terms c) ≡ c.coefficients

@@ -11,7 +11,7 @@ use Rattle.rules.specs.Network.{Bootstrap, Network, node_at, is_input, count, no
 use Rattle.rules.specs.Phase.{is_period, slot, found, slot_answer}
 use Rattle.rules.specs.Rotation.{Rotatable, rotated}
 use Rattle.rules.specs.Runs.{bits_for}
-use Rattle.theorems.specs.AdmittedSafe.{Safe, admitted_safe}
+use Rattle.theorems.specs.AdmittedSafe.{Safe}
 use Rattle.theorems.specs.Bits.{bits_nil, bits_cons}
 use Rattle.theorems.specs.RotationRule.{rotation_rule}
 use Rattle.theorems.specs.SlotExact.{Signed32, Within, slot_exact}
@@ -39,7 +39,7 @@ pub record TrialRuns (text : List ℕ) : Type 0 where
 
 -- ---- A table that a rotation gives.
 
-tried : (P : ℕ) (table : List ℕ) → is_period P ≡ true → Rotatable P table → (v : ℕ) → v < length table → (e : ℤ) → Signed32 e → Within P v e
+pub tried : (P : ℕ) (table : List ℕ) → is_period P ≡ true → Rotatable P table → (v : ℕ) → v < length table → (e : ℤ) → Signed32 e → Within P v e
     → Tried P table v e (pos (get_or table v 0))
 tried P table p t v l e f w =
     let x = slot_exact P v e p (omega (arith, t.short)) f in
@@ -50,36 +50,6 @@ tried P table p t v l e f w =
 
 -- ---- Bits for a network's inputs, all 0: it is safe on these too, so each of its tables is one that a rotation gives.
 
-zeros_for : (n : ℕ) → T (bits_for n (replicate n 0))
+pub zeros_for : (n : ℕ) → T (bits_for n (replicate n 0))
 zeros_for zero = bits_nil
 zeros_for (suc n) = bits_cons n 0 (replicate n 0) (omega arith) (zeros_for n)
-
-pub trial_runs : (text : List ℕ) (s : Stats) → admission text ≡ admitted s → TrialRuns text
-trial_runs text s a = record { network = w; read = (admitted_safe text s a).read; table_bit = in_table; run-bit = in_run }
-  where
-    w : Network
-    w = (admitted_safe text s a).network
-
-    safe : (bits : List ℕ) → T (bits_for (count is_input w.nodes) bits) → Safe w bits
-    safe = (admitted_safe text s a).safe
-
-    in_table : is_period w.p ≡ true → (k i : ℕ) (table : List ℕ) → node_at w.nodes k ≡ Bootstrap i table
-        → (v : ℕ) → v < length table → (e : ℤ) → Signed32 e → Within w.p v e → Tried w.p table v e (pos (get_or table v 0))
-    in_table p k i table h = tried w.p table p ((safe _ (zeros_for (count is_input w.nodes))).boots k i table h).1.turns
-
-    in_run : is_period w.p ≡ true → (bits : List ℕ) → T (bits_for (count is_input w.nodes) bits)
-        → (values : List ℤ) → node_values w.p bits [] w.nodes ≡ some values
-        → (k i : ℕ) (table : List ℕ) → node_at w.nodes k ≡ Bootstrap i table
-        → (v : ℕ) × (get_or values i (pos 0) ≡ pos v)
-        × ((e : ℤ) → Signed32 e → Within w.p v e → Tried w.p table v e (get_or values k (pos 0)))
-    in_run p bits b values r k i table h =
-        let same : (safe bits b).values ≡ values = some-injective _ _ (sym (safe bits b).run ∙ r) in
-        let look = ((safe bits b).boots k i table h).1 in (
-          look.v,
-          ap (λ vs. get_or vs i (pos 0)) (sym same) ∙ look.reads,
-          λ e f n. let is = tried w.p table p look.turns look.v look.inside e f n in
-              record {
-                answers = is.answers;
-                gives = is.gives ∙ ap {B = Option ℤ} some (sym look.gives ∙ ap (λ vs. get_or vs k (pos 0)) same);
-              },
-        )

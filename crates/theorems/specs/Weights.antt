@@ -33,10 +33,6 @@ norm_weighted nodes [] (i ∷ is) = refl
 norm_weighted nodes (c ∷ cs) [] = refl
 norm_weighted nodes (c ∷ cs) (i ∷ is) = ap (λ n. (nat_abs c * nat_abs c) * weight_of (node_at nodes i) + n) (norm_weighted nodes cs is)
 
-pub norm2_weighted : (nodes : List LutNode) (c : Cone) → norm2 nodes c ≡ weighted_norm (weights_of nodes c.support) c.coefficients
-unfolding norm2 terms terms_over
-norm2_weighted nodes c = norm_weighted nodes c.coefficients c.support
-
 pub terms_weighted : (nodes : List LutNode) (ts : List Term) → norm nodes ts ≡ weighted_norm (weights_of nodes (sources ts)) (coefs ts)
 unfolding norm sources weights_of weighted_norm
 terms_weighted nodes [] = refl
@@ -53,18 +49,6 @@ unfolding weights_of
 same_weights ms ns [] h = refl
 same_weights ms ns (i ∷ is) h =
     ap₂ {C = List ℕ} (λ w ws. w ∷ ws) (h i (member_head i is)) (same_weights ms ns is (λ j k. h j (member-tail j i is k)))
-
-pub same_norm : (ms ns : List LutNode) (ts : List Term) → SameWeights ms ns (sources ts) → norm ms ts ≡ norm ns ts
-same_norm ms ns ts h =
-    terms_weighted ms ts ∙ ap (λ ws. weighted_norm ws (coefs ts)) (same_weights ms ns (sources ts) h) ∙ sym (terms_weighted ns ts)
-
-pub same_norm2 : (ms ns : List LutNode) (c : Cone) → SameWeights ms ns c.support → norm2 ms c ≡ norm2 ns c
-same_norm2 ms ns c h =
-    norm2_weighted ms c ∙ ap (λ ws. weighted_norm ws c.coefficients) (same_weights ms ns c.support h) ∙ sym (norm2_weighted ns c)
-
-pub same_fits : (s : Settings) (ms ns : List LutNode) (c : Cone) → SameWeights ms ns c.support → fits s ms c ≡ fits s ns c
-unfolding fits
-same_fits s ms ns c h = rw (same_norm2 ms ns c h)
 
 -- Each of these sources is one of the nodes.
 abbrev pub AllWithin : List LutNode → List ℕ → Type 0

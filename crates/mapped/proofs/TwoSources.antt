@@ -19,8 +19,8 @@ use Rattle.mapped.specs.Cones.{Standing, standing_shape}
 use Rattle.mapped.specs.ConeGate.{answer}
 use Rattle.mapped.specs.GateSides.{switched_answers}
 use Rattle.mapped.specs.GateRefusals.{gates_refuse}
-use Rattle.mapped.specs.Cap.{reached_stand}
-use Rattle.mapped.specs.Whole.{refusal}
+use Rattle.mapped.proofs.Cap.{reached_stand}
+use Rattle.mapped.proofs.Whole.{refusal}
 use Rattle.mapped.specs.Statements.{DependsOn, DependsOnTwo, TwoSourceGate}
 use Rattle.mapped.specs.TwoSourceCones.{one_source, not_both, two_as, compose_none}
 

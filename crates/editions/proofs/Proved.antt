@@ -19,7 +19,8 @@ use Rattle.rules.specs.Regroup.{order, place_in, moved_node, reordered, regroupe
 use Rattle.rules.specs.Writing.{network_text}
 use Rattle.theorems.specs.Admissible.{net_of, Admissible}
 use Rattle.theorems.specs.Admissible2.{read_plain, read_2}
-use Rattle.theorems.specs.AdmissionExact.{EitherHolds, listed, listed2, reply_refused, admission_exact}
+use Rattle.theorems.specs.AdmissionExact.{EitherHolds, listed, listed2, reply_refused}
+use Rattle.theorems.proofs.AdmissionExact.{admission_exact}
 use Rattle.theorems.specs.Results.{good_same, reading_then}
 use Rattle.mapped.specs.TextReadBack.{is_plain}
 use Rattle.editions.specs.Statements.{Writable, Together, ReadsBack2, Regroups, RegroupsEach, Converted, Converts, ThereAndBack, SecondTrip, PlainTrip, Answers, is_written, is_refused, is_too_long, Refuses}

@@ -18,7 +18,8 @@ use Rattle.rules.specs.Mapper.{State, Outputs, and_then, is_basic, map_next, map
 use Rattle.rules.specs.Network.{Network, is_linear, count, node_norm, largest}
 use Rattle.rules.specs.Outcome.{outcome, refused}
 use Rattle.rules.specs.Writing.{network_text}
-use Rattle.theorems.specs.AdmissionExact.{circuits, circuits_regular, circuit_exact}
+use Rattle.theorems.specs.AdmissionExact.{circuits, circuits_regular}
+use Rattle.theorems.proofs.AdmissionExact.{circuit_exact}
 use Rattle.theorems.specs.Readings.{holds_from, holds_within}
 use Rattle.theorems.specs.SoundCircuits.{Sound, read_sound, gate_sound, SoundGate, SoundGates}
 use Rattle.theorems.specs.Results.{good_same, reading_then}

@@ -20,8 +20,8 @@ use Rattle.mapped.specs.SingleSources.{within_least, RoomForTwo, room-one, singl
 use Rattle.mapped.specs.SourceWeights.{two_weigh, plain_two}
 use Rattle.mapped.specs.Store.{net_for, Store}
 use Rattle.mapped.specs.GateRefusals.{Refusal, over-norm, uncomposed}
-use Rattle.mapped.specs.Whole.{used_span, gate-refusal, whole}
-use Rattle.mapped.specs.Proved.{mapped_fits}
+use Rattle.mapped.proofs.Whole.{used_span, gate-refusal, whole}
+use Rattle.mapped.proofs.Proved.{mapped_fits}
 
 -- a cone that stands is within the norm limit: it was judged, or has no source or one
 standing_norm : (s : Settings) (nodes : List LutNode) (c : Cone) → RoomForTwo s nodes → Standing s nodes c → within_norm s (norm2 nodes c) ≡ true

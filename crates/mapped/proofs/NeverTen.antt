@@ -34,8 +34,8 @@ use Rattle.mapped.specs.ConeGate.{gate_truth-bits}
 use Rattle.mapped.specs.ConeUnary.{validated}
 use Rattle.mapped.specs.Gates.{left-bits, right-bits, wire_constant, two_have, four_answers}
 use Rattle.mapped.specs.GateSides.{switched-bits}
-use Rattle.mapped.specs.Whole.{used_limits}
-use Rattle.mapped.specs.ConeBuilt.{kept, merged_within, passes}
+use Rattle.mapped.proofs.Whole.{used_limits}
+use Rattle.mapped.proofs.ConeBuilt.{kept, merged_within, passes}
 
 -- ---- The sides of a gate.
 

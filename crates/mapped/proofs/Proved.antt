@@ -18,16 +18,16 @@ use Rattle.theorems.specs.Admissible2.{admitted_read}
 use Rattle.theorems.specs.Depths.{depth-stays}
 use Rattle.theorems.specs.EarlierNodes.{Ordered, pass_ordered}
 use Rattle.theorems.specs.SoundCircuits.{read_sound}
-use Rattle.mapped.specs.Agrees.{Delivered, delivered, text_agrees}
+use Rattle.mapped.proofs.Agrees.{Delivered, delivered, text_agrees}
 use Rattle.mapped.specs.Statements.{MapsTo, MappedAgrees, MapperAgrees, MappedFits, DepthKept, MappedDepth, MapperDepth, MappedCentre, MapperCentre, RefusedKeeps, LaterKept, EarlierBytes, ServiceAnswer, Whole, is_written, is_unreadable, is_refused, is_over, is_too_long, MapperWhole, CapUnmet, TwoSourcesRefused}
-use Rattle.mapped.specs.Whole.{used_span, Comes, comes, whole}
+use Rattle.mapped.proofs.Whole.{used_span, Comes, comes, whole}
 use Rattle.mapped.specs.PrunedCentres.{pruning_keeps_centre}
 use Rattle.mapped.specs.PrunedDepths.{pruning_keeps_depth}
 use Rattle.mapped.specs.SharedDepths.{sharing_keeps_depth}
 use Rattle.mapped.specs.Store.{net_for}
 use Rattle.mapped.specs.TextReadBack.{admits_back}
-use Rattle.mapped.specs.Cap.{attempts, mapper_same}
-use Rattle.mapped.specs.TwoSources.{refuses}
+use Rattle.mapped.proofs.Cap.{attempts, mapper_same}
+use Rattle.mapped.proofs.TwoSources.{refuses}
 
 abbrev number : Outcome → ℕ
 number o = o.answer.number

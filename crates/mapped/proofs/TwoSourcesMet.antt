@@ -12,7 +12,7 @@ use Rattle.rules.specs.Form.{bytes}
 use Rattle.rules.specs.Mapper.{mapper, start}
 use Rattle.rules.specs.Outcome.{outcome, refused}
 use Rattle.mapped.specs.Statements.{DependsOn, TwoSourceGate}
-use Rattle.mapped.specs.Proved.{two_sources_refused}
+use Rattle.mapped.proofs.Proved.{two_sources_refused}
 
 abbrev text : List ℕ
 text = bytes "(fbs 16 16 10 none basic one)\n(in a)\n(in b)\n(gate g 0001 (n 0) (n 1))\n(out y (n 2))\n"
