@@ -9,11 +9,12 @@ loop-at-init c =
 pub take_line-next-requires : goal.take_line-next-requires
 take_line-next-requires c =
     let w = c.loop-at.invariant in
-    ((w.inside, w.long), w.ready)
+    record { at_in_bounds = (w.inside, w.long); ready = w.ready }
 
 pub returns-then-next-ne0 : goal.returns-then-next-ne0
 returns-then-next-ne0 c =
-    going_refused _ _ _ _ _ _ c.loop-at.invariant c.loop-at-test.true _ _ _ c.take_line-next.ensures c.if-next-ne0.true
+    let r = going_refused _ _ _ _ _ _ c.loop-at.invariant c.loop-at-test.true _ _ _ c.take_line-next.ensures c.if-next-ne0.true in
+    record { ports_after = r.0; held = r.1 }
 
 pub overflow_add-line : goal.overflow_add-line
 overflow_add-line c =
@@ -32,8 +33,10 @@ loop-at-preserved c =
 
 pub returns-then-line-eq1 : goal.returns-then-line-eq1
 returns-then-line-eq1 c =
-    going_empty _ _ _ _ _ _ c.loop-at.invariant c.loop-at-test.false c.if-line-eq1.true
+    let r = going_empty _ _ _ _ _ _ c.loop-at.invariant c.loop-at-test.false c.if-line-eq1.true in
+    record { ports_after = r.0; held = r.1 }
 
 pub returns : goal.returns
 returns c =
-    going_good _ _ _ _ _ _ c.loop-at.invariant c.loop-at-test.false c.if-line-eq1.false
+    let r = going_good _ _ _ _ _ _ c.loop-at.invariant c.loop-at-test.false c.if-line-eq1.false in
+    record { ports_after = r.0; held = r.1 }

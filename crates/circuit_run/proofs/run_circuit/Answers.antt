@@ -4,14 +4,14 @@ use Rattle.circuit_run.proofs.run_circuit.Goals as goal
 pub run_read-requires : goal.run_read-requires
 run_read-requires c =
     let A = c.args in
-    read_runs A.text.now c.read-r.new.1.0 c.read-r.new.1.1.0 A.bits.now A.values.now _ c.read-r.ensures.0 _ c.in-Good.is c.read-r.ensures.1
+    read_runs A.text.now c.read-r.new.gates c.read-r.new.ports A.bits.now A.values.now _ c.read-r.ensures.ports_after _ c.in-Good.is c.read-r.ensures.held
 
 pub returns-in-Refused : goal.returns-in-Refused
 returns-in-Refused c =
     let A = c.args in
-    run_unreadable A.text.now c.read-r.new.1.0 c.read-r.new.1.1.0 A.bits.now A.values.now _ c.read-r.ensures.0 _ _ c.in-Refused.is
+    run_unreadable A.text.now c.read-r.new.gates c.read-r.new.ports A.bits.now A.values.now _ c.read-r.ensures.ports_after _ _ c.in-Refused.is
 
 pub returns-in-Good : goal.returns-in-Good
 returns-in-Good c =
     let A = c.args in
-    run_good A.text.now c.read-r.new.1.0 c.read-r.new.1.1.0 A.bits.now A.values.now _ c.read-r.ensures.0 _ c.in-Good.is _ (c.run_read.ensures A.text.now)
+    run_good A.text.now c.read-r.new.gates c.read-r.new.ports A.bits.now A.values.now _ c.read-r.ensures.ports_after _ c.in-Good.is _ (c.run_read.ensures A.text.now)

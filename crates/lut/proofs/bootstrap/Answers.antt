@@ -8,4 +8,7 @@ slice_bounds-complete_bootstrap-end c =
 
 pub complete_bootstrap-requires : goal.complete_bootstrap-requires
 complete_bootstrap-requires c =
-    ((c.requires.0.0, c.requires.0.1, c.requires.0.2), (c.requires.1.0, c.requires.1.1, head_length (replicate 32 0) (length c.args.known.now) (omega arith)))
+    record {
+      store = c.requires.store;
+      known_len_bound = (c.requires.known_len_bound.0, c.requires.known_len_bound.1, head_length (replicate 32 0) (length c.args.known.now) (omega arith));
+    }

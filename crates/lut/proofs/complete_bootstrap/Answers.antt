@@ -7,10 +7,8 @@ use Rattle.lut.proofs.complete_bootstrap.Goals as goal
 
 pub put_bootstrap-requires : goal.put_bootstrap-requires
 put_bootstrap-requires c =
-    let s = c.before in
-    (s.requires.0.0, s.requires.0.1, subst (λ t. Fine s.args.count (Bootstrap s.args.source t)) (sym c.complete.ensures.0) (fine_boot _ _ s.args.p _ s.requires.0.2 s.requires.1.0 s.requires.1.1))
+    (c.requires.store.0, c.requires.store.1, subst (λ t. Fine c.args.count (Bootstrap c.args.source t)) (sym c.complete.ensures.left) (fine_boot _ _ c.args.p _ c.requires.store.2 c.requires.known_len_bound.0 c.requires.known_len_bound.1))
 
 pub returns : goal.returns
 returns c =
-    let s = c.before in
-    interns_node _ _ _ _ _ _ c.put_bootstrap.ensures (ap (Bootstrap s.args.source) c.complete.ensures.0) (ap (centre_of s.args.p) c.complete.ensures.0)
+    interns_node _ _ _ _ _ _ c.put_bootstrap.ensures (ap (Bootstrap c.args.source) c.complete.ensures.left) (ap (centre_of c.args.p) c.complete.ensures.left)

@@ -15,7 +15,7 @@ told c =
     summed c.args.count c.args.many c.args.t c.linear_terms-arranged.result c.requires.2 (omega arith) c.linear_terms-arranged.ensures (long c).0 (long c).1
 
 pub sum-bytes-requires : goal.sum-bytes-requires
-sum-bytes-requires c = (told c).well-formed
+sum-bytes-requires c = (told c).good
 
 pub intern-requires : goal.intern-requires
 intern-requires c =

@@ -4,8 +4,7 @@ use Rattle.regroup.proofs.regroup.Goals as goal
 
 pub number-requires : goal.number-requires
 number-requires c =
-    let a = c.before in
-    (a.requires.1.1, (a.requires.0.most, arranged_below c.arrange.ensures))
+    (c.requires.1.1, (c.requires.0.most, arranged_below c.arrange.ensures))
 
 pub returns : goal.returns
 returns c = regroup_is c.arrange.ensures c.number.ensures

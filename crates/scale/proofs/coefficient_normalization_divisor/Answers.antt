@@ -1,9 +1,9 @@
-use Rattle.std.proofs.Common.{◌≡◌, sym, ap, ◌∙◌, true, false, List, ⊎_elim, ℕ, ◌<◌, ◌^◌, max, arith, ltb-true, ltb-false, ℤ, pos, neg_ℤ, ◌-ℤ◌, w64, to_z, SFits, to_z-of_z}
+use Rattle.std.proofs.Common.{◌≡◌, sym, ap, ◌∙◌, true, false, List, ℕ, ◌<◌, ◌^◌, max, arith, ltb-true, ltb-false, ℤ, pos, neg_ℤ, ◌-ℤ◌, w64, to_z, SFits, to_z-of_z}
 use lib.Signed.{lt_z}
 use Rattle.laws.specs.Integer.{ints, plus, minus, sub_parts, plus_neg, minus_neg, abs_neg, fits_abs, read_back}
 use Rattle.rules.specs.Scale.{gcd_from, starts_negative, divisor}
 use Rattle.scale.proofs.coefficient_normalization_divisor.Goals as goal
-use Rattle.scale.proofs.coefficient_normalization_divisor.Goals.{After-common_divisor-g, Joined-g-lt1}
+use Rattle.scale.proofs.coefficient_normalization_divisor.Goals.{After-common_divisor-g, Joined-g-lt1, then-g-lt1, else-g-lt1}
 
 -- `scale::coefficient_normalization_divisor` meets its contract.
 one : (r : ℤ) (g : ℕ) → r ≡ pos g → lt_z r (pos 1) ≡ true → pos 1 ≡ pos (max g 1)
@@ -13,14 +13,14 @@ more : (r : ℤ) (g : ℕ) → r ≡ pos g → lt_z r (pos 1) ≡ false → r �
 more r g e h = e ∙ ap pos (omega (arith, ltb-false g 1 (rw e at h)))
 
 -- d is the gcd, and at least 1
-at_least_one : (c : Joined-g-lt1) → c.if-g-lt1.d ≡ pos (max (gcd_from 0 c.args.coefs.now) 1)
+at_least_one : (c : Joined-g-lt1) → to_z w64 c.if-g-lt1.d-bits ≡ pos (max (gcd_from 0 c.args.coefs.now) 1)
 at_least_one c =
-    let back = read_back _ c.common_divisor-g.type_inv in
+    let back = read_back c.common_divisor-g.result c.common_divisor-g.type_inv in
     let e = c.common_divisor-g.ensures in
-    ⊎_elim
-    (λ w. ap (to_z w64) w.1 ∙ one _ _ e (rw back at w.0.true))
-    (λ w. ap (to_z w64) w.1 ∙ back ∙ more _ _ e (rw back at w.0.false))
-    c.if-g-lt1.branch
+    elim c.if-g-lt1.branch [
+      | then-g-lt1 w ↦ w.d-is ∙ one _ _ e (rw back at w.if-g-lt1.true)
+      | else-g-lt1 w ↦ w.d-is ∙ back ∙ more _ _ e (rw back at w.if-g-lt1.false)
+    ]
 
 below : (c : After-common_divisor-g) → gcd_from 0 c.args.coefs.now < 2 ^ 63
 below c = rw c.common_divisor-g.ensures at c.common_divisor-g.type_inv

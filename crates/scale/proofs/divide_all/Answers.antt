@@ -29,23 +29,10 @@ module _ (d : ℤ) (l t : List ℤ) (i : ℕ) (below : Machine l) (lt : i < leng
 pub loop-i-init : goal.loop-i-init
 loop-i-init c = (search rules, refl, sym (front_zero _ _))
 
-pub offset_bounds-values-i : goal.offset_bounds-values-i
-offset_bounds-values-i c = omega arith
-
-pub slice_copy_out-values : goal.slice_copy_out-values
-slice_copy_out-values c = omega arith
-
-pub offset_bounds-values-i-in-loop-i : goal.offset_bounds-values-i-in-loop-i
-offset_bounds-values-i-in-loop-i c = omega arith
-
-pub bounds-values-i : goal.bounds-values-i
-bounds-values-i c = omega arith
-
-pub overflow_add-i : goal.overflow_add-i
-overflow_add-i c = omega arith
-
-pub loop-i-smaller : goal.loop-i-smaller
-loop-i-smaller c = omega arith
+pub nonzero_div-values : goal.nonzero_div-values
+nonzero_div-values c =
+    let o = c.loop-i in
+    (abs_bits c.args.d c.requires.0 c.ranges.d, fits _ c.args.values.now o.values o.i c.requires.1 (omega arith) o.invariant.2)
 
 pub loop-i-preserved : goal.loop-i-preserved
 loop-i-preserved c =
@@ -55,12 +42,3 @@ loop-i-preserved c =
 pub returns : goal.returns
 returns c =
     (simp (to_z-of_z c.ranges.d) at c.loop-i.invariant.2) ∙ front-all _ _ c.loop-i.i (same _ _) (omega arith)
-
-pub UNKNOWN-nonzero-div-values : goal.UNKNOWN-nonzero-div-values
-UNKNOWN-nonzero-div-values c =
-    let s = c.before.before.before in
-    let o = c.before.before.loop in
-    (abs_bits s.args.d s.requires.0 s.ranges.d, fits _ s.args.values.now o.values o.i s.requires.1 (omega arith) o.invariant.2)
-
-pub UNKNOWN-same-length : goal.UNKNOWN-same-length
-UNKNOWN-same-length c = c.before.loop.invariant.1

@@ -1,10 +1,11 @@
-use Rattle.std.proofs.Common.{◌≡◌, sym, ap, ◌∙◌, true, false, ⊎_elim, ◌<◌, not-suc-le-zero, arith, ltb-true, eqb, ℤ, pos, negsuc, nat_abs, w64, to_z, of_z, to_z-of_z}
+use Rattle.std.proofs.Common.{◌≡◌, sym, ap, ◌∙◌, true, false, ◌<◌, not-suc-le-zero, arith, ltb-true, eqb, ℤ, pos, negsuc, nat_abs, w64, to_z, of_z, to_z-of_z}
 use lib.Dec.{eqb-suc-zero}
 use lib.Signed.{lt_z, le_z}
 use Rattle.laws.specs.Gcd.{gcd}
 use Rattle.laws.specs.Integer.{plus, minus, le_z_true, le_z_false, true_lt_z, false_lt_z, lt_z_false, abs_parts, one_part_zero, bits_abs}
 use Rattle.rules.specs.Scale.{is_scale_pair}
 use Rattle.scale.proofs.is_candidate_scale_pair.Goals as goal
+use Rattle.scale.proofs.is_candidate_scale_pair.Goals.{then-first-eq0+else-second-le0, else-first-eq0}
 
 -- `scale::is_candidate_scale_pair` meets its contract: a sign that is out, or the gcd.
 negative : (a b : ℤ) → lt_z a (pos 0) ≡ true → false ≡ is_scale_pair a b
@@ -42,8 +43,8 @@ returns c =
     let b = c.args.second in
     let back = to_z-of_z c.ranges.first in
     let g : c.gcd_i64.result ≡ pos (gcd (nat_abs a) (nat_abs b)) = simp (back, to_z-of_z c.ranges.second) at c.gcd_i64.ensures in
-    ap (λ r. eqb (of_z w64 r) 1) g
-    ∙ sym (⊎_elim
-    (λ w. second_positive a b (sym back ∙ ap (to_z w64) w.0.true) (simp (to_z-of_z c.ranges.second) at w.1.left))
-    (λ w. first_positive a b (positive a (simp back at c.if-first-lt0.false) (simp back at (bits_abs _ w.left))))
-    c.if-first-eq0.branch)
+    let accepted : is_scale_pair a b ≡ eqb (gcd (nat_abs a) (nat_abs b)) 1 = elim c.if-first-eq0.branch [
+      | then-first-eq0+else-second-le0 w ↦ second_positive a b (sym back ∙ ap (to_z w64) w.if-first-eq0.true) (simp (to_z-of_z c.ranges.second) at w.if-second-le0.false)
+      | else-first-eq0 w ↦ first_positive a b (positive a (simp back at c.if-first-lt0.false) (simp back at (bits_abs _ w.if-first-eq0.false)))
+    ] in
+    ap (λ r. eqb (of_z w64 r) 1) g ∙ sym accepted

@@ -33,4 +33,4 @@ overflow_add-result c =
 pub returns : goal.returns
 returns c =
     simp (to_z-of_z c.ranges.a, to_z-of_z c.ranges.x, to_z-of_z c.ranges.b, to_z-of_z c.ranges.y, to_z-of_z (ax_fits c), to_z-of_z (by_fits c), to_z-of_z (sum_fits c))
-    (refl, (size c).2)
+    (record { value = refl; size = (size c).2 })

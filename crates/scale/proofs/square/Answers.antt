@@ -12,4 +12,4 @@ overflow_cast-result c =
 pub returns : goal.returns
 returns c =
     simp (to_z-of_z c.ranges.x, to_z-of_z (square_fits c.args.x (omega (arith, c.requires))))
-    (abs_mul c.args.x c.args.x, omega (arith, abs_mul_le c.args.x c.args.x c.requires c.requires))
+    (record { value = abs_mul c.args.x c.args.x; size = omega (arith, abs_mul_le c.args.x c.args.x c.requires c.requires) })

@@ -4,10 +4,9 @@ use Rattle.laws.specs.Integer.{fits_abs, abs_add, abs_mul, abs_mul_le, read_back
 use Rattle.merged_rows.specs.declared.energy.Moments.{Moments}
 use Rattle.scale_pair.specs.declared.pair.Pair.{Pair}
 use Rattle.merged_rows.specs.EnergyMoments.{by_moments}
-use Rattle.scale_pair.specs.Pair.{small_same}
-use Rattle.search.specs.Search.{energy_by}
+use Rattle.merged_rows.specs.EnergyRows.{Small}
+use Rattle.search.specs.Search.{energy_by, Scored}
 use Rattle.search.proofs.energy_of.Goals as goal
-use Rattle.search.proofs.energy_of.Goals.{After-struct_told-4-1, After-weighted-3}
 
 -- `search::energy_of` meets its contract.
 -- twice a scale
@@ -20,9 +19,6 @@ module _ (a a' : ℤ) (e : a' ≡ a) (h : nat_abs a ≤ 32) where
 
   twice_read : to_z w64 (of_z w64 (pos 2 *ℤ a')) ≡ pos 2 *ℤ a
   twice_read = to_z-of_z twice_fits ∙ ap (λ z. pos 2 *ℤ z) e
-
-  twice_read_small : nat_abs (to_z w64 (of_z w64 (pos 2 *ℤ a'))) ≤ 64
-  twice_read_small = small_same _ _ _ (to_z-of_z twice_fits) twice_small
 
 -- three terms added
 module _ (x y z x' y' z' : ℤ) (ex : x' ≡ x) (ey : y' ≡ y) (ez : z' ≡ z) (h : nat_abs x ≤ 2 ^ 51) (k : nat_abs y ≤ 2 ^ 51) (l : nat_abs z ≤ 2 ^ 51) where
@@ -62,47 +58,35 @@ energy_is m c q n t x y z eq en et ex ey ez =
 product : (a b z a' b' z' r : ℤ) → a' ≡ a → b' ≡ b → z' ≡ z → r ≡ (a' *ℤ b') *ℤ z' → r ≡ (a *ℤ b) *ℤ z
 product a b z a' b' z' r ea eb ez e = e ∙ rw (ea, eb, ez)
 
-module _ (c : After-struct_told-4-1) where
-  a_is : to_z w64 (of_z w64 c.args.c.a) ≡ c.args.c.a
-  a_is = read_back c.args.c.a c.struct_told-1.given.1.0.1
+-- a number well below the limit is read back from its bits
+back : (z : ℤ) → nat_abs z < 2 ^ 63 → to_z w64 (of_z w64 z) ≡ z
+back z h = to_z-of_z {w = w64} (fits_abs z h)
 
-  b_is : to_z w64 (of_z w64 c.args.c.b) ≡ c.args.c.b
-  b_is = read_back c.args.c.b c.struct_told-2-1.given.1.1.0.1
+-- the numbers that a pair and the moments give
+module _ (m : Moments) (c : Pair) (small : Small m) (scored : Scored c) where
+  a_is : to_z w64 (of_z w64 c.a) ≡ c.a
+  a_is = back c.a (omega (arith, scored.scaling.first))
 
-  d_is : to_z w64 (of_z w64 c.args.c.divisor) ≡ c.args.c.divisor
-  d_is = read_back c.args.c.divisor c.struct_told-3-1.given.1.1.1.0.1
+  b_is : to_z w64 (of_z w64 c.b) ≡ c.b
+  b_is = back c.b (omega (arith, scored.scaling.second))
 
-  xx_is : to_z w64 (of_z w64 c.args.m.xx) ≡ c.args.m.xx
-  xx_is = read_back c.args.m.xx c.struct_told-4-1.given.0.1
+  d_is : to_z w64 (of_z w64 c.divisor) ≡ c.divisor
+  d_is = back c.divisor (omega (arith, scored.divisor-small))
 
-  a_small : nat_abs (to_z w64 (of_z w64 c.args.c.a)) ≤ 32
-  a_small = small_same _ _ _ a_is c.requires.1.scaling.first
+  xx_is : to_z w64 (of_z w64 m.xx) ≡ m.xx
+  xx_is = back m.xx (omega (arith, small.xx))
 
-  b-small : nat_abs (to_z w64 (of_z w64 c.args.c.b)) ≤ 32
-  b-small = small_same _ _ _ b_is c.requires.1.scaling.second
+  xy_is : to_z w64 (of_z w64 m.xy) ≡ m.xy
+  xy_is = back m.xy (omega (arith, small.xy))
 
-module _ (c : After-weighted-3) where
-
-pub weighted-requires : goal.weighted-requires
-weighted-requires c = let h = a_small c in (omega (arith, h), (h, small_same _ _ _ (xx_is c) c.requires.0.xx))
-
-pub overflow_mul-a : goal.overflow_mul-a
-overflow_mul-a c = twice_fits _ _ (a_is (goal.at.overflow_mul-a c).After-struct_told-4-1) c.requires.1.scaling.first
-
-pub weighted-requires-2 : goal.weighted-requires-2
-weighted-requires-2 c =
-    (twice_read_small _ _ (a_is (goal.at.weighted-requires-2 c).After-struct_told-4-1) c.requires.1.scaling.first, (b-small (goal.at.weighted-requires-2 c).After-struct_told-4-1, small_same _ _ _ (read_back c.args.m.xy c.struct_told-5-1.given.1.0.1) c.requires.0.xy))
+  yy_is : to_z w64 (of_z w64 m.yy) ≡ m.yy
+  yy_is = back m.yy (omega (arith, small.yy))
 
 pub overflow_add-sum : goal.overflow_add-sum
 overflow_add-sum c =
     let u = c.weighted in
     let v = c.weighted-2 in
     two_fit _ _ _ _ _ u.result (read_back u.result u.type_inv) (read_back v.result v.type_inv) refl u.ensures.1 v.ensures.1 u.ensures.1
-
-pub weighted-requires-3 : goal.weighted-requires-3
-weighted-requires-3 c =
-    let h = b-small (goal.at.weighted-requires-3 c).After-struct_told-4-1 in
-    (omega (arith, h), (h, small_same _ _ _ (read_back c.args.m.yy c.struct_told-6-1.given.1.1.0.1) c.requires.0.yy))
 
 pub overflow_add-sum-2 : goal.overflow_add-sum-2
 overflow_add-sum-2 c =
@@ -112,25 +96,30 @@ overflow_add-sum-2 c =
     three_fit _ _ _ _ _ _ (read_back u.result u.type_inv) (read_back v.result v.type_inv) (read_back w.result w.type_inv) u.ensures.1 v.ensures.1 w.ensures.1
 
 pub overflow_mul-d : goal.overflow_mul-d
-overflow_mul-d c = let f = fourth c in square_fits _ _ (d_is f) c.requires.1.divides c.requires.1.divisor-small
+overflow_mul-d c =
+    let r = c.requires in
+    square_fits _ _ (d_is c.args.m c.args.c r.0 r.1) r.1.divides r.1.divisor-small
 
 pub divide-requires : goal.divide-requires
 divide-requires c =
     let u = c.weighted in
     let v = c.weighted-2 in
     let w = c.weighted-3 in
-    let f = fourth c in
-    (three_small _ _ _ _ _ _ (read_back u.result u.type_inv) (read_back v.result v.type_inv) (read_back w.result w.type_inv) u.ensures.1 v.ensures.1 w.ensures.1, square_used _ _ (d_is f) c.requires.1.divides c.requires.1.divisor-small)
+    let r = c.requires in
+    (three_small _ _ _ _ _ _ (read_back u.result u.type_inv) (read_back v.result v.type_inv) (read_back w.result w.type_inv) u.ensures.1 v.ensures.1 w.ensures.1, square_used _ _ (d_is c.args.m c.args.c r.0 r.1) r.1.divides r.1.divisor-small)
 
 pub returns : goal.returns
 returns c =
     let u = c.weighted in
     let v = c.weighted-2 in
     let w = c.weighted-3 in
-    let f = fourth (goal.at.returns c).After-weighted-3 in
+    let m = c.args.m in
+    let p = c.args.c in
+    let s = c.requires.0 in
+    let t = c.requires.1 in
     energy_is _ _ _ _ _ _ _ _ (read_back c.divide.result c.divide.type_inv ∙ c.divide.ensures)
     (three_read _ _ _ _ _ _ (read_back u.result u.type_inv) (read_back v.result v.type_inv) (read_back w.result w.type_inv) u.ensures.1 v.ensures.1 w.ensures.1)
-    (square_read _ _ (d_is f) c.requires.1.divides c.requires.1.divisor-small)
-    (product _ _ _ _ _ _ _ (a_is f) (a_is f) (xx_is f) u.ensures.0)
-    (product _ _ _ _ _ _ _ (twice_read _ _ (a_is f) c.requires.1.scaling.first) (b_is f) (read_back c.args.m.xy c.struct_told-5-1.given.1.0.1) v.ensures.0)
-    (product _ _ _ _ _ _ _ (b_is f) (b_is f) (read_back c.args.m.yy c.struct_told-6-1.given.1.1.0.1) w.ensures.0)
+    (square_read _ _ (d_is m p s t) t.divides t.divisor-small)
+    (product _ _ _ _ _ _ _ (a_is m p s t) (a_is m p s t) (xx_is m p s t) u.ensures.0)
+    (product _ _ _ _ _ _ _ (twice_read _ _ (a_is m p s t) t.scaling.first) (b_is m p s t) (xy_is m p s t) v.ensures.0)
+    (product _ _ _ _ _ _ _ (b_is m p s t) (b_is m p s t) (yy_is m p s t) w.ensures.0)

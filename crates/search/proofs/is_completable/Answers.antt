@@ -16,7 +16,7 @@ first_entries n known h e =
     }
 
 pub slice_bounds-is_known_lut_valid-end : goal.slice_bounds-is_known_lut_valid-end
-slice_bounds-is_known_lut_valid-end c = head_length c.args.t1 c.args.span (search rules)
+slice_bounds-is_known_lut_valid-end c = head_length c.args.known c.args.span (search rules)
 
 pub is_known_lut_valid-requires : goal.is_known_lut_valid-requires
-is_known_lut_valid-requires c = first_entries c.args.span c.args.t1 (search rules) c.requires.1
+is_known_lut_valid-requires c = first_entries c.args.span c.args.known (search rules) c.requires.1

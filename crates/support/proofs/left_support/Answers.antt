@@ -1,4 +1,4 @@
-use Rattle.std.proofs.Common.{◌≡◌, refl, ◌-◌, arith, length, length-set}
+use Rattle.std.proofs.Common.{◌≡◌, refl, arith, length, length-set}
 use Rattle.laws.specs.Front.{taken_step, taken-all}
 use Rattle.support.proofs.left_support.Goals as goal
 

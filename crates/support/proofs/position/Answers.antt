@@ -1,4 +1,4 @@
-use Rattle.std.proofs.Common.{◌-◌, arith}
+use Rattle.std.proofs.Common.{arith}
 use Rattle.support.specs.Support.{position_here, position_on, position_end}
 use Rattle.support.proofs.position.Goals as goal
 

@@ -1,11 +1,11 @@
-use Rattle.std.proofs.Common.{◌≡◌, refl, ap, List, ◌∷◌, ⊎_elim, ℕ, suc, ◌+◌, ◌-◌, ◌≤◌, ◌<◌, ◌^◌, arith, rules, bit_or, pow_mono, length, get_or, drop, set, replicate, length-drop, length-set, drop-cons}
+use Rattle.std.proofs.Common.{◌≡◌, refl, ap, List, ◌∷◌, ℕ, suc, ◌+◌, ◌-◌, ◌≤◌, ◌<◌, ◌^◌, arith, rules, bit_or, pow_mono, length, get_or, drop, set, replicate, length-drop, length-set, drop-cons}
 use native.Mathlib.Nat.{two-pow-succ}
 use lib.ListN.{get_or-replicate}
 use lib.Seq.{drop-length}
 use Rattle.rules.specs.Cone.{row_from}
 use Rattle.support.specs.Rows.{position, hit_mask, mask_set, mask_kept}
 use Rattle.support.proofs.source_masks.Goals as goal
-use Rattle.support.proofs.source_masks.Goals.{Joined-at-support}
+use Rattle.support.proofs.source_masks.Goals.{then-at-support, else-at-support}
 
 nothing : (n : ℕ) → 0 ≡ n - n
 nothing n = omega arith
@@ -41,18 +41,6 @@ module _ (U rs masks next : List ℕ) (i at : ℕ) (some : 0 < i) (in-rs : i ≤
   kept : length U ≤ at → next ≡ masks → (length next ≡ 12) × ((z : ℕ) → z < 12 → get_or next z 0 ≡ hit_mask U (drop (i - 1) rs) z)
   kept h e = (rw e twelve, λ z k. rw (e, before rs i some in-rs) (mask_kept U (drop i rs) masks (get_or rs (i - 1) 0) at place so_far h z k))
 
-after : (c : Joined-at-support) → (length c.if-at-support.masks ≡ 12)
-    × ((z : ℕ) → z < 12 → get_or c.if-at-support.masks z 0
-    ≡ hit_mask c.args.support.now (drop (c.loop-i.i - 1) c.args.sources.now) z)
-after c =
-    let o = c.loop-i in
-    let t = c.loop-i-test.true in
-    let p = c.position-at.ensures in
-    ⊎_elim
-    (λ w. stored _ c.args.sources.now o.masks _ o.i _ t o.invariant.0 p o.invariant.1 o.invariant.3 _ o.invariant.2 c.requires.0 w.0.true w.1)
-    (λ w. kept _ c.args.sources.now o.masks _ o.i _ t o.invariant.0 p o.invariant.1 o.invariant.3 w.0.false w.1)
-    c.if-at-support.branch
-
 pub loop-i-init : goal.loop-i-init
 loop-i-init c = (search rules, refl, ap (λ k. 2 ^ k) (nothing (length c.args.sources.now)), none c.args.support.now c.args.sources.now)
 
@@ -64,7 +52,16 @@ overflow_add-bit c =
 pub loop-i-preserved : goal.loop-i-preserved
 loop-i-preserved c =
     let o = c.loop-i in
-    (omega arith, (after c).0, twice _ _ _ o.invariant.2 c.loop-i-test.true o.invariant.0, (after c).1)
+    let v = o.invariant in
+    let t = c.loop-i-test.true in
+    let p = c.position-at.ensures in
+    let after : (length c.if-at-support.masks ≡ 12)
+    × ((z : ℕ) → z < 12 → get_or c.if-at-support.masks z 0 ≡ hit_mask c.args.support.now (drop (o.i - 1) c.args.sources.now) z)
+    = elim c.if-at-support.branch [
+      | then-at-support w ↦ stored _ c.args.sources.now o.masks _ o.i _ t v.0 p v.1 v.3 _ v.2 c.requires.0 w.if-at-support.true w.masks-is
+      | else-at-support w ↦ kept _ c.args.sources.now o.masks _ o.i _ t v.0 p v.1 v.3 w.if-at-support.false w.masks-is
+    ] in
+    (omega arith, after.0, twice _ _ _ v.2 t v.0, after.1)
 
 pub returns : goal.returns
 returns c = let o = c.loop-i in let k : o.i ≡ 0 = omega arith in rw k at o.invariant.3

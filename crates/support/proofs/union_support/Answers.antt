@@ -1,16 +1,11 @@
-use Rattle.std.proofs.Common.{◌≡◌, sym, ap, subst, ◌∙◌, List, ◌++◌, append_assoc, append-nil, ⊎_elim, ℕ, ◌+◌, ◌-◌, ◌≤◌, ◌<◌, add-one, arith, rules, length, get_or, drop, take, set, length-set, take-suc-set}
-use Rattle.laws.specs.Select.{select}
+use Rattle.std.proofs.Common.{◌≡◌, sym, ap, subst, ◌∙◌, List, append_assoc, append-nil, ℕ, ◌+◌, ◌≤◌, ◌<◌, add-one, arith, rules, length, get_or, take, set, length-set, take-suc-set}
 use Rattle.rules.specs.Composition.{union_support}
 use Rattle.support.specs.Rows.{position}
-use Rattle.support.specs.Support.{is_new, union_is, union_length, new_on, old_on, new_end}
+use Rattle.support.specs.Support.{union_is, union_length, new_on, old_on, new_end}
+use Rattle.support.proofs.union_support.Invariants.{Joined}
 use Rattle.support.proofs.union_support.Goals as goal
-
--- `support::union_support` meets its contract: the sources so far, and the new ones among those that are left, are the union.
--- what is there of the union, as n of the nodes, where the right sources from i on are left
-record Joined (left right : List ℕ) (i n : ℕ) (nodes : List ℕ) : Type 0 where
-  room : length nodes ≡ 11
-  count : n + length (select (is_new left) (drop i right)) ≡ length (union_support left right)
-  whole : take n nodes ++ select (is_new left) (drop i right) ≡ union_support left right
+use Rattle.support.proofs.union_support.Goals.{then-position-left, else-position-left}
+use Rattle.support.specs.declared.Support.{Support}
 
 start : (left right nodes : List ℕ) (n : ℕ) → n ≡ length left → take n nodes ≡ left → length nodes ≡ 11 → Joined left right 0 n nodes
 start left right nodes n e f h = record { room = h; count = omega (arith, union_length left right); whole = rw f (sym (union_is left right)) }
@@ -51,12 +46,13 @@ pub loop-i-preserved : goal.loop-i-preserved
 loop-i-preserved c =
     let o = c.loop-i in
     let h = c.loop-i-test.true in
-    let p = c.position.ensures in (
+    let p = c.position.ensures in
+    let J = λ (t : Support). Joined c.args.left.now c.args.right.now (o.i + 1) t.n t.nodes in (
       omega arith,
-      ⊎_elim
-          (λ w. subst (λ t. Joined c.args.left.now c.args.right.now (o.i + 1) t.n t.nodes) (sym w.1) (added _ _ _ o.i _ h o.invariant.1 (sym p ∙ w.0.true) (has_room _ _ _ o.i _ h o.invariant.1 (sym p ∙ w.0.true) c.requires)))
-          (λ w. subst (λ t. Joined c.args.left.now c.args.right.now (o.i + 1) t.n t.nodes) (sym w.1) (passed _ _ _ o.i _ h o.invariant.1 (λ e. w.0.false (p ∙ e))))
-          c.if-position-left.branch,
+      elim c.if-position-left.branch [
+        | then-position-left w ↦ subst J (sym w.s-is) (added _ _ _ o.i _ h o.invariant.1 (sym p ∙ w.if-position-left.true) (has_room _ _ _ o.i _ h o.invariant.1 (sym p ∙ w.if-position-left.true) c.requires))
+        | else-position-left w ↦ subst J (sym w.s-is) (passed _ _ _ o.i _ h o.invariant.1 (λ e. w.if-position-left.false (p ∙ e)))
+      ],
     )
 
 pub returns : goal.returns

@@ -1,8 +1,9 @@
-use Rattle.std.proofs.Common.{◌≡◌, sym, ap, ◌∙◌, List, ⊎_elim, ℕ, ◌+◌, ◌-◌, ◌<◌, arith, length, length-append}
+use Rattle.std.proofs.Common.{◌≡◌, sym, ap, ◌∙◌, List, ℕ, ◌+◌, ◌<◌, arith, length, length-append}
 use Rattle.laws.specs.Select.{select}
 use Rattle.rules.specs.Composition.{union_support}
 use Rattle.support.specs.Support.{is_new, union_is, new_on, old_on, new_end}
 use Rattle.support.proofs.union_support_size.Goals as goal
+use Rattle.support.proofs.union_support_size.Goals.{then-position-left, else-position-left}
 
 all : (left right : List ℕ) → length left + length (select (is_new left) right) ≡ length (union_support left right)
 all left right = sym (ap length (union_is left right) ∙ length-append left (select (is_new left) right))
@@ -15,10 +16,10 @@ loop-i-preserved c =
     let o = c.loop-i in
     let h : o.i < length c.args.right.now = c.loop-i-test.true in
     let p = c.position.ensures in
-    ⊎_elim
-    (λ w. omega (arith, w.1, ap length (new_on c.args.left.now c.args.right.now o.i h (sym p ∙ w.0.true))))
-    (λ w. omega (arith, w.1, ap length (old_on c.args.left.now c.args.right.now o.i h (λ e. w.0.false (p ∙ e)))))
-    c.if-position-left.branch
+    elim c.if-position-left.branch [
+      | then-position-left w ↦ omega (arith, w.size-is, ap length (new_on c.args.left.now c.args.right.now o.i h (sym p ∙ w.if-position-left.true)))
+      | else-position-left w ↦ omega (arith, w.size-is, ap length (old_on c.args.left.now c.args.right.now o.i h (λ e. w.if-position-left.false (p ∙ e))))
+    ]
 
 pub returns : goal.returns
 returns c =

@@ -7,18 +7,18 @@ use Rattle.writer.proofs.write.Goals as goal
 
 pub put_net-a-requires : goal.put_net-a-requires
 put_net-a-requires c =
-    let w = room_text (whole_text c.args.n c.args.s.now c.args.ports.now c.args.nodes.now c.args.live.now) c.requires.1 in
+    let w = room_text (whole_text c.args.n c.args.s.now c.args.ports.now c.args.nodes.now c.args.live.now) c.requires.room in
     shorter (nodes_text (live_nodes c.args.live.now c.args.nodes.now c.args.n.count)) (shorter (outputs_text (live_outputs c.args.live.now c.args.s.now c.args.ports.now c.args.n.outs)) w)
 
 pub put_nodes-b-requires : goal.put_nodes-b-requires
 put_nodes-b-requires c =
-    let w = room_text (whole_text c.args.n c.args.s.now c.args.ports.now c.args.nodes.now c.args.live.now) c.requires.1 in
-    (c.requires.0.0, room c.put_net-a.ensures (shorter (outputs_text (live_outputs c.args.live.now c.args.s.now c.args.ports.now c.args.n.outs)) w))
+    let w = room_text (whole_text c.args.n c.args.s.now c.args.ports.now c.args.nodes.now c.args.live.now) c.requires.room in
+    record { sourced = c.requires.sourced.0; room = room c.put_net-a.ensures (shorter (outputs_text (live_outputs c.args.live.now c.args.s.now c.args.ports.now c.args.n.outs)) w) }
 
 pub put_outs-requires : goal.put_outs-requires
 put_outs-requires c =
-    let w = room_text (whole_text c.args.n c.args.s.now c.args.ports.now c.args.nodes.now c.args.live.now) c.requires.1 in
-    (c.requires.0.1, room (put_both c.put_net-a.ensures c.put_nodes-b.ensures) w)
+    let w = room_text (whole_text c.args.n c.args.s.now c.args.ports.now c.args.nodes.now c.args.live.now) c.requires.room in
+    record { ported = c.requires.sourced.1; room = room (put_both c.put_net-a.ensures c.put_nodes-b.ensures) w }
 
 pub returns : goal.returns
 returns c =

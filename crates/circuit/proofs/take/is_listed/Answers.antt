@@ -9,8 +9,8 @@ loop-i-init c = (omega arith, none_yet _ _)
 pub is_same-requires : goal.is_same-requires
 is_same-requires c =
     let p = c.requires in
-    let n = p.1.0 in
-    let m = p.1.1 c.loop-i.i c.loop-i-test.true in
+    let n = p.named in
+    let m = p.by_index c.loop-i.i c.loop-i-test.true in
     ((n.later, n.inside), (m.later, m.inside))
 
 pub returns-then-is_same : goal.returns-then-is_same

@@ -5,9 +5,8 @@ use Rattle.circuit.proofs.take.take_in.Goals as goal
 
 pub returns-then-number-ne0 : goal.returns-then-number-ne0
 returns-then-number-ne0 c =
-    let s0 = c.before in
-    let A = s0.args in
-    λ gs. in_refused A.line A.s.now gs A.ports.now A.c s0.requires.0 A.a A.b A.w _ _ A.end c.is_listed-repeated.ensures c.in_number-number.ensures c.if-number-ne0.true
+    let A = c.args in
+    λ gs. in_refused A.line A.s.now gs A.ports.now A.c c.requires.ready A.a A.b A.w _ _ A.end c.is_listed-repeated.ensures c.in_number-number.ensures c.if-number-ne0.true
 
 pub bounds-ports-n : goal.bounds-ports-n
 bounds-ports-n c =
@@ -17,4 +16,4 @@ bounds-ports-n c =
 pub returns : goal.returns
 returns c =
     let A = c.args in
-    λ gs. in_taken_lem A.line A.s.now gs A.ports.now A.c c.requires.0 A.a A.b A.w _ _ A.end c.is_listed-repeated.ensures c.in_number-number.ensures c.if-number-ne0.false c.requires.1 _ _ refl c.put_name.ensures
+    λ gs. in_taken_lem A.line A.s.now gs A.ports.now A.c c.requires.ready A.a A.b A.w _ _ A.end c.is_listed-repeated.ensures c.in_number-number.ensures c.if-number-ne0.false c.requires.named _ _ refl c.put_name.ensures

@@ -19,7 +19,7 @@ module _ (k : Cone) (is : IsCone k) (long : length k.support ≡ 11) where
   some e = rw (ne_eqb (length (cone_of k).support) 0 (λ f. e (sym (view_sources k is long) ∙ f)))
 
 pub returns-then-self-eq0 : goal.returns-then-self-eq0
-returns-then-self-eq0 c = none c.args.t1 c.requires (search rules) c.if-self-eq0.true
+returns-then-self-eq0 c = none c.args.self c.requires (search rules) c.if-self-eq0.true
 
 pub returns-else-self-eq0 : goal.returns-else-self-eq0
-returns-else-self-eq0 c = some c.args.t1 c.requires (search rules) c.if-self-eq0.false
+returns-else-self-eq0 c = some c.args.self c.requires (search rules) c.if-self-eq0.false

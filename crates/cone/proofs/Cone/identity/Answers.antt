@@ -1,4 +1,4 @@
-use Rattle.std.proofs.Common.{◌≡◌, refl, false, true≢false, ℕ, zero, suc, ◌<◌, ◌≤◌, arith, rules, length, get_or}
+use Rattle.std.proofs.Common.{◌≡◌, refl, false, true≢false, ℕ, zero, suc, ◌<◌, ◌≤◌, arith, length, get_or}
 use Rattle.rules.specs.Cone as rules
 use Rattle.laws.specs.Select.{any}
 use Rattle.rules.specs.Network.{member}

@@ -1,13 +1,14 @@
-use Rattle.std.proofs.Common.{◌≡◌, sym, ap, ◌∙◌, List, map, ℕ, ◌-◌, ◌≤◌, ◌<◌, arith, ℤ, pos, nat_abs, ◌-ℤ◌, length, get_or, ◌≤ℤ◌, w32, to_z, of_z, to_z-of_z}
+use Rattle.std.proofs.Common.{◌≡◌, refl, sym, ap, ◌∙◌, List, map, ℕ, ◌≤◌, ◌<◌, arith, ℤ, pos, nat_abs, ◌-ℤ◌, length, get_or, ◌≤ℤ◌, w32, to_z, of_z, to_z-of_z}
 use lib.ListN.{length-map}
 use Rattle.laws.specs.Integer.{read_back-at}
 use Rattle.laws.specs.Front.{Filling, filling_start, filling_step}
 use Rattle.laws.specs.Over.{over, front-over}
 use Rattle.laws.specs.Lists.{map_at}
+use Rattle.rules.specs.Span.{least}
 use Rattle.theorems.specs.Spans.{least_le, offset_lt}
 use Rattle.cone.specs.View.{entry_at}
 use Rattle.cone.proofs.table.look_up.Goals as goal
-use Rattle.cone.proofs.table.look_up.Goals.{After-offset, After-offset-arg-1, Start}
+use Rattle.cone.proofs.table.look_up.Goals.{Start}
 
 -- one row's entry, and the rows at the end
 looked : (low : ℤ) (known : List ℕ) (values : List ℤ) (i k : ℕ) → i < length values → k ≡ nat_abs (get_or values i (pos 0) -ℤ low) → get_or known k 0 ≡ get_or (map (entry_at low known) values) i 0
@@ -22,35 +23,35 @@ whole low z known values d t i e w h k =
 below : (low v : ℤ) {l w : ℤ} → w ≡ v → l ≡ low → low ≤ℤ v → l ≤ℤ w
 below low v e f h = rw (e, f) h
 
+-- the place of a row
+placed : (v low w l : ℤ) (k : ℕ) → k ≡ nat_abs (w -ℤ l) → w ≡ v → l ≡ low → k ≡ nat_abs (v -ℤ low)
+placed v low w l k h e f = rw (← e, ← f) h
+
 low-is : (c : Start) → to_z w32 (of_z w32 c.args.low) ≡ c.args.low
 low-is c = to_z-of_z c.ranges.low
-
-value-is : (c : After-offset-arg-1) → let v = get_or c.args.values.now c.loop-i.i (pos 0) in to_z w32 (of_z w32 v) ≡ v
-value-is c = read_back-at w32 _ c.offset-arg-1.given
-
--- the place of a row
-placed : (c : After-offset) → c.offset.result ≡ nat_abs (get_or c.args.values.now c.loop-i.i (pos 0) -ℤ to_z w32 (of_z w32 c.args.low))
-placed c = simp (value-is (goal.at.HERE c).After-offset-arg-1) at c.offset.ensures.0
 
 pub loop-i-init : goal.loop-i-init
 loop-i-init c = (omega arith, filling_start _ _)
 
 pub offset-requires : goal.offset-requires
 offset-requires c =
-    below _ _ (value-is c) (low-is (goal.at.offset-requires c).Start ∙ c.requires.0) (least_le c.args.values.now c.loop-i.i c.loop-i-test.true)
+    below _ _ (read_back-at w32 _ (omega arith)) (low-is (goal.at.offset-requires c).Start ∙ c.requires.0) (least_le c.args.values.now c.loop-i.i c.loop-i-test.true)
 
 pub bounds-known-offset : goal.bounds-known-offset
 bounds-known-offset c =
-    let e = placed c ∙ ap (λ z. nat_abs (get_or c.args.values.now c.loop-i.i (pos 0) -ℤ z)) (low-is (goal.at.bounds-known-offset c).Start ∙ c.requires.0) in
-    omega (arith, e, c.requires.1.0, offset_lt c.args.values.now c.loop-i.i c.loop-i-test.true)
+    let at : c.offset.result ≡ nat_abs (get_or c.args.values.now c.loop-i.i (pos 0) -ℤ least c.args.values.now) =
+    placed _ _ _ _ _ c.offset.ensures.0 (read_back-at w32 _ (omega arith)) (low-is (goal.at.bounds-known-offset c).Start ∙ c.requires.0) in
+    omega (arith, at, c.requires.1.0, offset_lt c.args.values.now c.loop-i.i c.loop-i-test.true)
 
 pub loop-i-preserved : goal.loop-i-preserved
 loop-i-preserved c =
     let o = c.loop-i in
     let h : o.i < length c.args.values.now = c.loop-i-test.true in
-    (omega arith, filling_step _ _ o.truth o.i _ 0 o.invariant.1 (looked _ c.args.t1 c.args.values.now o.i c.offset.result h (placed c)) (rw length-map h) (omega (arith, c.requires.1.1)))
+    let at : c.offset.result ≡ nat_abs (get_or c.args.values.now o.i (pos 0) -ℤ to_z w32 (of_z w32 c.args.low)) =
+    placed (get_or c.args.values.now o.i (pos 0)) _ _ _ _ c.offset.ensures.0 (read_back-at w32 _ (omega arith)) refl in
+    (omega arith, filling_step _ _ o.truth o.i _ 0 o.invariant.1 (looked _ c.args.known c.args.values.now o.i c.offset.result h at) (rw length-map h) (omega (arith, c.requires.1.1)))
 
 pub returns : goal.returns
 returns c =
     let o = c.loop-i in
-    whole _ _ c.args.t1 c.args.values.now _ o.truth o.i (low-is (goal.at.returns c).Start) o.invariant.1 (omega (arith, c.loop-i-test.false)) c.requires.1.1
+    whole _ _ c.args.known c.args.values.now _ o.truth o.i (low-is (goal.at.returns c).Start) o.invariant.1 (omega (arith, c.loop-i-test.false)) c.requires.1.1

@@ -1,4 +1,4 @@
-use Rattle.std.proofs.Common.{map, ◌-◌, ◌≤◌, length, w32, to_z}
+use Rattle.std.proofs.Common.{map, ◌-◌, ◌≤◌, length}
 use Rattle.laws.specs.Front.{Filling}
 use Rattle.cone.specs.View.{entry_at}
 use Rattle.cone.proofs.table.look_up.Given as goal

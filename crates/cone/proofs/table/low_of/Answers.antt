@@ -1,4 +1,4 @@
-use Rattle.std.proofs.Common.{◌≡◌, ◌∙◌, arith, w64, to_z, of_z, to_z-of_z, rules}
+use Rattle.std.proofs.Common.{◌≡◌, ◌∙◌, arith, w32, w64, to_z, of_z, to_z-of_z}
 use Rattle.rules.specs.Cone as rules
 use Rattle.laws.specs.Integer.{fits_abs, read_back}
 use Rattle.rules.specs.Span.{least}
@@ -13,4 +13,4 @@ pub overflow_cast-result : goal.overflow_cast-result
 overflow_cast-result c = rw (result_is c) (fits_abs _ (omega (arith, low_small c.args.cone c.requires)))
 
 pub returns : goal.returns
-returns c = to_z-of_z (cast-result c) ∙ result_is c
+returns c = to_z-of_z {w = w32} (overflow_cast-result c) ∙ result_is c

@@ -42,23 +42,23 @@ values_of-requires c =
     (c.requires.0.few, (c.requires.1.0, (coefs_fit c.args.cone c.requires.0 (coefs_long (goal.at.values_of-requires c).Start)).1))
 
 pub slice_bounds-look_up-end-2 : goal.slice_bounds-look_up-end-2
-slice_bounds-look_up-end-2 c = head_length _ c.rows_of_lem.result (slice-reshare-prefix-look-up (goal.at.slice_bounds-look_up-end-2 c).After-low_of-low)
+slice_bounds-look_up-end-2 c = head_length _ c.rows_of-rows.result (search rules)
 
 pub look_up-requires : goal.look_up-requires
 look_up-requires c =
-    let s = c.before in
-    let n = slice-aggregate-look-up (goal.at.look_up-requires c).After-rows_of-rows in (
-      low-is (goal.at.look_up-requires c).After-values-1 ∙ ap least (sym (values_are s.args.cone s.requires.0 (coefs_long s) _ _ c.rows_of_lem.result c.rows_of_lem.ensures c.values_of.ensures)),
+    let long = coefs_long (goal.at.look_up-requires c).Start in
+    let n : c.rows_of-rows.result ≡ length (take c.rows_of-rows.result c.values_of.new.table) = head_length _ c.rows_of-rows.result (search rules) in (
+      low-is (goal.at.look_up-requires c).After-low_of-low ∙ ap least (sym (values_are c.args.cone c.requires.0 long _ _ c.rows_of-rows.result c.rows_of-rows.ensures c.values_of.ensures)),
       (
-        narrow s.args.cone s.requires.0 (coefs_long s) _ _ c.rows_of_lem.result c.rows_of_lem.ensures c.values_of.ensures,
-        omega (arith, n, c.rows_of_lem.ensures, s.requires.1.1),
+        narrow c.args.cone c.requires.0 long _ _ c.rows_of-rows.result c.rows_of-rows.ensures c.values_of.ensures,
+        omega (arith, n, c.rows_of-rows.ensures, c.requires.1.1),
       ),
     )
 
 pub returns : goal.returns
 returns c =
-    let s = c.before in (
-      seen s.args.cone s.requires.0 (coefs_long s) _ _ c.rows_of_lem.result c.rows_of_lem.ensures c.values_of.ensures,
+    let long = coefs_long (goal.at.returns c).Start in (
+      seen c.args.cone c.requires.0 long _ _ c.rows_of-rows.result c.rows_of-rows.ensures c.values_of.ensures,
       c.look_up.ensures
-          ∙ ap (λ l. over l s.args.truth.now) (truths_are s.args.cone s.requires.0 (coefs_long s) _ _ c.rows_of_lem.result c.rows_of_lem.ensures c.values_of.ensures _ (low-is (goal.at.returns c).After-values-1)),
+          ∙ ap (λ l. over l c.args.truth.now) (truths_are c.args.cone c.requires.0 long _ _ c.rows_of-rows.result c.rows_of-rows.ensures c.values_of.ensures _ (low-is (goal.at.returns c).After-low_of-low)),
     )

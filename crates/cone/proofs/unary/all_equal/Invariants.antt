@@ -1,5 +1,4 @@
 use Rattle.std.proofs.Common.{◌≡◌, ◌≢◌, ℕ, ◌-◌, ◌≤◌, ◌<◌, get_or}
-use Rattle.rules.specs.Cone as rules
 use Rattle.cone.proofs.unary.all_equal.Given as goal
 
 -- `cone::unary::all_equal` meets its contract: the entries passed are unknown or the first row's.

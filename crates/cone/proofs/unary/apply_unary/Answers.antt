@@ -1,4 +1,4 @@
-use Rattle.std.proofs.Common.{◌≡◌, sym, ap, ◌∙◌, List, map, ℕ, ◌+◌, ◌-◌, ◌<◌, le_refl, arith, rules, length, get_or, set}
+use Rattle.std.proofs.Common.{◌≡◌, sym, ap, ◌∙◌, List, map, ℕ, ◌+◌, ◌<◌, le_refl, arith, rules, length, get_or, set}
 use lib.ListN.{length-map}
 use Rattle.laws.specs.Front.{Filling, filling_start, filling_step, filling-all, front_get}
 use Rattle.laws.specs.Lists.{map_at}

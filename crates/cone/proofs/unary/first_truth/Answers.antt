@@ -1,11 +1,11 @@
-use Rattle.std.proofs.Common.{◌≡◌, sym, ap, ◌∙◌, arith, rules, ℤ, pos, nat_abs, ◌-ℤ◌, ◌≤ℤ◌, w32, to_z, of_z}
+use Rattle.std.proofs.Common.{◌≡◌, sym, ap, ◌∙◌, arith, ℕ, ℤ, pos, nat_abs, ◌-ℤ◌, ◌≤ℤ◌, w32, to_z, of_z}
 use Rattle.rules.specs.Cone as rules
 use Rattle.laws.specs.Integer.{plus, minus, abs_parts, sub_parts, one_part_zero, read_back-at}
 use Rattle.rules.specs.Span.{least}
 use Rattle.cone.specs.View.{cone_of, low_below, low_small}
 use Rattle.cone.specs.Unary.{first_row}
 use Rattle.cone.proofs.unary.first_truth.Goals as goal
-use Rattle.cone.proofs.unary.first_truth.Goals.{After-low_of, After-offset}
+use Rattle.cone.proofs.unary.first_truth.Goals.{After-low_of}
 
 -- `cone::unary::first_truth` meets its contract: the first row has the value 0.
 opposite : (z : ℤ) → nat_abs (pos 0 -ℤ z) ≡ nat_abs z
@@ -20,15 +20,16 @@ below low l e h = rw e h
 low-is : (c : After-low_of) → to_z w32 (of_z w32 c.low_of.result) ≡ least (rules.values (cone_of c.args.c))
 low-is c = read_back-at w32 c.low_of.result c.low_of.type_inv ∙ c.low_of.ensures
 
-place : (c : After-offset) → c.offset.result ≡ nat_abs (pos 0 -ℤ least (rules.values (cone_of c.args.c)))
-place c = c.offset.ensures.0 ∙ ap (λ z. nat_abs (pos 0 -ℤ z)) (low-is (goal.at.HERE c).After-low_of)
+place : (k : ℕ) (z low : ℤ) → k ≡ nat_abs (pos 0 -ℤ z) → z ≡ low → k ≡ nat_abs (pos 0 -ℤ low)
+place k z low e f = e ∙ ap (λ y. nat_abs (pos 0 -ℤ y)) f
 
 pub offset-requires : goal.offset-requires
-offset-requires c = below _ _ (low-is c) (low_below c.args.c c.requires)
+offset-requires c = below _ _ (low-is (goal.at.offset-requires c).After-low_of) (low_below c.args.c c.requires)
 
 pub bounds-known-offset : goal.bounds-known-offset
 bounds-known-offset c =
-    omega (arith, place c, opposite (least (rules.values (cone_of c.args.c))), low_small c.args.c c.requires)
+    let e = place _ _ _ c.offset.ensures.0 (low-is (goal.at.bounds-known-offset c).After-low_of) in
+    omega (arith, e, opposite (least (rules.values (cone_of c.args.c))), low_small c.args.c c.requires)
 
 pub returns : goal.returns
-returns c = sym (first_row c.args.c c.offset.result (place c))
+returns c = sym (first_row c.args.c c.offset.result (place _ _ _ c.offset.ensures.0 (low-is (goal.at.returns c).After-low_of)))

@@ -26,9 +26,9 @@ judged : (c : After-is_over) → (count : ℕ) → Below count (cone_of c.args.c
 judged c count b = c.is_over.ensures ∙ ap (over c.args.s.norm) (c.norm2.ensures count b)
 
 pub returns-then-is_over : goal.returns-then-is_over
-returns c count b =
+returns-then-is_over c count b =
     over-norm c.args.s _ (cone_of c.args.cone) (sym (judged (goal.at.returns-then-is_over c).After-is_over count b) ∙ c.if-is_over.true)
 
 pub returns : goal.returns
-returns-2 c count b =
+returns c count b =
     valid c.args.s _ (cone_of c.args.cone) (sym (judged (goal.at.returns c).After-is_over count b) ∙ c.if-is_over.false)

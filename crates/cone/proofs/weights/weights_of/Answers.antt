@@ -1,4 +1,4 @@
-use Rattle.std.proofs.Common.{◌≡◌, refl, sym, ◌∙◌, List, ℕ, ◌-◌, ◌<◌, arith, length, get_or, length-set}
+use Rattle.std.proofs.Common.{◌≡◌, refl, sym, ◌∙◌, List, ℕ, ◌<◌, arith, length, get_or, length-set}
 use lib.ListN.{length-map}
 use Rattle.laws.specs.Front.{taken_step, taken-all}
 use Rattle.laws.specs.Lists.{map_at}

@@ -18,7 +18,7 @@ put-c-requires c = room (put_both c.put_all-a.ensures c.put_number-b.ensures) (s
 
 pub put_bits-d-requires : goal.put_bits-d-requires
 unfolding node_text
-put_bits-d-requires c = (c.requires.by_index, (room (put_both (put_both c.put_all-a.ensures c.put_number-b.ensures) c.put-c.ensures) (shorter (bytes ")\n") c.requires.room)))
+put_bits-d-requires c = record { by_index = c.requires.by_index; room = room (put_both (put_both c.put_all-a.ensures c.put_number-b.ensures) c.put-c.ensures) (shorter (bytes ")\n") c.requires.room) }
 
 pub put_all-requires : goal.put_all-requires
 unfolding node_text

@@ -10,7 +10,9 @@ put_all-a-requires c = (shorter (signed_text c.args.c) (shorter (32 ∷ []) (sho
 
 pub put_signed-b-requires : goal.put_signed-b-requires
 unfolding term_text
-put_signed-b-requires c = room_as (to_z-of_z c.ranges.c) c.requires.c_bound (room c.put_all-a.ensures (shorter (32 ∷ []) (shorter (digits c.args.node) (shorter (41 ∷ []) c.requires.room))))
+put_signed-b-requires c =
+    let r = room_as (to_z-of_z c.ranges.c) c.requires.c_bound (room c.put_all-a.ensures (shorter (32 ∷ []) (shorter (digits c.args.node) (shorter (41 ∷ []) c.requires.room)))) in
+    record { n_bound = r.0; room = r.1 }
 
 pub put-d-requires : goal.put-d-requires
 unfolding term_text

@@ -1,4 +1,4 @@
-use Rattle.std.proofs.Common.{◌≡◌, refl, sym, ap, ◌∙◌, ◌-◌, ◌<◌, arith, pos, length, get_or}
+use Rattle.std.proofs.Common.{◌≡◌, refl, sym, ap, ◌∙◌, ◌<◌, arith, pos, length, get_or}
 use Rattle.laws.specs.Integer.{read_back}
 use Rattle.rules.specs.Store.{terms_of}
 use Rattle.nodes.specs.View.{term, node_of}

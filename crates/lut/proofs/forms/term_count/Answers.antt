@@ -10,4 +10,4 @@ returns-then-kind_of-ne-LINEAR c =
 
 pub returns : goal.returns
 returns c =
-    c.type_size.ensures ∙ terms-all (node_of c.args.nodes.now c.args.i) (omega (arith, c.kind_of.ensures))
+    c.size_of.ensures ∙ terms-all (node_of c.args.nodes.now c.args.i) (omega (arith, c.kind_of.ensures))

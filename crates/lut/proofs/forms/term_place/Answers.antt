@@ -1,4 +1,4 @@
-use Rattle.std.proofs.Common.{sym, ◌∙◌, ◌-◌, ◌<◌, arith, length}
+use Rattle.std.proofs.Common.{sym, ◌∙◌, ◌<◌, arith, length}
 use Rattle.rules.specs.Store.{terms_of}
 use Rattle.nodes.specs.View.{node_of}
 use Rattle.nodes.specs.Nodes.{terms_need}

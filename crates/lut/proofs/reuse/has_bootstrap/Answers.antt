@@ -15,7 +15,7 @@ told c =
     summed c.args.count true c.args.t c.linear_terms-arranged.result c.requires.1 c.requires.0.most c.linear_terms-arranged.ensures (long c).0 (long c).1
 
 pub sum-bytes-requires : goal.sum-bytes-requires
-sum-bytes-requires c = (told c).well-formed
+sum-bytes-requires c = (told c).good
 
 pub is_taken-requires : goal.is_taken-requires
 is_taken-requires c =

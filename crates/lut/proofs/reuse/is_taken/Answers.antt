@@ -1,4 +1,4 @@
-use Rattle.std.proofs.Common.{sym, ◌∙◌, ◌-◌, ◌≤◌, ◌<◌, arith, length}
+use Rattle.std.proofs.Common.{sym, ◌∙◌, ◌≤◌, ◌<◌, arith, length}
 use Rattle.nodes.specs.View.{node_in, store_of, store_length, is_node}
 use Rattle.lut.specs.Reuse.{takes_node_lem, taken_start, taken_here, taken_on, taken_end}
 use Rattle.lut.proofs.reuse.is_taken.Goals as goal

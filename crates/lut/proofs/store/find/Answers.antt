@@ -1,4 +1,4 @@
-use Rattle.std.proofs.Common.{sym, ◌∙◌, ◌-◌, arith}
+use Rattle.std.proofs.Common.{sym, ◌∙◌, arith}
 use Rattle.lut.specs.Store.{find_here, find_on, find_end}
 use Rattle.lut.proofs.store.find.Goals as goal
 

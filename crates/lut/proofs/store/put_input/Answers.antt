@@ -1,15 +1,14 @@
-use Rattle.std.proofs.Common.{arith}
+use Rattle.std.proofs.Common.{ℕ, ◌≤◌, List, length, get_or, Fits, w8, arith}
 use Rattle.rules.specs.Network.{Input}
 use Rattle.theorems.specs.Weights.{GoodWeight}
 use Rattle.lut.specs.Store.{is_record, adds_record}
 use Rattle.nodes.specs.View.{given, Fine}
 use Rattle.lut.proofs.store.put_input.Goals as goal
-use Rattle.lut.proofs.store.put_input.Goals.{After-shared_slice_known-1}
 
 -- the input may stand behind the nodes
-fine : (c : After-shared_slice_known-1) → Fine c.args.count (Input (given c.args.name.now c.args.weight))
+fine : (count : ℕ) (name : List ℕ) (weight : ℕ) → length name ≤ 16 → ((k : ℕ) → Fits w8 (get_or name k 0)) → GoodWeight weight → Fine count (Input (given name weight))
 unfolding Fine
-fine c = (c.requires.2, (λ k. omega (arith, c.shared_slice_known-1.given k)), c.requires.3)
+fine count name weight few bytes good = (few, (λ k. omega (arith, bytes k)), good)
 
 -- `lut::store::put_input` meets its contract.
 pub overflow_cast-weight : goal.overflow_cast-weight
@@ -18,7 +17,7 @@ overflow_cast-weight c = omega (arith, c.requires.3.1)
 
 pub put_node-requires : goal.put_node-requires
 put_node-requires c =
-    (c.requires.0, (is_record c.args.count (Input (given c.args.name.now c.args.weight)) _ (fine (goal.at.put_node-requires c).After-shared_slice_known-1) c.input-bytes.ensures).0, c.requires.1)
+    (c.requires.0, (is_record c.args.count (Input (given c.args.name.now c.args.weight)) _ (fine _ _ _ c.requires.2 c.type_inv.name c.requires.3) c.input-bytes.ensures).0, c.requires.1)
 
 pub returns : goal.returns
-returns c = adds_record _ _ _ _ _ (fine (goal.at.returns c).After-shared_slice_known-1) c.input-bytes.ensures c.put_node.ensures
+returns c = adds_record _ _ _ _ _ (fine _ _ _ c.requires.2 c.type_inv.name c.requires.3) c.input-bytes.ensures c.put_node.ensures

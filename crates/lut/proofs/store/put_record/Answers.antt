@@ -1,4 +1,4 @@
-use Rattle.std.proofs.Common.{◌≡◌, ap, ◌∙◌, ◌*◌, ◌-◌, arith}
+use Rattle.std.proofs.Common.{◌≡◌, ap, ◌∙◌, ◌*◌, arith}
 use lib.Seq.{paste, paste-zero}
 use Rattle.nodes.specs.Records.{paste_turn}
 use Rattle.nodes.specs.View.{put_at}

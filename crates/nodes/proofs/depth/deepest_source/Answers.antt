@@ -9,7 +9,7 @@ pub size_of-k-requires : goal.size_of-k-requires
 size_of-k-requires c = c.requires.1
 
 pub loop-k-init : goal.loop-k-init
-loop-k-init c = let all = c.type_size.ensures in (omega (arith, all), deepest_none _ _ _ (omega (arith, all)))
+loop-k-init c = let all = c.size_of-k.ensures in (omega (arith, all), deepest_none _ _ _ (omega (arith, all)))
 
 pub source_of-requires : goal.source_of-requires
 source_of-requires c = let o = c.loop-k in (c.requires.1, omega (arith, o.invariant.0, c.loop-k-test.true))

@@ -1,36 +1,36 @@
-use Rattle.std.proofs.Common.{ap₂, ◌∙◌, ℕ, ◌+◌, ◌*◌, ◌<◌, arith}
-use Rattle.nodes.specs.View.{node_of}
+use Rattle.std.proofs.Common.{ap₂, ◌∙◌, ℕ, ◌+◌, ◌*◌, ◌<◌, arith, List, length}
+use Rattle.rules.specs.Store.{needs}
+use Rattle.nodes.specs.View.{node_of, IsNode}
 use Rattle.nodes.specs.Nodes.{few_sources, source_at}
 use Rattle.nodes.proofs.node.source_of.Goals as goal
-use Rattle.nodes.proofs.node.source_of.Goals.{Start}
 
--- `nodes::node::source_of` meets its contract.
-few : (c : Start) → c.args.k < 11
-few c = omega (arith, few_sources c.args.i (node_of c.args.nodes.now c.args.i) c.requires.0.fine, c.requires.1)
+-- `nodes::node::source_of` meets its contract: a node has few sources.
+few : (bytes : List ℕ) (i k : ℕ) → IsNode bytes i → k < length (needs (node_of bytes i)) → k < 11
+few bytes i k s h = omega (arith, few_sources i (node_of bytes i) s.fine)
 
 pub overflow_mul-k : goal.overflow_mul-k
-overflow_mul-k c = omega (arith, few c)
+overflow_mul-k c = omega (arith, few c.args.nodes.now c.args.i c.args.k c.requires.0 c.requires.1)
 
 pub overflow_add-k : goal.overflow_add-k
-overflow_add-k c = omega (arith, few c)
+overflow_add-k c = omega (arith, few c.args.nodes.now c.args.i c.args.k c.requires.0 c.requires.1)
 
 pub overflow_add-i : goal.overflow_add-i
-overflow_add-i c = omega (arith, few c)
+overflow_add-i c = omega (arith, few c.args.nodes.now c.args.i c.args.k c.requires.0 c.requires.1)
 
 pub bounds-nodes-i : goal.bounds-nodes-i
-bounds-nodes-i c = omega (arith, few c)
+bounds-nodes-i c = omega (arith, few c.args.nodes.now c.args.i c.args.k c.requires.0 c.requires.1)
 
 pub overflow_mul-k-2 : goal.overflow_mul-k-2
-overflow_mul-k-2 c = omega (arith, few (goal.at.overflow_mul-k-2 c).After-way_told-1)
+overflow_mul-k-2 c = omega (arith, few c.args.nodes.now c.args.i c.args.k c.requires.0 c.requires.1)
 
 pub overflow_add-k-2 : goal.overflow_add-k-2
-overflow_add-k-2 c = omega (arith, few (goal.at.overflow_add-k-2 c).After-way_told-1)
+overflow_add-k-2 c = omega (arith, few c.args.nodes.now c.args.i c.args.k c.requires.0 c.requires.1)
 
 pub overflow_add-i-2 : goal.overflow_add-i-2
-overflow_add-i-2 c = omega (arith, few (goal.at.overflow_add-i-2 c).After-way_told-1)
+overflow_add-i-2 c = omega (arith, few c.args.nodes.now c.args.i c.args.k c.requires.0 c.requires.1)
 
 pub bounds-nodes-i-2 : goal.bounds-nodes-i-2
-bounds-nodes-i-2 c = omega (arith, few (goal.at.bounds-nodes-i-2 c).After-way_told-1)
+bounds-nodes-i-2 c = omega (arith, few c.args.nodes.now c.args.i c.args.k c.requires.0 c.requires.1)
 
 pub returns : goal.returns
 returns c =

@@ -24,7 +24,7 @@ size_of-k-requires c = stands (goal.at.size_of-k-requires c).Start
 
 pub loop-k-init : goal.loop-k-init
 loop-k-init c =
-    let all = c.type_size.ensures ∙ terms-all _ (sym c.kind_of.ensures ∙ c.if-kind_of-ne-LINEAR.false) in
+    let all = c.size_of-k.ensures ∙ terms-all _ (sym c.kind_of.ensures ∙ c.if-kind_of-ne-LINEAR.false) in
     (omega (arith, all), (sym (norm_none _ _ _ (omega (arith, all))), omega arith))
 
 pub term_norm-sum-requires : goal.term_norm-sum-requires

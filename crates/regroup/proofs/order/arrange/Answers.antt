@@ -8,17 +8,15 @@ loop-k-init c = (omega arith, arranged_none c.args.nodes.now c.args.order.now c.
 
 pub place-at-requires : goal.place-at-requires
 place-at-requires c =
-    let a = c.before in
     let o = c.loop-k in
-    (is_node a.args.nodes.now a.args.count o.k a.requires.0 c.loop-k-test.true, (store_below a.args.nodes.now a.args.count o.k a.requires.0 o.invariant.0, arranged_below o.invariant.1))
+    (is_node c.args.nodes.now c.args.count o.k c.requires.0 c.loop-k-test.true, (store_below c.args.nodes.now c.args.count o.k c.requires.0 o.invariant.0, arranged_below o.invariant.1))
 
 pub insert-requires : goal.insert-requires
 insert-requires c =
-    let a = c.before in
     let o = c.loop-k in
     let t = c.loop-k-test.true in
-    let e = length-take-le o.k o.order (omega (arith, o.invariant.1.long, a.requires.0.most)) in
-    (o.invariant.1.long, omega (arith, c.place-at.ensures.within, e), omega (arith, a.requires.0.most))
+    let e = length-take-le o.k o.order (omega (arith, o.invariant.1.long, c.requires.0.most)) in
+    (o.invariant.1.long, omega (arith, c.place-at.ensures.within, e), omega (arith, c.requires.0.most))
 
 pub loop-k-preserved : goal.loop-k-preserved
 loop-k-preserved c =

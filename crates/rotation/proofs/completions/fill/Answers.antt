@@ -1,5 +1,5 @@
 use Rattle.std.proofs.Common.{sym, ◌∙◌, ◌-◌, arith, rules}
-use Rattle.laws.specs.Front.{filling_start, filling_step}
+use Rattle.laws.specs.Front.{filling_start, filling_step, filling-all}
 use Rattle.rules.specs.Builder.{filled}
 use Rattle.theorems.specs.Completions.{filled-length, filled_at}
 use Rattle.rotation.proofs.completions.fill.Goals as goal
@@ -16,3 +16,6 @@ loop-i-preserved c =
       filling_step (filled a.missing a.known.now) a.table.now o.table o.i _ 0 o.invariant.1
           (c.known_or.ensures ∙ sym (filled_at a.missing a.known.now o.i)) (omega arith) (omega arith),
     )
+
+pub returns : goal.returns
+returns c = filling-all _ _ _ c.loop-i.i c.loop-i.invariant.1 (filled-length _ _ ∙ c.requires) (omega arith)

@@ -1,5 +1,5 @@
 use Rattle.std.proofs.Common.{sym, ◌∙◌, ◌-◌, arith, rules}
-use Rattle.laws.specs.Front.{filling_start, filling_step}
+use Rattle.laws.specs.Front.{filling_start, filling_step, filling-all}
 use Rattle.rules.specs.Builder.{opposed}
 use Rattle.theorems.specs.Completions.{opposed-length, opposed-at}
 use Rattle.rotation.proofs.completions.oppose.Goals as goal
@@ -16,3 +16,6 @@ loop-i-preserved c =
       filling_step (opposed a.size a.known.now) a.table.now o.table o.i _ 0 o.invariant.1
           (c.opposed_at.ensures ∙ sym (opposed-at a.size a.known.now o.i (omega arith))) (omega arith) (omega arith),
     )
+
+pub returns : goal.returns
+returns c = filling-all _ _ _ c.loop-i.i c.loop-i.invariant.1 (opposed-length _ _ ∙ c.requires) (omega arith)

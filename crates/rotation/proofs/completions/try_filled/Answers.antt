@@ -7,8 +7,7 @@ use Rattle.rotation.proofs.completions.try_filled.Goals as goal
 -- `rotation::completions::try_filled` meets its contract.
 pub is_fbs_table_valid-requires : goal.is_fbs_table_valid-requires
 is_fbs_table_valid-requires c =
-    let start = c.before in
-    subst (λ t. T (all_bits t)) (sym c.fill.ensures) (completes_bits _ _ (filled_completes _ start.requires.1.0 _ start.requires.1.1))
+    subst (λ t. T (all_bits t)) (sym c.fill.ensures) (completes_bits _ _ (filled_completes _ c.requires.entries _ c.requires.missing_bound))
 
 pub returns : goal.returns
 returns c =

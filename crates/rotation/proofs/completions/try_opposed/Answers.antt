@@ -7,8 +7,7 @@ use Rattle.rotation.proofs.completions.try_opposed.Goals as goal
 -- `rotation::completions::try_opposed` meets its contract.
 pub is_fbs_table_valid-requires : goal.is_fbs_table_valid-requires
 is_fbs_table_valid-requires c =
-    let start = c.before in
-    subst (λ t. T (all_bits t)) (sym c.oppose.ensures) (completes_bits _ _ (opposed_completes _ start.requires.1 _))
+    subst (λ t. T (all_bits t)) (sym c.oppose.ensures) (completes_bits _ _ (opposed_completes _ c.requires.entries _))
 
 pub returns : goal.returns
 returns c =

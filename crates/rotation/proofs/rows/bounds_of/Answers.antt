@@ -18,10 +18,10 @@ loop-i-preserved c =
     let values = c.args.values.now in (
       omega arith,
       ap (λ m. least_from m (drop (o.i + 1) values)) (read_back-at w32 _ c.smaller-low.type_inv)
-          ∙ least-turn values o.low o.i _ _ (omega arith) (read_back-at w32 _ c.smaller-arg-1.given) c.smaller-low.ensures
+          ∙ least-turn values (to_z w32 o.low-bits) o.i _ _ (omega arith) (read_back-at w32 _ c.smaller-arg-1.given) c.smaller-low.ensures
           ∙ o.invariant.1,
       ap (λ m. greatest_from m (drop (o.i + 1) values)) (read_back-at w32 _ c.larger-high.type_inv)
-          ∙ greatest-turn values o.high o.i _ _ (omega arith) (read_back-at w32 _ c.larger-arg-1.given) c.larger-high.ensures
+          ∙ greatest-turn values (to_z w32 o.high-bits) o.i _ _ (omega arith) (read_back-at w32 _ c.larger-arg-1.given) c.larger-high.ensures
           ∙ o.invariant.2,
     )
 
@@ -29,6 +29,6 @@ pub returns : goal.returns
 returns c =
     let o = c.loop-i in
     let values = c.args.values.now in (
-      sym (least_end values o.low o.i (omega arith)) ∙ o.invariant.1,
-      sym (greatest_end values o.high o.i (omega arith)) ∙ o.invariant.2,
+      sym (least_end values (to_z w32 o.low-bits) o.i (omega arith)) ∙ o.invariant.1,
+      sym (greatest_end values (to_z w32 o.high-bits) o.i (omega arith)) ∙ o.invariant.2,
     )

@@ -16,7 +16,7 @@ module _ (c : After-offset-k) where
   at : c.offset-k.result ≡ offset (least c.args.values.now) c.args.values.now turn
   at =
       c.offset-k.ensures.0
-      ∙ ap₂ (λ v l. nat_abs (v -ℤ l)) (read_back-at w32 (get_or c.args.values.now turn (pos 0)) c.offset-arg-1.given) (to_z-of_z c.ranges.low ∙ c.requires.low_value.0)
+      ∙ ap₂ (λ v l. nat_abs (v -ℤ l)) (read_back-at w32 (get_or c.args.values.now turn (pos 0)) c.offset-arg-1.given) (to_z-of_z c.ranges.low ∙ c.requires.low_value)
 
   index : c.offset-k.result < length c.loop-i.known
   index = omega (arith, at, offset_lt c.args.values.now turn (omega arith))
@@ -27,17 +27,20 @@ loop-i-init c = (search rules, refl, refl, refl)
 pub offset-k-requires : goal.offset-k-requires
 offset-k-requires c =
     let i = c.loop-i.i in
-    le_same _ _ (least c.args.values.now) (get_or c.args.values.now i (pos 0)) (to_z-of_z c.ranges.low ∙ c.requires.low_value.0)
+    le_same _ _ (least c.args.values.now) (get_or c.args.values.now i (pos 0)) (to_z-of_z c.ranges.low ∙ c.requires.low_value)
     (read_back-at w32 (get_or c.args.values.now i (pos 0)) c.offset-arg-1.given) (least_le c.args.values.now i (omega arith))
 
 pub returns-then-not-agrees : goal.returns-then-not-agrees
 returns-then-not-agrees c =
     let o = c.loop-i in
     let no = sym c.agrees.ensures ∙ c.if-not-agrees.true in
-    let low = sym c.requires.low_value.0 in
+    let low = sym c.requires.low_value in
     let values = c.args.values.now in
     let truths = c.args.truths.now in
     let known = c.args.known.now in record { left = until_stop _ _ _ o.known o.i _ _ (omega arith) (omega arith) (at (goal.at.returns-then-not-agrees c).After-offset-k) refl no ∙ o.invariant.2 ∙ ap (λ l. entered_until l values truths known) low; all = enter_stop _ _ _ o.known o.i _ _ (omega arith) (omega arith) (at (goal.at.returns-then-not-agrees c).After-offset-k) refl no ∙ o.invariant.3 ∙ ap (λ l. enter l values truths known) low }
+
+pub bounds-known-k : goal.bounds-known-k
+bounds-known-k c = index (goal.at.bounds-known-k c).After-offset-k
 
 pub bounds-known-k-in-loop-i : goal.bounds-known-k-in-loop-i
 bounds-known-k-in-loop-i c = index (goal.at.bounds-known-k-in-loop-i c).After-offset-k
@@ -55,7 +58,7 @@ loop-i-preserved c =
 pub returns : goal.returns
 returns c =
     let o = c.loop-i in
-    let low = sym c.requires.low_value.0 in
+    let low = sym c.requires.low_value in
     let values = c.args.values.now in
     let truths = c.args.truths.now in
     let known = c.args.known.now in record { left = until_end (least values) values truths o.known o.i (omega arith) ∙ o.invariant.2 ∙ ap (λ l. entered_until l values truths known) low; all = sym (enter_end (least values) values truths o.known o.i (omega arith)) ∙ o.invariant.3 ∙ ap (λ l. enter l values truths known) low }

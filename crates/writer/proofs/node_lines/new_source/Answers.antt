@@ -6,4 +6,4 @@ pub number_of-requires : goal.number_of-requires
 number_of-requires c = asked_number c.requires.0 c.args.k c.requires.1 c.source_of.ensures
 
 pub returns : goal.returns
-returns c = c.number_of_lem.ensures ∙ ap (new_number c.args.live.now) c.source_of.ensures
+returns c = c.number_of.ensures ∙ ap (new_number c.args.live.now) c.source_of.ensures

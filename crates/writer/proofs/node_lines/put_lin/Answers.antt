@@ -12,23 +12,28 @@ pub put_all-a-requires : goal.put_all-a-requires
 unfolding sum_text
 put_all-a-requires c =
     let n = node_of c.args.nodes.now c.args.i in
-    shorter (signed_text (constant_of n)) (shorter (terms_left c.args.live.now n 0) (shorter (bytes ")\n") c.requires.1))
+    shorter (signed_text (constant_of n)) (shorter (terms_left c.args.live.now n 0) (shorter (bytes ")\n") c.requires.room))
 
 pub put_signed-b-requires : goal.put_signed-b-requires
 unfolding sum_text
 put_signed-b-requires c =
     let n = node_of c.args.nodes.now c.args.i in
-    room_as (read_back c.constant_of.result c.constant_of.type_inv ∙ c.constant_of.ensures) (constant_small c.args.i n c.requires.0.0.node.fine c.requires.0.1) (room c.put_all-a.ensures (shorter (terms_left c.args.live.now n 0) (shorter (bytes ")\n") c.requires.1)))
+    let r =
+    room_as (read_back c.constant_of.result c.constant_of.type_inv ∙ c.constant_of.ensures) (constant_small c.args.i n c.requires.ready_at.0.node.fine c.requires.ready_at.1) (room c.put_all-a.ensures (shorter (terms_left c.args.live.now n 0) (shorter (bytes ")\n") c.requires.room))) in
+    record { n_bound = r.0; room = r.1 }
 
 pub put_terms-c-requires : goal.put_terms-c-requires
 unfolding sum_text
 put_terms-c-requires c =
-    (c.requires.0, room (put_both c.put_all-a.ensures (put_as (read_back c.constant_of.result c.constant_of.type_inv ∙ c.constant_of.ensures) c.put_signed-b.ensures)) (shorter (bytes ")\n") c.requires.1))
+    record {
+      ready_at = c.requires.ready_at;
+      room = room (put_both c.put_all-a.ensures (put_as (read_back c.constant_of.result c.constant_of.type_inv ∙ c.constant_of.ensures) c.put_signed-b.ensures)) (shorter (bytes ")\n") c.requires.room);
+    }
 
 pub put_all-requires : goal.put_all-requires
 unfolding sum_text
 put_all-requires c =
-    room (put_both (put_both c.put_all-a.ensures (put_as (read_back c.constant_of.result c.constant_of.type_inv ∙ c.constant_of.ensures) c.put_signed-b.ensures)) c.put_terms-c.ensures) c.requires.1
+    room (put_both (put_both c.put_all-a.ensures (put_as (read_back c.constant_of.result c.constant_of.type_inv ∙ c.constant_of.ensures) c.put_signed-b.ensures)) c.put_terms-c.ensures) c.requires.room
 
 pub returns : goal.returns
 unfolding sum_text

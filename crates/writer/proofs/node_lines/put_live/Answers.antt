@@ -8,7 +8,10 @@ returns-then-live-i-eq0 c =
 
 pub put_node-requires : goal.put_node-requires
 put_node-requires c =
-    (ready_at c.args.live.now c.args.nodes.now c.args.count c.args.i c.requires.0.0 c.requires.0.1 c.if-live-i-eq0.false, room_text (its_line c.args.live.now c.args.nodes.now c.args.i c.if-live-i-eq0.false) c.requires.1)
+    record {
+      ready_at = ready_at c.args.live.now c.args.nodes.now c.args.count c.args.i c.requires.sourced.0 c.requires.sourced.1 c.if-live-i-eq0.false;
+      room = room_text (its_line c.args.live.now c.args.nodes.now c.args.i c.if-live-i-eq0.false) c.requires.room;
+    }
 
 pub returns : goal.returns
 returns c =

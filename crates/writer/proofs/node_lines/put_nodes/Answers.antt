@@ -10,7 +10,7 @@ loop-i-init c = (omega arith, left-all _ _ _, refl)
 pub put_live-to-requires : goal.put_live-to-requires
 put_live-to-requires c =
     let o = c.loop-i in
-    ((c.requires.0, c.loop-i-test.true), line-room c.args.live.now c.args.nodes.now c.args.count o.i c.loop-i-test.true o.invariant.1 c.requires.1)
+    record { sourced = (c.requires.sourced, c.loop-i-test.true); room = line-room c.args.live.now c.args.nodes.now c.args.count o.i c.loop-i-test.true o.invariant.1 c.requires.room }
 
 pub loop-i-preserved : goal.loop-i-preserved
 loop-i-preserved c =

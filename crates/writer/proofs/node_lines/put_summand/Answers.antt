@@ -6,13 +6,14 @@ use Rattle.writer.specs.Live.{among_needs, term_asked, term_put}
 use Rattle.writer.proofs.node_lines.put_summand.Goals as goal
 
 pub new_source-source-requires : goal.new_source-source-requires
-new_source-source-requires c = (c.requires.0.0, among_needs (node_of c.args.nodes.now c.args.i) c.requires.0.1 c.args.k c.requires.0.2)
+new_source-source-requires c = (c.requires.ready_at.0, among_needs (node_of c.args.nodes.now c.args.i) c.requires.ready_at.1 c.args.k c.requires.ready_at.2)
 
 pub put_term-requires : goal.put_term-requires
 put_term-requires c =
     let n = node_of c.args.nodes.now c.args.i in
-    term_asked c.args.live.now n c.args.k (read_back c.coef_of.result c.coef_of.type_inv ∙ c.coef_of.ensures) c.new_source-source.ensures
-    (coefficient-small c.args.i n c.requires.0.0.node.fine c.args.k c.requires.0.2) c.requires.1
+    let r = term_asked c.args.live.now n c.args.k (read_back c.coef_of.result c.coef_of.type_inv ∙ c.coef_of.ensures) c.new_source-source.ensures
+    (coefficient-small c.args.i n c.requires.ready_at.0.node.fine c.args.k c.requires.ready_at.2) c.requires.room in
+    record { c_bound = r.0; room = r.1 }
 
 pub returns : goal.returns
 returns c =

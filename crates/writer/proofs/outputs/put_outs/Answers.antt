@@ -10,7 +10,7 @@ loop-i-init c = (omega arith, left-all _ _ _, refl)
 pub put_port-to-requires : goal.put_port-to-requires
 put_port-to-requires c =
     let o = c.loop-i in
-    ((c.requires.0, c.loop-i-test.true), output-room c.args.live.now c.args.s.now c.args.ports.now c.args.n o.i c.loop-i-test.true o.invariant.1 c.requires.1)
+    record { ported = (c.requires.ported, c.loop-i-test.true); room = output-room c.args.live.now c.args.s.now c.args.ports.now c.args.n o.i c.loop-i-test.true o.invariant.1 c.requires.room }
 
 pub loop-i-preserved : goal.loop-i-preserved
 loop-i-preserved c =

@@ -5,9 +5,12 @@ use Rattle.writer.proofs.outputs.put_port.Goals as goal
 
 pub put_output-requires : goal.put_output-requires
 put_output-requires c =
-    let p = c.requires.0.0 in
-    let h = c.requires.0.1 in
-    (((p.name c.args.i h).0, (p.name c.args.i h).1, p.signal c.args.i h), room_text (sym (port_text c.args.live.now c.args.s.now c.args.ports.now c.args.i)) c.requires.1)
+    let p = c.requires.ported.0 in
+    let h = c.requires.ported.1 in
+    record {
+      a_le_e = ((p.name c.args.i h).0, (p.name c.args.i h).1, p.signal c.args.i h);
+      room = room_text (sym (port_text c.args.live.now c.args.s.now c.args.ports.now c.args.i)) c.requires.room;
+    }
 
 pub returns : goal.returns
 returns c =
