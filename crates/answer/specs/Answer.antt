@@ -11,7 +11,7 @@ use Rattle.framing.specs.Feeding.{said, closing}
 use Rattle.framing.specs.declared.Event.{Event}
 use Rattle.framing.specs.declared.Event.TheVariants.{Job, Long}
 use Rattle.framing.specs.declared.Feed.{Feed}
-use Rattle.mapped.specs.Proved.{service-answer, later_kept, mapper_whole}
+use Rattle.mapped.proofs.Proved.{service-answer, later_kept, mapper_whole}
 use Rattle.mapped.specs.Statements.{Whole, is_written, is_unreadable, is_refused, is_over, is_too_long}
 use Rattle.rules.specs.declared.MapReply.{MapReply}
 use Rattle.rules.specs.declared.MapReply.TheVariants.{Written, Refused}

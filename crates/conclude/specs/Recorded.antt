@@ -8,7 +8,7 @@ use Rattle.rules.specs.Network.{Network, node_at, member, depth, node_centre}
 use Rattle.rules.specs.Store.{live, renumbered}
 use Rattle.mapped.specs.PrunedCentres.{pruning_keeps_centre}
 use Rattle.mapped.specs.PrunedDepths.{pruning_keeps_depth}
-use Rattle.mapped.specs.Whole.{checked_same}
+use Rattle.mapped.proofs.Whole.{checked_same}
 use Rattle.circuit.specs.View.{outputs_in}
 use Rattle.nodes.specs.Centre.{Centred}
 use Rattle.nodes.specs.Depth.{recorded_depth}

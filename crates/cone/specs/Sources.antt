@@ -3,7 +3,8 @@ use Rattle.std.specs.Prelude.{◌≡◌, refl, List, [], ◌∷◌, map, ℕ, ze
 use Rattle.std.proofs.Common.{sym, ap, ap₂, subst, ◌∙◌, not-suc-le-zero, arith}
 use Rattle.rules.specs.Cone as rules
 use Rattle.rules.specs.Network.{weight_of}
-use Rattle.theorems.specs.Weights.{weights_of, weighted_norm, norm2_weighted}
+use Rattle.theorems.specs.Weights.{weights_of, weighted_norm}
+use Rattle.theorems.proofs.Weights.{norm2_weighted}
 use Rattle.nodes.specs.View.{node_of, store_of, IsNode, IsStore, is_node, at_store}
 use Rattle.cone.specs.declared.Cone.{Cone}
 use Rattle.cone.specs.View.{cone_of, IsCone}

@@ -1,5 +1,5 @@
 -- The lines of an edition 2 text that admission reads as good: a `net2` line, lines of nodes, and outputs, which say the network.
-use Rattle.std.specs.Prelude.{◌≡◌, true, false, ℕ, ◌+◌, ◌≤◌, leb, length}
+use Rattle.std.specs.Prelude.{◌≡◌, false, ℕ, ◌+◌, ◌≤◌, leb, length}
 use Rattle.std.proofs.Common.{sym, ◌∙◌, true≢false, arith, leb-false, length-append}
 use Rattle.std.proofs.Math.Path.{ap}
 use mathlib.Core.List.{List, [], ◌∷◌, ◌++◌, map, append_assoc, append-nil}

@@ -1,5 +1,5 @@
 -- Lists in which like elements stand together.
-use Rattle.std.specs.Prelude.{◌≡◌, Bool, ◌⊎◌, length, get_or, take}
+use Rattle.std.specs.Prelude.{◌≡◌, Bool, length, get_or, take}
 use Rattle.std.proofs.Math.Bool.{true, false}
 use mathlib.Core.List.{List, [], ◌∷◌, ◌++◌, append_assoc, append-nil}
 use Rattle.std.proofs.Math.Logic.{⊎_elim}

@@ -1,5 +1,5 @@
 -- The nodes in a new order: each has the depth that it had (document 02, S-7 and S-11).
-use Rattle.std.specs.Prelude.{◌≡◌, true, ℕ, ◌+◌, max, length}
+use Rattle.std.specs.Prelude.{◌≡◌, true, ℕ, max, length}
 use Rattle.std.proofs.Math.Path.{refl, sym, ap, subst}
 use Rattle.std.proofs.Common.{◌∙◌}
 use mathlib.Core.List.{List, [], ◌∷◌, ◌++◌, map, append_assoc, append-nil, map-append}

@@ -1,5 +1,5 @@
 -- A plain text that is admitted is what is written for its network.
-use Rattle.std.specs.Prelude.{◌≡◌, refl, true, false, ℕ, ◌+◌}
+use Rattle.std.specs.Prelude.{◌≡◌, refl, ℕ, ◌+◌}
 use Rattle.std.proofs.Math.Path.{sym, ap}
 use Rattle.std.proofs.Common.{◌∙◌, true≢false}
 use mathlib.Core.List.{List, [], ◌∷◌, ◌++◌, append_assoc, append-nil}

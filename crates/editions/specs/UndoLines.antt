@@ -4,7 +4,7 @@ use Rattle.std.proofs.Common.{ap, subst, ◌∙◌, append-nil, ⊎_elim}
 use Rattle.std.proofs.Math.Option.{Option, some, some-injective}
 use Rattle.rules.specs.Converter.{line2_text}
 use Rattle.rules.specs.Edition2.{Line2, Plain, net2_line, many_line, line2}
-use Rattle.rules.specs.Form.{bytes, Piece, Reader, give, onward, exactly, name, wire, norm, in_line, out_line_lem}
+use Rattle.rules.specs.Form.{bytes, Piece, Reader, give, onward, exactly, in_line, out_line_lem}
 use Rattle.rules.specs.Network.{LutNode, Input, Linear, Bootstrap}
 use Rattle.rules.specs.NetworkText.{NetworkLine, NetLine, NodeLine, OutLine, net_line, lin_line, boot_line, network_line}
 use Rattle.rules.specs.Writing.{node_text, output_text}

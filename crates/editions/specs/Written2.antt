@@ -1,5 +1,5 @@
 -- Each line of edition 2 as it is written is one line, and is read as the form that it was written for.
-use Rattle.std.specs.Prelude.{◌≡◌, List, [], ◌∷◌, ◌++◌, ℕ, zero, suc, ◌+◌, ◌-◌, ◌≤◌, T, ℤ, length}
+use Rattle.std.specs.Prelude.{◌≡◌, List, [], ◌∷◌, ◌++◌, ℕ, zero, suc, ◌≤◌, T, ℤ, length}
 use Rattle.std.proofs.Math.Path.{refl, subst⁻¹}
 use Rattle.std.proofs.Common.{ap, ◌∙◌, append_assoc, arith, length-append}
 use Rattle.std.proofs.Math.Option.{none, some}
@@ -11,7 +11,6 @@ use Rattle.rules.specs.Edition2.{Table, Line2, Plain, Many, net2_line, centre_di
 use Rattle.rules.specs.Form.{◌>>◌, many, bytes, word, onward, either, only, gather, up_to, exactly, is_name_byte, is_name, is_digit, is_bit_byte, in_line, out_line_lem, lines}
 use Rattle.rules.specs.Network.{Term, Input, Linear, Bootstrap}
 use Rattle.rules.specs.NetworkText.{Net, NetLine, NodeLine, OutLine, lin_line}
-use Rattle.rules.specs.Rotation.{centre}
 use Rattle.rules.specs.Runs.{all_bits}
 use Rattle.rules.specs.Writing.{digits_within, digits, signed_text, bits_text, wire_text, limit_text, terms_text, weight_text}
 use Rattle.theorems.specs.LineBits.{WireBit}

@@ -7,7 +7,7 @@ use Rattle.laws.specs.Lists.{Each}
 use Rattle.rules.specs.declared.Settings.{Settings}
 use Rattle.rules.specs.CircuitText.{in_limits}
 use Rattle.rules.specs.Composition.{union_support, simplify_cone, merge_cones}
-use Rattle.rules.specs.Cone.{Cone, constant, identity, values, cone_span, norm2, encoding, is_lut_valid, within_norm, fits, Candidate}
+use Rattle.rules.specs.Cone.{Cone, constant, identity, cone_span, norm2, encoding, is_lut_valid, within_norm, fits, Candidate}
 use Rattle.rules.specs.Network.{LutNode}
 use Rattle.rules.specs.NetworkText.{all_different}
 use Rattle.rules.specs.Runs.{all_bits}

@@ -15,8 +15,8 @@ use Rattle.rules.specs.Form as F
 use Rattle.rules.specs.Mapper.{State, Outputs, used_settings, and_then, map_gates, pruned, checked, start, finish, map_with, map_circuit, map_reply, answer_with, mapper}
 use Rattle.rules.specs.Network.{Network, Input}
 use Rattle.rules.specs.Outcome.{outcome}
-use Rattle.mapped.specs.Proved.{mapped_fits}
-use Rattle.mapped.specs.Whole.{used_limits}
+use Rattle.mapped.proofs.Proved.{mapped_fits}
+use Rattle.mapped.proofs.Whole.{used_limits}
 use Rattle.circuit.specs.declared.Circuit.{Circuit}
 use Rattle.circuit.specs.declared.Reading.{Reading}
 use Rattle.circuit.specs.declared.Reading.TheVariants.{Good, Refused}

@@ -9,7 +9,8 @@ use Rattle.std.proofs.Math.ListN.{get_or, drop}
 use Rattle.std.proofs.Math.Seq.{drop-cons}
 use Rattle.rules.specs.Network.{Term, LutNode, Input, Linear, Bootstrap, node_at, weight_of, norm, node_norm}
 use Rattle.rules.specs.Store.{needs, terms_of}
-use Rattle.theorems.specs.Weights.{GoodWeight, same_norm}
+use Rattle.theorems.specs.Weights.{GoodWeight}
+use Rattle.theorems.proofs.Weights.{same_norm}
 use Rattle.nodes.specs.Nodes.{kind_of, fine_needs}
 use Rattle.nodes.specs.View.{term, node_of, store_of, at_store, Fine}
 

@@ -1,5 +1,5 @@
 -- Edition 2 of the network text (document 02, S-11): its forms, what is wrong with a line, how it is read; either edition told by how the text begins.
-use Rattle.std.specs.Prelude.{Bool, true, false, ◌||◌, not, List, [], ◌∷◌, ◌++◌, map, ℕ, ◌+◌, ltb, eqb, length}
+use Rattle.std.specs.Prelude.{Bool, ◌||◌, not, List, [], ◌∷◌, ◌++◌, map, ℕ, ◌+◌, ltb, eqb, length}
 use Rattle.std.proofs.Math.Option.{Option}
 use Rattle.laws.specs.Select.{any}
 use Rattle.laws.specs.Test.{if◌then◌else◌, is_some}

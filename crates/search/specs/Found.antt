@@ -21,7 +21,8 @@ use Rattle.rules.specs.Span.{least, span}
 use Rattle.rules.specs.Store.{linear_of}
 use Rattle.theorems.specs.Rows.{Within, entered_entries, unknown_entries}
 use Rattle.theorems.specs.Spans.{offset_lt}
-use Rattle.theorems.specs.Weights.{weights_of, weighted_norm, norm2_weighted}
+use Rattle.theorems.specs.Weights.{weights_of, weighted_norm}
+use Rattle.theorems.proofs.Weights.{norm2_weighted}
 use Rattle.compose.specs.Basis.{coefficients_over}
 use Rattle.theorems.specs.ConeValues.{linear_table-length}
 use Rattle.search.specs.declared.Ranges.{Ranges}

@@ -1,24 +1,16 @@
 -- Texts are refused exactly when a listed condition holds (document 01, "Refused with"; document 02, S-11, for both editions of the network text).
-use Rattle.std.specs.Prelude.{◌≡◌, refl, Bool, true, false, List, [], ◌∷◌, ◌++◌, ◌↔◌, ℕ}
-use Rattle.std.proofs.Common.{sym, ap, ap₂, arith}
+use Rattle.std.specs.Prelude.{◌≡◌, refl, Bool, true, false, List, ℕ}
+use Rattle.std.proofs.Common.{arith}
 use Rattle.std.proofs.Math.Logic.Iff
-use Rattle.std.proofs.Math.Option.{Option, none, some, some-injective, none-ne-some}
-use Rattle.std.proofs.lemmas.Bool.{not-false}
-use Rattle.laws.specs.Test.{if◌then◌else◌, is_some, zero≢one, neither_left}
-use Rattle.laws.specs.Select.{all}
-use Rattle.rules.specs.declared.Settings.{Settings}
-use Rattle.rules.specs.declared.Stats.{Stats}
-use Rattle.rules.specs.Admission.{Admission, admitted, rejected, admission_of, admission}
-use Rattle.rules.specs.Circuit.{Circuit}
-use Rattle.rules.specs.Edition2.{Line2, Plain, Many, line2, text_conditions2, safety_conditions2, conditions2, with_line2, read_network2, read_admitted2, is_edition2, read_either}
-use Rattle.rules.specs.Form.{Condition, Reading, Good, Refused}
-use Rattle.rules.specs.CircuitText.{CircuitLine, FbsLine, InLine, GateLine, OutLine, Prefix, circuit_line, conditions, with_line, ended, with_settings, nothing, read_circuit}
-use Rattle.rules.specs.Network.{Input, Linear, Bootstrap, Network, member, stats}
-use Rattle.rules.specs.NetworkText.{Net, NetworkLine, NetLine, NodeLine, NetPrefix, started, network_line, text_conditions, safety_conditions, admission_conditions, with_network_line, with_net, network_ended, no_network, read_network, read_admitted}
-use Rattle.theorems.specs.Refusals.{Kind, Holds, First, Exact}
-use Rattle.theorems.specs.Readings.{LowestFirst, NoneMet, Regular, numbers, holds_one_of}
-use Rattle.rules.specs.NetworkText as NetworkText
-use Rattle.theorems.specs.AdmissionExact.{circuits, networks, admissions, networks2, admissions2, EitherHolds, listed, listed2, AdmissionExact, circuits_regular, networks_regular, admissions_numbered, networks_open, admission_text, with_net_lem, networks2_regular, admissions2_regular, plain-listed, admissions2_listed, reply_refused, admitted_good}
+use Rattle.laws.specs.Test.{if◌then◌else◌}
+use Rattle.rules.specs.Admission.{admission}
+use Rattle.rules.specs.Edition2.{read_network2, read_admitted2, is_edition2, read_either}
+use Rattle.rules.specs.CircuitText.{ended, read_circuit}
+use Rattle.rules.specs.Network.{member}
+use Rattle.rules.specs.NetworkText.{started, with_net, network_ended, no_network, read_network, read_admitted}
+use Rattle.theorems.specs.Refusals.{Holds, Exact}
+use Rattle.theorems.specs.Readings.{Regular, holds_one_of}
+use Rattle.theorems.specs.AdmissionExact.{circuits, networks, admissions, networks2, admissions2, EitherHolds, listed2, AdmissionExact, circuits_regular, networks_regular, admissions_numbered, networks_open, admission_text, with_net_lem, networks2_regular, admissions2_regular, plain-listed, admissions2_listed, reply_refused, admitted_good}
 use Rattle.theorems.proofs.Readings.{exact}
 
 -- A circuit text, likewise.

@@ -1,49 +1,42 @@
 -- An admitted network is safe to run (document 01, "Rules"): no break-off, each `boot` is bit(v), each `out` 0 or 1, each `lin` norm at most NORM.
-use Rattle.std.specs.Prelude.{◌≡◌, true, false, T, eqb, ℤ, negsuc, ◌+ℤ◌, ◌≤ℤ◌}
+use Rattle.std.specs.Prelude.{◌≡◌, T, eqb, ℤ, ◌≤ℤ◌}
 use Rattle.std.proofs.Math.Path.{refl, sym, subst, subst₂}
 use Rattle.std.proofs.Common.{ap, ◌∙◌}
 use Rattle.std.proofs.Math.Bool.{Bool}
-use mathlib.Core.List.{List, [], ◌∷◌, ◌++◌, append_assoc, append-nil}
-use Rattle.std.proofs.Math.Logic.{⊎_elim}
+use mathlib.Core.List.{List, [], ◌∷◌, ◌++◌, append_assoc}
 use Rattle.std.proofs.Math.Option.{some, map}
 use Prim.Native.Nat.{ℕ, zero, suc, ◌<◌, ◌≤◌}
 use native.Mathlib.Omega.{arith}
-use borrow.Author.Tests.{le-ltb, leb-false, ltb-false, not-false}
+use borrow.Author.Tests.{leb-false, not-false}
 use Rattle.std.proofs.Math.IntN.{pos}
-use Rattle.std.proofs.lemmas.List.{length-map, get_or_at}
-use Rattle.std.proofs.Math.ListN.{length, get_or, length-append, get_or-append}
+use Rattle.std.proofs.Math.ListN.{length, get_or}
 use Rattle.std.specs.Int.Signed.{le_z}
-use Rattle.laws.specs.Integer.{plus, minus, add_parts, ints}
-use Rattle.laws.specs.Over.{over}
-use Rattle.laws.specs.Test.{and_right, is_T, T-is, lt_or_le, zero≢one, both_left, both_right}
-use Rattle.rules.specs.declared.Limit.{Limit}
-use Rattle.rules.specs.declared.Limit.TheVariants.{Unlimited, AtMost}
+use Rattle.laws.specs.Test.{and_right, zero≢one, both_left, both_right}
+use Rattle.rules.specs.declared.Limit.TheVariants.{AtMost}
 use Rattle.rules.specs.declared.Stats.{Stats}
 use Rattle.rules.specs.declared.Wire.{Wire}
 use Rattle.rules.specs.declared.Wire.TheVariants.{Const, Node}
 use Rattle.rules.specs.Admission.{admitted, admission}
 use Rattle.rules.specs.Circuit.{Output}
 use Rattle.rules.specs.CircuitText.{no_node}
-use Rattle.rules.specs.Edition2.{is_edition2, read_either, read_run}
-use Rattle.rules.specs.Form.{Reading, Good}
-use Rattle.rules.specs.Network.{Term, LutNode, Input, Linear, Bootstrap, Network, is_input, count, stats, least_of, greatest_of, norm, node_norm, node_value, with_value, node_values, wire_value, output_values, network_run, sum_from, node_at}
-use Rattle.rules.specs.NetworkText.{Net, NodeLine, sources, is_bit, no_bit, over as over_limit, read_network}
-use Rattle.rules.specs.Outcome.{written}
-use Rattle.rules.specs.Rotation.{Rotatable, rotated}
-use Rattle.rules.specs.Runs.{Numbered, ran, all_bits, bits_for, with_values, run_on, run_network_on, run_network}
+use Rattle.rules.specs.Edition2.{read_either, read_run}
+use Rattle.rules.specs.Form.{Good}
+use Rattle.rules.specs.Network.{Term, LutNode, Input, Linear, Bootstrap, Network, is_input, count, stats, least_of, greatest_of, norm, node_norm, node_value, wire_value, output_values, network_run, sum_from, node_at}
+use Rattle.rules.specs.NetworkText.{Net, NodeLine, sources, is_bit, no_bit}
+use Rattle.rules.specs.Rotation.{rotated}
+use Rattle.rules.specs.Runs.{all_bits, bits_for, run_network_on, run_network}
 use Rattle.theorems.specs.AdmissionExact.{statistics_recounted}
 use Rattle.theorems.specs.Admissible.{Passes, NodesPass, OutputsPass, net_of, Admissible, lin_passes, BootPasses, boot_passes, OutPasses, out_passes}
 use Rattle.theorems.specs.Admissible2.{either_admissible, either_read}
 use Rattle.theorems.specs.Bounds.{ZeroOrOne, Bounded, bit-between, bounded_snoc}
 use Rattle.theorems.proofs.Bounds.{sum_bounded}
 use Rattle.theorems.specs.LineBits.{WireBit}
-use Rattle.theorems.specs.NodesAt.{node_next, node_none}
 use Rattle.theorems.specs.SumLine.{line_of}
 use Rattle.theorems.specs.Weights.{longer_weights, sources_within}
 use Rattle.theorems.proofs.Weights.{same_norm}
 use Rattle.theorems.specs.RotationRule.{rotation_rule}
 use Rattle.theorems.specs.Bits.{bit_at}
-use Rattle.theorems.specs.AdmittedSafe.{Lookup, Safe, AdmittedSafe, inside_table, bit-least, bit-greatest, Valued, Run, no-node, ran_none, ran_one, le_z_yes, ≤ℤ_trans, within_norm, no-values, rule_runs, plain-run}
+use Rattle.theorems.specs.AdmittedSafe.{Lookup, Safe, AdmittedSafe, inside_table, bit-least, bit-greatest, Valued, Run, ran_none, ran_one, le_z_yes, ≤ℤ_trans, within_norm, no-values, rule_runs, plain-run}
 
 module _ (n : Net) (ns : List LutNode) (values : List ℤ) (b : Bounded ns values) where
   pub looked_up : (i : ℕ) (table : List ℕ) → BootPasses n ns i table

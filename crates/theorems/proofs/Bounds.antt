@@ -1,16 +1,11 @@
 -- Sums within the bounds of their nodes (document 01, "Bounds of a node").
-use Rattle.std.specs.Prelude.{◌≡◌, refl, false, ◌||◌, ◌⊎◌, ℕ, zero, suc, ◌+◌, ◌<◌, ℤ, pos, negsuc, ◌+ℤ◌, ◌*ℤ◌, length, get_or, ◌≤ℤ◌}
-use Rattle.std.proofs.Common.{sym, ap, ◌∙◌, inl, inr, ⊎_elim, arith, length-append}
-use mathlib.Core.List.{List, [], ◌∷◌, ◌++◌}
+use Rattle.std.specs.Prelude.{◌≡◌, false, ◌||◌, ℕ, ◌<◌, ℤ, pos, length, get_or, ◌≤ℤ◌}
+use mathlib.Core.List.{List, [], ◌∷◌}
 use borrow.Author.Tests.{leb-false}
-use Rattle.std.proofs.Math.ListN.{get_or-append}
-use Rattle.std.proofs.lemmas.List.{get_or_at}
 use Rattle.std.specs.Int.Signed.{≤ℤ_refl}
-use Rattle.laws.specs.Integer.{plus, minus, add_parts, plus_mul, minus_mul, ints}
-use Rattle.laws.specs.Test.{lt_or_le, zero≢one, neither_left, neither_right}
+use Rattle.laws.specs.Test.{zero≢one, neither_left, neither_right}
 use Rattle.rules.specs.Network.{Term, LutNode, Input, Linear, Bootstrap, is_linear, below0, above0, least_sum, greatest_sum, least_of, greatest_of, sum_from, node_at}
 use Rattle.rules.specs.NetworkText.{sources, unknown, any_bad_source}
-use Rattle.theorems.specs.NodesAt.{node-before, node_next}
 use Rattle.theorems.specs.Bounds.{ZeroOrOne, Bounded, below_times, times_above, add_le, bit-between}
 
 -- ---- A sum of bits.

@@ -6,13 +6,12 @@ use Rattle.std.proofs.Math.Bool.{true}
 use mathlib.Core.List.{List, [], ◌∷◌}
 use Rattle.std.proofs.Math.Logic.{inl, inr}
 use Rattle.std.proofs.Math.Option.{Option, none, some}
-use Prim.Native.Nat.{ℕ, zero, suc, ◌+◌, ◌-◌, ◌≤◌}
+use Prim.Native.Nat.{ℕ, ◌+◌}
 use Rattle.std.proofs.Math.Nat.{not-suc-le-zero}
 use native.Mathlib.Omega.{arith}
-use Rattle.laws.specs.Test.{if◌then◌else◌, decide, zero≢one, both, both_left, both_right, not_both}
-use Rattle.laws.specs.Select.{all}
-use Rattle.rules.specs.Form.{before, lines, Condition, Reading, Good, Refused, judged, on_line, read_lines}
-use Rattle.theorems.specs.Refusals.{Met, Kind, conditions_of, said_with, said, AtLine, Holds, First, Exact}
+use Rattle.laws.specs.Test.{if◌then◌else◌, zero≢one, not_both}
+use Rattle.rules.specs.Form.{before, lines, Reading, Good, Refused, judged, on_line, read_lines}
+use Rattle.theorems.specs.Refusals.{Kind, conditions_of, said_with, said, AtLine, Holds, First, Exact}
 use Rattle.theorems.specs.Readings.{LowestFirst, NoneMet, judged_none, FirstMet, first_or_none, at_first, at-cases, not_here, first_later, reading, refused_same, Regular, numbered, opened, read_text}
 
 -- ---- Lines in turn.

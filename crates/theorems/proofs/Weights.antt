@@ -1,14 +1,11 @@
 -- Norms by the weights of their sources (document 02, S-6).
-use Rattle.std.specs.Prelude.{◌≡◌, refl, true, false, ◌||◌, ℕ, ◌+◌, ◌*◌, ◌<◌, ◌≤◌, ℤ, nat_abs, length}
-use Rattle.std.proofs.Common.{sym, ap, ap₂, ◌∙◌, true≢false, ⊎_elim, arith, leb-false}
-use mathlib.Core.List.{List, [], ◌∷◌, ◌++◌, map, zip_with}
-use Rattle.laws.specs.Test.{neither_left, neither_right}
+use Rattle.std.specs.Prelude.{◌≡◌}
+use Rattle.std.proofs.Common.{sym, ap, ◌∙◌}
+use mathlib.Core.List.{List}
 use Rattle.rules.specs.declared.Settings.{Settings}
 use Rattle.rules.specs.Cone.{Cone, terms, norm2, fits}
-use Rattle.rules.specs.Network.{Term, LutNode, weight_of, norm, node_at, member, is_linear}
-use Rattle.rules.specs.NetworkText.{sources, unknown, any_bad_source}
-use Rattle.theorems.specs.Members.{member_head, member-tail, member_cons}
-use Rattle.theorems.specs.NodesAt.{node-before}
+use Rattle.rules.specs.Network.{Term, LutNode, norm}
+use Rattle.rules.specs.NetworkText.{sources}
 use Rattle.theorems.specs.Terms.{terms_over, coefs}
 use Rattle.theorems.specs.Weights.{weights_of, weighted_norm, norm_weighted, terms_weighted, SameWeights, same_weights}
 

@@ -1,45 +1,32 @@
 -- An admitted network is safe to run (document 01, "Rules"): no break-off, each `boot` is bit(v), each `out` 0 or 1, each `lin` norm at most NORM.
-use Rattle.std.specs.Prelude.{◌≡◌, true, false, T, eqb, ℤ, negsuc, ◌+ℤ◌, ◌≤ℤ◌}
-use Rattle.std.proofs.Math.Path.{refl, sym, subst, subst₂}
+use Rattle.std.specs.Prelude.{◌≡◌, true, false, T, ℤ, negsuc, ◌+ℤ◌, ◌≤ℤ◌}
+use Rattle.std.proofs.Math.Path.{refl, sym, subst}
 use Rattle.std.proofs.Common.{ap, ◌∙◌}
-use Rattle.std.proofs.Math.Bool.{Bool}
-use mathlib.Core.List.{List, [], ◌∷◌, ◌++◌, append_assoc, append-nil}
+use mathlib.Core.List.{List, [], ◌∷◌, ◌++◌, append-nil}
 use Rattle.std.proofs.Math.Logic.{⊎_elim}
-use Rattle.std.proofs.Math.Option.{some, map}
-use Prim.Native.Nat.{ℕ, zero, suc, ◌<◌, ◌≤◌}
+use Rattle.std.proofs.Math.Option.{some}
+use Prim.Native.Nat.{ℕ, ◌<◌, ◌≤◌}
 use native.Mathlib.Omega.{arith}
-use borrow.Author.Tests.{le-ltb, leb-false, ltb-false, not-false}
+use borrow.Author.Tests.{le-ltb, ltb-false}
 use Rattle.std.proofs.Math.IntN.{pos}
 use Rattle.std.proofs.lemmas.List.{length-map, get_or_at}
 use Rattle.std.proofs.Math.ListN.{length, get_or, length-append, get_or-append}
 use Rattle.std.specs.Int.Signed.{le_z}
 use Rattle.laws.specs.Integer.{plus, minus, add_parts, ints}
 use Rattle.laws.specs.Over.{over}
-use Rattle.laws.specs.Test.{and_right, is_T, T-is, lt_or_le, zero≢one, both_left, both_right}
+use Rattle.laws.specs.Test.{is_T, T-is, lt_or_le, zero≢one}
 use Rattle.rules.specs.declared.Limit.{Limit}
 use Rattle.rules.specs.declared.Limit.TheVariants.{Unlimited, AtMost}
 use Rattle.rules.specs.declared.Stats.{Stats}
-use Rattle.rules.specs.declared.Wire.{Wire}
-use Rattle.rules.specs.declared.Wire.TheVariants.{Const, Node}
-use Rattle.rules.specs.Admission.{admitted, admission}
-use Rattle.rules.specs.Circuit.{Output}
-use Rattle.rules.specs.CircuitText.{no_node}
-use Rattle.rules.specs.Edition2.{is_edition2, read_either, read_run}
+use Rattle.rules.specs.Edition2.{is_edition2, read_run}
 use Rattle.rules.specs.Form.{Reading, Good}
-use Rattle.rules.specs.Network.{Term, LutNode, Input, Linear, Bootstrap, Network, is_input, count, stats, least_of, greatest_of, norm, node_norm, node_value, with_value, node_values, wire_value, output_values, network_run, sum_from, node_at}
-use Rattle.rules.specs.NetworkText.{Net, NodeLine, sources, is_bit, no_bit, over as over_limit, read_network}
+use Rattle.rules.specs.Network.{Term, LutNode, Linear, Bootstrap, Network, is_input, count, stats, least_of, greatest_of, node_norm, node_value, with_value, node_values, wire_value, output_values, network_run, node_at}
+use Rattle.rules.specs.NetworkText.{Net, over as over_limit, read_network}
 use Rattle.rules.specs.Outcome.{written}
-use Rattle.rules.specs.Rotation.{Rotatable, rotated}
+use Rattle.rules.specs.Rotation.{Rotatable}
 use Rattle.rules.specs.Runs.{Numbered, ran, all_bits, bits_for, with_values, run_on, run_network_on, run_network}
-use Rattle.theorems.specs.AdmissionExact.{statistics_recounted}
-use Rattle.theorems.specs.Admissible.{Passes, NodesPass, OutputsPass, net_of, Admissible, lin_passes, BootPasses, boot_passes, OutPasses, out_passes}
-use Rattle.theorems.specs.Admissible2.{either_admissible, either_read}
 use Rattle.theorems.specs.Bounds.{ZeroOrOne, Bounded}
-use Rattle.theorems.specs.LineBits.{WireBit}
 use Rattle.theorems.specs.NodesAt.{node_next, node_none}
-use Rattle.theorems.specs.SumLine.{line_of}
-use Rattle.theorems.specs.RotationRule.{rotation_rule}
-use Rattle.theorems.specs.Bits.{bit_at}
 
 -- ---- The statement.
 

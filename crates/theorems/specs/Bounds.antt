@@ -1,15 +1,12 @@
 -- Values within the bounds of their nodes (document 01, "Bounds of a node").
-use Rattle.std.specs.Prelude.{◌≡◌, refl, false, ◌||◌, ◌⊎◌, ℕ, zero, suc, ◌+◌, ◌<◌, ℤ, pos, negsuc, ◌+ℤ◌, ◌*ℤ◌, length, get_or, ◌≤ℤ◌}
+use Rattle.std.specs.Prelude.{◌≡◌, refl, ◌⊎◌, ℕ, zero, suc, ◌+◌, ◌<◌, ℤ, pos, negsuc, ◌+ℤ◌, ◌*ℤ◌, length, get_or, ◌≤ℤ◌}
 use Rattle.std.proofs.Common.{sym, ap, ◌∙◌, inl, inr, ⊎_elim, arith, length-append}
 use mathlib.Core.List.{List, [], ◌∷◌, ◌++◌}
-use borrow.Author.Tests.{leb-false}
 use Rattle.std.proofs.Math.ListN.{get_or-append}
 use Rattle.std.proofs.lemmas.List.{get_or_at}
-use Rattle.std.specs.Int.Signed.{≤ℤ_refl}
 use Rattle.laws.specs.Integer.{plus, minus, add_parts, plus_mul, minus_mul, ints}
-use Rattle.laws.specs.Test.{lt_or_le, zero≢one, neither_left, neither_right}
-use Rattle.rules.specs.Network.{Term, LutNode, Input, Linear, Bootstrap, is_linear, below0, above0, least_sum, greatest_sum, least_of, greatest_of, sum_from, node_at}
-use Rattle.rules.specs.NetworkText.{sources, unknown, any_bad_source}
+use Rattle.laws.specs.Test.{lt_or_le}
+use Rattle.rules.specs.Network.{LutNode, below0, above0, least_of, greatest_of, node_at}
 use Rattle.theorems.specs.NodesAt.{node-before, node_next}
 
 abbrev pub ZeroOrOne : ℤ → Type 0

@@ -1,18 +1,17 @@
 -- The reading of a text refuses by the first line where a condition holds, and by the lowest number there.
-use Rattle.std.specs.Prelude.{◌≡◌, Bool, false, ◌⊎◌, eqb, length}
-use Rattle.std.proofs.Math.Path.{refl, ap, ap₂, subst, subst₂}
-use Rattle.std.proofs.Common.{sym, ◌∙◌, ⊎_elim}
+use Rattle.std.specs.Prelude.{◌≡◌, Bool, false, ◌⊎◌}
+use Rattle.std.proofs.Math.Path.{refl, subst}
+use Rattle.std.proofs.Common.{sym, ⊎_elim}
 use Rattle.std.proofs.Math.Bool.{true}
 use mathlib.Core.List.{List, [], ◌∷◌}
 use Rattle.std.proofs.Math.Logic.{inl, inr}
 use Rattle.std.proofs.Math.Option.{Option, none, some}
 use Prim.Native.Nat.{ℕ, zero, suc, ◌+◌, ◌-◌, ◌≤◌}
-use Rattle.std.proofs.Math.Nat.{not-suc-le-zero}
 use native.Mathlib.Omega.{arith}
-use Rattle.laws.specs.Test.{if◌then◌else◌, decide, zero≢one, both, both_left, both_right, not_both}
+use Rattle.laws.specs.Test.{decide, both, both_left, both_right, not_both}
 use Rattle.laws.specs.Select.{all}
-use Rattle.rules.specs.Form.{before, lines, Condition, Reading, Good, Refused, judged, on_line, read_lines}
-use Rattle.theorems.specs.Refusals.{Met, Kind, conditions_of, said_with, said, AtLine, Holds, First, Exact}
+use Rattle.rules.specs.Form.{lines, Condition, Reading, Good, Refused, judged, read_lines}
+use Rattle.theorems.specs.Refusals.{Met, Kind, conditions_of, said_with, said, AtLine, Holds, First}
 
 -- ---- A line's conditions.
 

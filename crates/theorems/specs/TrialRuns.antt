@@ -1,17 +1,14 @@
 -- Trial runs of an admitted network on phases (document 02, S-5 and S-8): for each error under which a value is found the boot rule at the
 -- slot found gives the network's bit.
 use Rattle.std.specs.Prelude.{◌≡◌, true, List, [], ℕ, zero, suc, ◌<◌, T, ℤ, pos, length, get_or, replicate}
-use Rattle.std.proofs.Common.{sym, ap, ◌∙◌, arith}
-use Rattle.std.proofs.Math.Option.{Option, some, some-injective}
-use Rattle.rules.specs.declared.Stats.{Stats}
-use Rattle.rules.specs.Admission.{admitted, admission}
+use Rattle.std.proofs.Common.{ap, ◌∙◌, arith}
+use Rattle.std.proofs.Math.Option.{Option, some}
 use Rattle.rules.specs.Edition2.{read_run}
 use Rattle.rules.specs.Form.{Good}
 use Rattle.rules.specs.Network.{Bootstrap, Network, node_at, is_input, count, node_values}
 use Rattle.rules.specs.Phase.{is_period, slot, found, slot_answer}
 use Rattle.rules.specs.Rotation.{Rotatable, rotated}
 use Rattle.rules.specs.Runs.{bits_for}
-use Rattle.theorems.specs.AdmittedSafe.{Safe}
 use Rattle.theorems.specs.Bits.{bits_nil, bits_cons}
 use Rattle.theorems.specs.RotationRule.{rotation_rule}
 use Rattle.theorems.specs.SlotExact.{Signed32, Within, slot_exact}

@@ -1,10 +1,8 @@
 -- Weights of sources, and norms by them (document 02, S-6).
 use Rattle.std.specs.Prelude.{◌≡◌, refl, true, false, ◌||◌, ℕ, ◌+◌, ◌*◌, ◌<◌, ◌≤◌, ℤ, nat_abs, length}
-use Rattle.std.proofs.Common.{sym, ap, ap₂, ◌∙◌, true≢false, ⊎_elim, arith, leb-false}
+use Rattle.std.proofs.Common.{sym, ap, ap₂, true≢false, ⊎_elim, arith, leb-false}
 use mathlib.Core.List.{List, [], ◌∷◌, ◌++◌, map, zip_with}
 use Rattle.laws.specs.Test.{neither_left, neither_right}
-use Rattle.rules.specs.declared.Settings.{Settings}
-use Rattle.rules.specs.Cone.{Cone, terms, norm2, fits}
 use Rattle.rules.specs.Network.{Term, LutNode, weight_of, norm, node_at, member, is_linear}
 use Rattle.rules.specs.NetworkText.{sources, unknown, any_bad_source}
 use Rattle.theorems.specs.Members.{member_head, member-tail, member_cons}
