@@ -74,8 +74,8 @@ fn composed_truth(
     gate: [u8; 4],
     truth: &mut [u8],
 )
-    requires cone { IsCone left × (IsCone right × ((support.now ≡ union_support (cone_of left).support (cone_of right).support) × ((length support.now ≤ 11) × (2 ^ length support.now ≤ length truth.old)))) }
-    requires lefts_value { (lefts.now ≡ (cone_of left).truth) × (rights.now ≡ (cone_of right).truth) }
+    requires cones { IsCone left × (IsCone right × ((support.now ≡ union_support (cone_of left).support (cone_of right).support) × ((length support.now ≤ 11) × (2 ^ length support.now ≤ length truth.old)))) }
+    requires truths { (lefts.now ≡ (cone_of left).truth) × (rights.now ≡ (cone_of right).truth) }
     ensures { truth.new ≡ over (gate_truth support.now (cone_of left) (cone_of right) gate) truth.old }
 {
     let sources = right.support;

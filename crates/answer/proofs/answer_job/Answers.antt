@@ -6,10 +6,17 @@ pub slice_bounds-map-end-2 : goal.slice_bounds-map-end-2
 slice_bounds-map-end-2 c = sym (length-take-le 65536 c.args.out.now (omega (arith, c.requires)))
 
 pub put_end-requires : goal.put_end-requires
-put_end-requires c = written_ends c.args.job.now _ _ c.map-r.result (sym (slice-aggregate-map (goal.at.put_end-requires c).After-map-arg-1)) c.map-r.ensures c.in-Written.is (c.map-r.auto.1.0 ∙ sym (slice-aggregate-map (goal.at.put_end-requires c).After-map-arg-1)) (drop 65536 c.args.out.now) (omega (arith, c.requires, length-drop 65536 c.args.out.now))
+put_end-requires c =
+    let size = length-take-le 65536 c.args.out.now (omega (arith, c.requires)) in
+    written_ends c.args.job.now _ _ c.map-r.result size c.map-r.ensures c.in-Written.is (c.map-r.auto.out ∙ size) (drop 65536 c.args.out.now)
+    (omega (arith, c.requires, length-drop 65536 c.args.out.now))
 
 pub returns-in-Written : goal.returns-in-Written
-returns-in-Written c = front-written c.args.job.now _ _ c.map-r.result (sym (slice-aggregate-map (goal.at.returns-in-Written c).After-map-arg-1)) c.map-r.ensures c.in-Written.is (c.map-r.auto.1.0 ∙ sym (slice-aggregate-map (goal.at.returns-in-Written c).After-map-arg-1)) (drop 65536 c.args.out.now) c.put_end.ensures
+returns-in-Written c =
+    let size = length-take-le 65536 c.args.out.now (omega (arith, c.requires)) in
+    front-written c.args.job.now _ _ c.map-r.result size c.map-r.ensures c.in-Written.is (c.map-r.auto.out ∙ size) (drop 65536 c.args.out.now) c.put_end.ensures
 
 pub returns-in-Refused : goal.returns-in-Refused
-returns-in-Refused c = front_refused c.args.job.now _ _ c.map-r.result (sym (slice-aggregate-map (goal.at.returns-in-Refused c).After-map-arg-1)) c.map-r.ensures c.in-Refused.is c.refuse.ensures
+returns-in-Refused c =
+    let size = length-take-le 65536 c.args.out.now (omega (arith, c.requires)) in
+    front_refused c.args.job.now _ _ c.map-r.result size c.map-r.ensures c.in-Refused.is c.refuse.ensures

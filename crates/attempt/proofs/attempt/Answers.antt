@@ -17,10 +17,10 @@ union_size-requires c = let p = c.requires in (p.1.1.0.cone, p.1.1.1.0.cone)
 pub returns-then-s-union_size : goal.returns-then-s-union_size
 unfolding tried_of
 returns-then-s-union_size c =
-    let A = c.args in (
-      compose-over A.s (store_of A.nodes.now A.count) (cone_of A.left) (cone_of A.right) A.gate (omega (arith, c.if-s-union_size.true, c.union_size.ensures)),
-      λ e. absurd (false≢true e),
-    )
+    let A = c.args in record {
+      is = compose-over A.s (store_of A.nodes.now A.count) (cone_of A.left) (cone_of A.right) A.gate (omega (arith, c.if-s-union_size.true, c.union_size.ensures));
+      stands = λ e. absurd (false≢true e);
+    }
 
 pub basis_of-basis-requires : goal.basis_of-basis-requires
 basis_of-basis-requires c =
@@ -33,8 +33,8 @@ composed-requires c =
 
 pub returns : goal.returns
 returns c =
-    let A = c.args in (
-      c.composed.ensures.0
-          ∙ compose_within A.s (store_of A.nodes.now A.count) (cone_of A.left) (cone_of A.right) A.gate (omega (arith, c.if-s-union_size.false, c.union_size.ensures)),
-      c.composed.ensures.1,
-    )
+    let A = c.args in record {
+      is = c.composed.ensures.is
+          ∙ compose_within A.s (store_of A.nodes.now A.count) (cone_of A.left) (cone_of A.right) A.gate (omega (arith, c.if-s-union_size.false, c.union_size.ensures));
+      stands = c.composed.ensures.stands;
+    }

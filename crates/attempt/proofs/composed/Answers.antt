@@ -1,5 +1,5 @@
-use Rattle.std.proofs.Common.{◌≡◌, refl, sym, ap, ◌∙◌, map, ℕ, ◌≤◌, ◌<◌, ◌^◌, arith, length, get_or, take, pow_mono, pow_pos, get_or-take}
-use mathlib.Core.Option.{some}
+use Rattle.std.proofs.Common.{◌≡◌, refl, sym, ap, ◌∙◌, Bool, List, ℕ, ◌≤◌, ◌<◌, ◌^◌, arith, length, get_or, take, pow_mono, pow_pos, get_or-take}
+use Rattle.std.proofs.Math.Option.{some, map}
 use Rattle.laws.specs.Tail.{head_length}
 use Rattle.rules.specs.Cone.{constant}
 use Rattle.rules.specs.Composition.{union_support, gate_truth, all_equal, merge_cones, find_candidate}
@@ -10,7 +10,7 @@ use Rattle.attempt.specs.Pair.{Tabled, gated_constant, gated-merged}
 use Rattle.attempt.specs.PairTrial.{trial_tabled, rows_few, trial_mergeable, trial_merged, trial_stands}
 use Rattle.attempt.specs.Tried.{tried_of}
 use Rattle.attempt.proofs.composed.Goals as goal
-use Rattle.attempt.proofs.composed.Goals.{After-all_equal, After-rows_of-rows}
+use Rattle.attempt.proofs.composed.Goals.{After-rows_of-rows}
 
 -- `attempt::composed` meets its contract.
 room : (n : ℕ) → n ≤ 11 → 2 ^ n ≤ 2048
@@ -18,25 +18,24 @@ room n h = pow_mono {j = 11} h
 
 -- the tables hold what the definition says
 tabled : (c : After-rows_of-rows) → let A = c.args in
-    Tabled A.basis c.rows_of_lem.result c.cone_composition_tables.new.1.1.1.1.0 c.cone_composition_tables.new.1.1.1.1.1.0 c.cone_composition_tables.new.1.1.1.1.1.1.0
-    × (take c.rows_of_lem.result c.cone_composition_tables.new.1.1.1.1.1.1.0 ≡ gate_truth (union_support (cone_of A.left).support (cone_of A.right).support) (cone_of A.left) (cone_of A.right) A.gate)
+    Tabled A.basis c.rows_of-rows.result c.cone_composition_tables.new.xs c.cone_composition_tables.new.ys c.cone_composition_tables.new.truth
+    × (take c.rows_of-rows.result c.cone_composition_tables.new.truth ≡ gate_truth (union_support (cone_of A.left).support (cone_of A.right).support) (cone_of A.left) (cone_of A.right) A.gate)
 tabled c =
     let A = c.args in
-    trial_tabled A.s A.nodes.now A.count A.left A.right A.basis c.requires.0 A.gate c.requires.1 c.rows_of_lem.result c.rows_of_lem.ensures _ _ _ c.cone_composition_tables.new.1.1.1.1.0 c.cone_composition_tables.new.1.1.1.1.1.0 c.cone_composition_tables.new.1.1.1.1.1.1.0 refl refl refl c.cone_composition_tables.ensures
+    trial_tabled A.s A.nodes.now A.count A.left A.right A.basis c.requires.0 A.gate c.requires.1 c.rows_of-rows.result c.rows_of-rows.ensures _ _ _ c.cone_composition_tables.new.xs c.cone_composition_tables.new.ys c.cone_composition_tables.new.truth refl refl refl c.cone_composition_tables.ensures
 
-in_truth : (c : After-rows_of-rows) → c.rows_of_lem.result ≤ length c.cone_composition_tables.new.1.1.1.1.1.1.0
+in_truth : (c : After-rows_of-rows) → c.rows_of-rows.result ≤ length c.cone_composition_tables.new.truth
 in_truth c =
     let A = c.args in
     let t = (tabled c).0 in
-    omega (arith, t.t_long, rows_few A.s A.nodes.now A.count A.left A.right A.basis c.requires.0 c.rows_of_lem.result c.cone_composition_tables.new.1.1.1.1.0 c.cone_composition_tables.new.1.1.1.1.1.0 c.cone_composition_tables.new.1.1.1.1.1.1.0 t)
+    omega (arith, t.t_long, rows_few A.s A.nodes.now A.count A.left A.right A.basis c.requires.0 c.rows_of-rows.result c.cone_composition_tables.new.xs c.cone_composition_tables.new.ys c.cone_composition_tables.new.truth t)
 
-some_row : (c : After-rows_of-rows) → 0 < c.rows_of_lem.result
-some_row c = omega (arith, c.rows_of_lem.ensures, pow_pos c.args.basis.n)
+some_row : (c : After-rows_of-rows) → 0 < c.rows_of-rows.result
+some_row c = omega (arith, c.rows_of-rows.ensures, pow_pos c.args.basis.n)
 
 -- whether all truths are equal
-equal_is : (c : After-all_equal) → let A = c.args in
-    all_equal (gate_truth (union_support (cone_of A.left).support (cone_of A.right).support) (cone_of A.left) (cone_of A.right) A.gate) ≡ c.all_equal.result
-equal_is c = sym (c.all_equal.ensures ∙ ap all_equal (tabled (goal.at.HERE c).After-rows_of-rows).1)
+equal_is : (r : Bool) (ts gate : List ℕ) → r ≡ all_equal ts → ts ≡ gate → all_equal gate ≡ r
+equal_is r ts gate e f = sym (e ∙ ap all_equal f)
 
 pub cone_composition_tables-requires : goal.cone_composition_tables-requires
 cone_composition_tables-requires c =
@@ -45,10 +44,10 @@ cone_composition_tables-requires c =
     (t.first.cone, (t.second.cone, (t.over, record { x = fits; y = fits; t = fits })))
 
 pub slice_bounds-truth-end : goal.slice_bounds-truth-end
-slice_bounds-truth-end c = in_truth c
+slice_bounds-truth-end c = in_truth (goal.at.slice_bounds-truth-end c).After-rows_of-rows
 
 pub slice_bounds-all_equal-end : goal.slice_bounds-all_equal-end
-slice_bounds-all_equal-end c = head_length c.cone_composition_tables.new.1.1.1.1.1.1.0 c.rows_of_lem.result (in_truth (goal.at.slice_bounds-all_equal-end c).After-rows_of-rows)
+slice_bounds-all_equal-end c = head_length c.cone_composition_tables.new.truth c.rows_of-rows.result (in_truth (goal.at.slice_bounds-all_equal-end c).After-rows_of-rows)
 
 pub constant-requires : goal.constant-requires
 constant-requires c = (tabled (goal.at.constant-requires c).After-rows_of-rows).0.bits 0 (some_row (goal.at.constant-requires c).After-rows_of-rows)
@@ -58,11 +57,11 @@ unfolding tried_of
 returns-then-all_equal c =
     let A = c.args in
     let T = gate_truth (union_support (cone_of A.left).support (cone_of A.right).support) (cone_of A.left) (cone_of A.right) A.gate in
-    let first : get_or c.cone_composition_tables.new.1.1.1.1.1.1.0 0 0 ≡ get_or T 0 0 = sym (get_or-take c.rows_of_lem.result _ 0 0 (some_row (goal.at.returns-then-all_equal c).After-rows_of-rows)) ∙ ap (λ l. get_or l 0 0) (tabled (goal.at.returns-then-all_equal c).After-rows_of-rows).1 in (
-      ap some (c.constant.ensures.1 ∙ ap constant first)
-          ∙ gated_constant A.s (store_of A.nodes.now A.count) (cone_of A.left) (cone_of A.right) A.gate (equal_is (goal.at.returns-then-all_equal c).After-all_equal ∙ c.if-all_equal.true),
-      λ e. constant_stands A.count c.constant.result _ c.constant.ensures.0 c.constant.ensures.1,
-    )
+    let first : get_or c.cone_composition_tables.new.truth 0 0 ≡ get_or T 0 0 = sym (get_or-take c.rows_of-rows.result _ 0 0 (some_row (goal.at.returns-then-all_equal c).After-rows_of-rows)) ∙ ap (λ l. get_or l 0 0) (tabled (goal.at.returns-then-all_equal c).After-rows_of-rows).1 in record {
+      is = ap some (c.constant.ensures.1 ∙ ap constant first)
+          ∙ gated_constant A.s (store_of A.nodes.now A.count) (cone_of A.left) (cone_of A.right) A.gate (equal_is _ _ _ c.all_equal.ensures (tabled (goal.at.returns-then-all_equal c).After-rows_of-rows).1 ∙ c.if-all_equal.true);
+      stands = λ e. constant_stands A.count c.constant.result _ c.constant.ensures.0 c.constant.ensures.1;
+    }
 
 pub best_pair-best-requires : goal.best_pair-best-requires
 best_pair-best-requires c =
@@ -71,15 +70,15 @@ best_pair-best-requires c =
 pub best_merged-requires : goal.best_merged-requires
 best_merged-requires c =
     let A = c.args in
-    trial_mergeable A.s A.nodes.now A.count A.left A.right A.basis c.requires.0 c.rows_of_lem.result c.cone_composition_tables.new.1.1.1.1.0 c.cone_composition_tables.new.1.1.1.1.1.0 c.cone_composition_tables.new.1.1.1.1.1.1.0 (tabled (goal.at.best_merged-requires c).After-rows_of-rows).0 (store_of A.nodes.now A.count) c.best_pair-best.result c.best_pair-best.ensures
+    trial_mergeable A.s A.nodes.now A.count A.left A.right A.basis c.requires.0 c.rows_of-rows.result c.cone_composition_tables.new.xs c.cone_composition_tables.new.ys c.cone_composition_tables.new.truth (tabled (goal.at.best_merged-requires c).After-rows_of-rows).0 (store_of A.nodes.now A.count) c.best_pair-best.result c.best_pair-best.ensures
 
 pub returns : goal.returns
 returns c =
     let A = c.args in
-    let nodes = store_of A.nodes.now A.count in (
-      c.best_merged.ensures.is
-          ∙ trial_merged A.s A.nodes.now A.count A.left A.right A.basis c.requires.0 c.rows_of_lem.result c.cone_composition_tables.new.1.1.1.1.0 c.cone_composition_tables.new.1.1.1.1.1.0 c.cone_composition_tables.new.1.1.1.1.1.1.0 (tabled (goal.at.returns c).After-rows_of-rows).0 nodes c.best_pair-best.result c.best_pair-best.ensures
+    let nodes = store_of A.nodes.now A.count in record {
+      is = c.best_merged.ensures.is
+          ∙ trial_merged A.s A.nodes.now A.count A.left A.right A.basis c.requires.0 c.rows_of-rows.result c.cone_composition_tables.new.xs c.cone_composition_tables.new.ys c.cone_composition_tables.new.truth (tabled (goal.at.returns c).After-rows_of-rows).0 nodes c.best_pair-best.result c.best_pair-best.ensures
           ∙ ap (λ l. map merge_cones (find_candidate A.s nodes (union_support (cone_of A.left).support (cone_of A.right).support) (cone_of A.left) (cone_of A.right) l)) (tabled (goal.at.returns c).After-rows_of-rows).1
-          ∙ gated-merged A.s nodes (cone_of A.left) (cone_of A.right) A.gate (equal_is (goal.at.returns c).After-all_equal ∙ c.if-all_equal.false),
-      λ q. trial_stands A.s A.nodes.now A.count A.left A.right A.basis c.requires.0 c.best_pair-best.result c.best_merged.result.cone (c.best_merged.ensures.cone q),
-    )
+          ∙ gated-merged A.s nodes (cone_of A.left) (cone_of A.right) A.gate (equal_is _ _ _ c.all_equal.ensures (tabled (goal.at.returns c).After-rows_of-rows).1 ∙ c.if-all_equal.false);
+      stands = λ q. trial_stands A.s A.nodes.now A.count A.left A.right A.basis c.requires.0 c.best_pair-best.result c.best_merged.result.cone (c.best_merged.ensures.cone q);
+    }

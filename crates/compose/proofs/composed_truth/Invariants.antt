@@ -1,5 +1,5 @@
 use Rattle.std.proofs.Common.{◌≡◌, ◌-◌, ◌^◌, ◌≤◌, length}
-use Turn.{Feeds}
+use Rattle.compose.proofs.Turn.{Feeds}
 use Rattle.laws.specs.Front.{front}
 use Rattle.rules.specs.Composition.{gate_truth}
 use Rattle.cone.specs.declared.Cone.{Cone}

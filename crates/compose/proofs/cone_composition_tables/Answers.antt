@@ -59,7 +59,7 @@ right_rows c =
     (pow_mono (omega (arith, (is_basis c).count, right_le (cone_of c.args.left).support (cone_of c.args.right).support c.requires.1.0.different, view_sources c.args.right c.requires.1.0 (lengths c).1.0)))
 
 -- the lent tables keep their lengths
-kept : (c : After-gate_truths) → (length c.gate_truths.new.1.1.1.1.0 ≡ length c.args.xs.now) × (length c.gate_truths.new.1.1.1.1.1.0 ≡ length c.args.ys.now)
+kept : (c : After-gate_truths) → (length c.gate_truths.new.xs ≡ length c.args.xs.now) × (length c.gate_truths.new.ys ≡ length c.args.ys.now)
 kept c = (search rules, search rules)
 
 pub slice_bounds-support-end : goal.slice_bounds-support-end

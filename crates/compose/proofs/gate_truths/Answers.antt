@@ -26,11 +26,11 @@ right_rows : (c : Start) → 2 ^ c.args.right.n ≤ 2 ^ length c.args.support.no
 right_rows c =
     pow_mono (omega (arith, ap length c.requires.1.1.0, right_le (cone_of c.args.left).support (cone_of c.args.right).support c.requires.1.0.different, view_sources c.args.right c.requires.1.0 (support_long c).1))
 
-lefts_long : (c : After-truths_of) → length c.truths_of.new.1.1.0 ≡ 2048
-lefts_long c = search rules
+lefts_long : (c : After-truths_of) → length c.truths_of.new.truth ≡ 2048
+lefts_long c = c.truths_of.auto.truth
 
-rights_long : (c : After-truths_of-2) → length c.truths_of-2.new.1.1.0 ≡ 2048
-rights_long c = search rules
+rights_long : (c : After-truths_of-2) → length c.truths_of-2.new.truth ≡ 2048
+rights_long c = c.truths_of-2.auto.truth
 
 taken : (t d l : List ℕ) (n : ℕ) → l ≡ over t d → length t ≡ n → take n l ≡ t
 taken t d l n e h = rw e (take-over t d n h)
@@ -54,25 +54,25 @@ pub rows_of-b-requires : goal.rows_of-b-requires
 rows_of-b-requires c = c.requires.1.0.few
 
 pub slice_bounds-lefts-end : goal.slice_bounds-lefts-end
-slice_bounds-lefts-end c = omega (arith, c.rows_of_lem.ensures, rows_fit c.args.left c.requires.0, lefts_long (goal.at.slice_bounds-lefts-end c).After-truths_of)
+slice_bounds-lefts-end c = omega (arith, c.rows_of-a.ensures, rows_fit c.args.left c.requires.0, lefts_long (goal.at.slice_bounds-lefts-end c).After-truths_of)
 
 pub slice_bounds-composed_truth-end : goal.slice_bounds-composed_truth-end
-slice_bounds-composed_truth-end c = head_length _ c.rows_of_lem.result (array-share-prefix-lefts (goal.at.slice_bounds-composed_truth-end c).After-rows_of-b)
+slice_bounds-composed_truth-end c = head_length _ c.rows_of-a.result (omega (arith, c.rows_of-a.ensures, rows_fit c.args.left c.requires.0, lefts_long (goal.at.slice_bounds-composed_truth-end c).After-truths_of))
 
 pub slice_bounds-rights-end : goal.slice_bounds-rights-end
 slice_bounds-rights-end c = omega (arith, c.rows_of-b.ensures, rows_fit c.args.right c.requires.1.0, rights_long (goal.at.slice_bounds-rights-end c).After-truths_of-2)
 
 pub slice_bounds-composed_truth-end-2 : goal.slice_bounds-composed_truth-end-2
-slice_bounds-composed_truth-end-2 c = head_length _ c.rows_of-b.result (array-share-prefix-rights (goal.at.slice_bounds-composed_truth-end-2 c).After-lefts-3-1)
+slice_bounds-composed_truth-end-2 c = head_length _ c.rows_of-b.result (omega (arith, c.rows_of-b.ensures, rows_fit c.args.right c.requires.1.0, rights_long (goal.at.slice_bounds-composed_truth-end-2 c).After-truths_of-2))
 
 pub composed_truth-requires : goal.composed_truth-requires
-composed_truth-requires c = (
-  (c.requires.0, (c.requires.1.0, (c.requires.1.1.0, (c.requires.1.1.1.0, (room (goal.at.composed_truth-requires c).Start).t)))),
-  (
-    taken (cone_of c.args.left).truth _ _ c.rows_of_lem.result c.truths_of.ensures.1 (view_rows c.args.left c.requires.0 (coefs_long (goal.at.composed_truth-requires c).Start).0 ∙ sym c.rows_of_lem.ensures),
+composed_truth-requires c = record {
+  cones = (c.requires.0, (c.requires.1.0, (c.requires.1.1.0, (c.requires.1.1.1.0, (room (goal.at.composed_truth-requires c).Start).t))));
+  truths = (
+    taken (cone_of c.args.left).truth _ _ c.rows_of-a.result c.truths_of.ensures.1 (view_rows c.args.left c.requires.0 (coefs_long (goal.at.composed_truth-requires c).Start).0 ∙ sym c.rows_of-a.ensures),
     taken (cone_of c.args.right).truth _ _ c.rows_of-b.result c.truths_of-2.ensures.1 (view_rows c.args.right c.requires.1.0 (coefs_long (goal.at.composed_truth-requires c).Start).1 ∙ sym c.rows_of-b.ensures),
-  ),
-)
+  );
+}
 
 pub returns : goal.returns
 returns c = (c.truths_of.ensures.0, (c.truths_of-2.ensures.0, c.composed_truth.ensures))

@@ -4,7 +4,7 @@ use Rattle.compose.proofs.union_of.Goals as goal
 
 -- `compose::union_of` meets its contract.
 pub slice_bounds-union_support-end : goal.slice_bounds-union_support-end
-slice_bounds-union_support-end c = head_length c.args.t1 c.args.ln (search rules)
+slice_bounds-union_support-end c = head_length c.args.ls c.args.ln (search rules)
 
 pub slice_bounds-union_support-end-2 : goal.slice_bounds-union_support-end-2
-slice_bounds-union_support-end-2 c = head_length c.args.t3 c.args.rn (search rules)
+slice_bounds-union_support-end-2 c = head_length c.args.rs c.args.rn (search rules)

@@ -1,10 +1,10 @@
-use Rattle.std.proofs.Common.{◌≡◌, ap, ◌∙◌, true, false, ⊎_elim, ℕ, ◌+◌, ◌-◌, ◌≤◌, add-zero, arith, ℤ, pos, neg_ℤ, ◌+ℤ◌, get_or, drop, w64, to_z, of_z, SFits, to_z-of_z}
+use Rattle.std.proofs.Common.{◌≡◌, ap, ◌∙◌, true, false, ℕ, ◌+◌, ◌-◌, ◌≤◌, add-zero, arith, ℤ, pos, neg_ℤ, ◌+ℤ◌, get_or, drop, w64, to_z, of_z, SFits, to_z-of_z}
 use lib.Signed.{lt_z}
 use Rattle.laws.specs.Integer.{read_back, plus, minus, abs_parts, add_parts, one_part_zero, lt_z_true, lt_z_false, fits_abs, ints, plus_neg, minus_neg}
 use Rattle.linear.specs.Span.{lower_on, lower_end, lower-small}
 use Rattle.theorems.specs.LinearTables.{least_table, lower}
 use Rattle.linear.proofs.linear_least.Goals as goal
-use Rattle.linear.proofs.linear_least.Goals.{After-c-1, Start}
+use Rattle.linear.proofs.linear_least.Goals.{After-c-1, Start, then-c-lt0, else-c-lt0}
 
 -- one coefficient more
 module _ (s c : ℤ) (l l' t : ℕ) (below : plus s ≡ 0) (sum : minus s + l ≡ t) (on : l ≡ minus c + l') where
@@ -19,8 +19,8 @@ module _ (s c : ℤ) (l l' t : ℕ) (below : plus s ≡ 0) (sum : minus s + l �
   unfolding plus minus
   passed e = omega (arith, lt_z_false c (pos 0) e, one_part_zero c)
 
-stored : (b : ℕ) (x : ℤ) (l t : ℕ) → b ≡ of_z w64 x → SFits w64 x → (plus x ≡ 0) × (minus x + l ≡ t) → (plus (to_z w64 b) ≡ 0) × (minus (to_z w64 b) + l ≡ t)
-stored b x l t e f h = rw (e, to_z-of_z f) h
+stored : (z x : ℤ) (l t : ℕ) → z ≡ to_z w64 (of_z w64 x) → SFits w64 x → (plus x ≡ 0) × (minus x + l ≡ t) → (plus z ≡ 0) × (minus z + l ≡ t)
+stored z x l t e f h = rw (e, to_z-of_z f) h
 
 none_yet : (l : ℕ) → (plus (pos 0) ≡ 0) × (minus (pos 0) + l ≡ l)
 unfolding plus minus
@@ -51,10 +51,12 @@ overflow_add-sum c =
 pub loop-i-preserved : goal.loop-i-preserved
 loop-i-preserved c =
     let o = c.loop-i in
-    ⊎_elim
-    (λ w. (omega arith, stored _ _ _ _ w.1 (fits _ _ _ _ _ o.invariant.1.0 o.invariant.1.1 (on (goal.at.loop-i-preserved c).After-c-1) w.0.true (all_small (goal.at.loop-i-preserved c).Start)) (added _ _ _ _ _ o.invariant.1.0 o.invariant.1.1 (on (goal.at.loop-i-preserved c).After-c-1) w.0.true)))
-    (λ w. (omega arith, (ap (λ b. plus (to_z w64 b)) w.1 ∙ o.invariant.1.0, ap (λ b. minus (to_z w64 b) + lower (drop (o.i + 1) c.args.coefs.now)) w.1 ∙ passed _ _ _ _ _ o.invariant.1.0 o.invariant.1.1 (on (goal.at.loop-i-preserved c).After-c-1) w.0.false)))
-    c.if-c-lt0.branch
+    let here = on (goal.at.loop-i-preserved c).After-c-1 in
+    let small = all_small (goal.at.loop-i-preserved c).Start in
+    elim c.if-c-lt0.branch [
+      | then-c-lt0 w ↦ (omega arith, stored _ _ _ _ w.sum-is (fits _ _ _ _ _ o.invariant.1.0 o.invariant.1.1 here w.if-c-lt0.true small) (added _ _ _ _ _ o.invariant.1.0 o.invariant.1.1 here w.if-c-lt0.true))
+      | else-c-lt0 w ↦ (omega arith, (ap plus w.sum-is ∙ o.invariant.1.0, ap (λ s. minus s + lower (drop (o.i + 1) c.args.coefs.now)) w.sum-is ∙ passed _ _ _ _ _ o.invariant.1.0 o.invariant.1.1 here w.if-c-lt0.false))
+    ]
 
 pub returns : goal.returns
 returns c =

@@ -1,31 +1,24 @@
-use Rattle.std.proofs.Common.{◌≡◌, ◌+◌, ◌-◌, arith, pos, get_or, drop, w64, to_z, of_z}
-use Rattle.laws.specs.Integer.{read_back}
+use Rattle.std.proofs.Common.{◌≡◌, ◌+◌, ◌-◌, arith, pos, get_or, drop, w64, to_z-of_z}
+use Rattle.laws.specs.Integer.{fits_abs}
 use Rattle.linear.specs.Span.{total_on, total_end, total-small}
 use Rattle.theorems.specs.LinearTables.{span_table, total}
 use Rattle.linear.proofs.linear_span.Goals as goal
-use Rattle.linear.proofs.linear_span.Goals.{After-magnitude-arg-1, After-magnitude-sum}
+use Rattle.linear.proofs.linear_span.Goals.{After-magnitude-sum}
 
--- the coefficient that is read
-back : (c : After-magnitude-arg-1) → let z = get_or c.args.coefs.now c.loop-i.i (pos 0) in to_z w64 (of_z w64 z) ≡ z
-back c = read_back _ c.magnitude-arg-1.given
-
--- what it adds
+-- what the coefficient that is read adds
 adds : (c : After-magnitude-sum) → let o = c.loop-i in
     c.magnitude-sum.result + total (drop (o.i + 1) c.args.coefs.now) ≡ total (drop o.i c.args.coefs.now)
 adds c =
     let o = c.loop-i in
-    omega (arith, simp (back (goal.at.HERE c).After-magnitude-arg-1) at c.magnitude-sum.ensures, total_on c.args.coefs.now o.i (omega arith))
-
-pub magnitude-sum-requires : goal.magnitude-sum-requires
-magnitude-sum-requires c =
-    simp (back c) (omega (arith, c.requires.1 c.loop-i.i))
+    let back = to_z-of_z {w = w64} (fits_abs (get_or c.args.coefs.now o.i (pos 0)) (omega (arith, c.requires.1 o.i))) in
+    omega (arith, simp back at c.magnitude-sum.ensures, total_on c.args.coefs.now o.i (omega arith))
 
 pub overflow_add-sum : goal.overflow_add-sum
 overflow_add-sum c =
-    omega (arith, adds c, total-small 1984 c.args.coefs.now c.requires.1)
+    omega (arith, adds (goal.at.overflow_add-sum c).After-magnitude-sum, total-small 1984 c.args.coefs.now c.requires.1)
 
 pub loop-i-preserved : goal.loop-i-preserved
-loop-i-preserved c = omega (arith, adds c)
+loop-i-preserved c = omega (arith, adds (goal.at.loop-i-preserved c).After-magnitude-sum)
 
 pub returns : goal.returns
 returns c =

@@ -1,5 +1,5 @@
 use Rattle.std.proofs.Common.{arith, ◌≡◌, refl, sym, ap, ◌∙◌, ◌+◌, ◌-◌, ◌≤◌, lit<, to_z-of_z, ℤ, pos, nat_abs, length, get_or, set, drop, length-set, length-take, length-drop, w32, w64, to_z, of_z, SFits}
-use Turn.{joined, next, doubled}
+use Rattle.linear.proofs.Turn.{front_is, joined, next, doubled, table_room, start_length, start_table, end_table, table_within_limit}
 use Rattle.laws.specs.Integer.{fits_abs}
 use borrow.Rule.Slice.PartMut.{put_mid}
 use native.Mathlib.Nat.{one-le-pow}
@@ -7,7 +7,6 @@ use Rattle.laws.specs.Over.{over}
 use Rattle.rules.specs.Cone.{linear_table}
 use Rattle.linear.proofs.linear_table.Goals as goal
 use Rattle.linear.proofs.linear_table.Goals.{In-loop-k}
-mod Turn
 
 -- in a turn, the doubled table has room
 room : (c : In-loop-k) → (c.loop-k.half + c.loop-k.half ≤ length c.loop-k.table)
@@ -31,7 +30,7 @@ pub slice_set_of-table : goal.slice_set_of-table
 slice_set_of-table c = omega (arith, one-le-pow (length c.args.coefs.now) 2 (lit< tt))
 
 pub loop-k-init : goal.loop-k-init
-loop-k-init c = (omega arith, start_length c.args.coefs.now, refl, start_table c.args.coefs.now c.args.table.now (slice-set-of-table c))
+loop-k-init c = (omega arith, start_length c.args.coefs.now, refl, start_table c.args.coefs.now c.args.table.now (omega (arith, one-le-pow (length c.args.coefs.now) 2 (lit< tt))))
 
 pub overflow_cast-c : goal.overflow_cast-c
 overflow_cast-c c = cast_fits (get_or c.args.coefs.now (c.loop-k.k - 1) (pos 0)) (small (goal.at.overflow_cast-c c).In-loop-k)
@@ -52,8 +51,8 @@ pub shift-requires : goal.shift-requires
 shift-requires c =
     let o = c.loop-k in
     let cs = c.args.coefs.now in
-    let u = c.repeat.new.0 in (
-      simp (length-take, length-drop) (omega (arith, room (goal.at.shift-requires c).In-loop-k, c.repeat.auto.0)),
+    let u = c.repeat.new.table in (
+      simp (length-take, length-drop) (omega (arith, room (goal.at.shift-requires c).In-loop-k, c.repeat.auto.table)),
       (
         simp (cast_back (get_or cs (o.k - 1) (pos 0)) (small (goal.at.shift-requires c).In-loop-k)) (small (goal.at.shift-requires c).In-loop-k),
         (λ i. rw (front_is (linear_table (drop o.k cs)) _ o.table u o.half (sym o.invariant.1) o.invariant.3 c.repeat.ensures)
@@ -68,11 +67,11 @@ pub loop-k-preserved : goal.loop-k-preserved
 loop-k-preserved c =
     let o = c.loop-k in
     let cs = c.args.coefs.now in
-    let u = c.repeat.new.0 in
+    let u = c.repeat.new.table in
     let k = get_or cs (o.k - 1) (pos 0) in
-    let all : put_mid o.half (length u - o.half) u c.shift.new.0 ≡ over (linear_table (drop (o.k - 1) cs)) (set c.args.table.now 0 (pos 0)) =
+    let all : put_mid o.half (length u - o.half) u c.shift.new.part ≡ over (linear_table (drop (o.k - 1) cs)) (set c.args.table.now 0 (pos 0)) =
     joined (linear_table (drop o.k cs)) _ o.table u o.half (sym o.invariant.1) o.invariant.3 c.repeat.ensures k
-    c.shift.new.0 (simp (cast_back k (small (goal.at.loop-k-preserved c).In-loop-k)) at c.shift.ensures)
+    c.shift.new.part (simp (cast_back k (small (goal.at.loop-k-preserved c).In-loop-k)) at c.shift.ensures)
     ∙ ap (λ r. over r (set c.args.table.now 0 (pos 0))) (sym (next cs o.k c.loop-k-test.true o.invariant.0)) in
     (omega arith, omega (arith, doubled cs o.k c.loop-k-test.true o.invariant.0), omega arith, all)
 

@@ -12,7 +12,7 @@ module _ (l t : List ℤ) (n i : ℕ) (k : ℤ) (lt : i < n) (in-l : n ≤ lengt
   read : to_z w32 (of_z w32 (get_or t i (pos 0))) ≡ get_or (take n l) i (pos 0)
   read =
       rw (inv, front_get (shifted k (take n l)) l i i (pos 0) (omega arith), ← get_or-take n l i (pos 0) lt)
-      (to_z-of_z (fits_abs (get_or (take n l) i (pos 0)) (omega (arith, w i))))
+      (to_z-of_z {w = w32} (fits_abs (get_or (take n l) i (pos 0)) (omega (arith, w i))))
 
   fits : SFits w32 (k +ℤ to_z w32 (of_z w32 (get_or t i (pos 0))))
   fits = rw read (fits_abs (k +ℤ get_or (take n l) i (pos 0)) (omega (arith, w i, abs_add k (get_or (take n l) i (pos 0)))))

@@ -2,13 +2,13 @@ use Rattle.network_judge.specs.Conditions.{named_within, table_within, line_bad,
 use Rattle.network_judge.proofs.line_number.Goals as goal
 
 pub in_number-requires : goal.in_number-requires
-in_number-requires c = (c.requires.0, named_within c.args.l.now c.requires.1.1 c.in-In.is)
+in_number-requires c = (c.requires.kept, named_within c.args.l.now c.requires.small.1 c.in-In.is)
 
 pub lin_number-requires : goal.lin_number-requires
-lin_number-requires c = (c.requires.0.store, c.requires.1.0)
+lin_number-requires c = (c.requires.kept.store, c.requires.small.0)
 
 pub boot_number-requires : goal.boot_number-requires
-boot_number-requires c = (c.requires.0.store, table_within c.args.l.now c.requires.1.1 c.in-Boot.is)
+boot_number-requires c = (c.requires.kept.store, table_within c.args.l.now c.requires.small.1 c.in-Boot.is)
 
 pub returns-in-Bad : goal.returns-in-Bad
 returns-in-Bad c = line_bad _ _ _ _ _ _ c.in-Bad.is

@@ -25,4 +25,4 @@ pub returns : goal.returns
 returns c =
     let w = c.requires.1.1.1.0 in
     let is = c.cone_at-c.ensures ∙ ap (cone_in _) c.slot_of.ensures in
-    (c.output_signal.ensures.0 ∙ ap (output_signal _ _) (ap cone_of is ∙ sym (port_cone _ _ c.requires.1.1.0 _ _ _ w c.requires.1.1.1.1)), c.output_signal.ensures.1)
+    record { is = c.output_signal.ensures.is ∙ ap (output_signal _ _) (ap cone_of is ∙ sym (port_cone _ _ c.requires.1.1.0 _ _ _ w c.requires.1.1.1.1)); finishes = c.output_signal.ensures.finishes }

@@ -55,14 +55,14 @@ loop-i-preserved c =
     let i = c.loop-i-test.true in
     let w = o.invariant.1.1.1.1.0 in
     let done = c.map_output-f.ensures in
-    let grown = done.1.grown in
+    let grown = done.finishes.grown in
     let most = grown.most in
     let low = below_limit _ _ i c.requires.1.1.1.1.few in
     let wire = c.port_of.ensures in
-    (search rules, (wired_more _ _ _ _ _ _ o.invariant.1.0 grown.store grown.least, (omega (arith, grown.least, o.invariant.1.1.0), ((omega (arith, most, o.invariant.1.1.1.0.0), centres_then o.invariant.1.1.1.0.1 grown.centred), (written_step _ _ _ _ w low _ _ grown.least (signal_port _ _ _ wire done.1.inside), λ text. outputs-step _ _ text _ _ _ i _ _ _ w _ _ done.0 _ wire low (omega (arith, most, o.invariant.1.1.1.0.0, c.requires.1.0, i)) done.1.inside ∙ o.invariant.1.1.1.1.1 text)))))
+    (search rules, (wired_more _ _ _ _ _ _ o.invariant.1.0 grown.store grown.least, (omega (arith, grown.least, o.invariant.1.1.0), ((omega (arith, most, o.invariant.1.1.1.0.0), centres_then o.invariant.1.1.1.0.1 grown.centred), (written_step _ _ _ _ w low _ _ grown.least (signal_port _ _ _ wire done.finishes.inside), λ text. outputs-step _ _ text _ _ _ i _ _ _ w _ _ done.is _ wire low (omega (arith, most, o.invariant.1.1.1.0.0, c.requires.1.0, i)) done.finishes.inside ∙ o.invariant.1.1.1.1.1 text)))))
 
 pub returns : goal.returns
 returns c =
     let o = c.loop-i in
     let out = c.loop-i-test.false in
-    (λ text. outputs_done _ _ text _ _ _ _ _ _ out o.invariant.0 ∙ o.invariant.1.1.1.1.1 text, outs_done _ _ _ _ _ _ _ o.invariant.1.1.1.1.0 out o.invariant.0 c.requires.1.1.1.1.few o.invariant.1.0.store o.invariant.1.1.0 o.invariant.1.1.1.0.0 o.invariant.1.1.1.0.1)
+    record { is = λ text. outputs_done _ _ text _ _ _ _ _ _ out o.invariant.0 ∙ o.invariant.1.1.1.1.1 text; outs = outs_done _ _ _ _ _ _ _ o.invariant.1.1.1.1.0 out o.invariant.0 c.requires.1.1.1.1.few o.invariant.1.0.store o.invariant.1.1.0 o.invariant.1.1.1.0.0 o.invariant.1.1.1.0.1 }

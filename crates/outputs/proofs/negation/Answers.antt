@@ -7,7 +7,7 @@ use Rattle.outputs.proofs.negation.Goals as goal
 use Rattle.outputs.proofs.negation.Goals.{After-linear}
 
 -- the sum stands in the store
-summed : (c : After-linear) → Interns 0 (Linear (pos 1) (term (negsuc 0) c.args.node ∷ [])) c.args.nodes.now c.args.count c.linear.new.0 c.linear.result
+summed : (c : After-linear) → Interns 0 (Linear (pos 1) (term (negsuc 0) c.args.node ∷ [])) c.args.nodes.now c.args.count c.linear.new.nodes c.linear.result
 summed c = interns_node _ _ _ _ _ _ c.linear.ensures (negated_is c.args.many c.args.node c.negated.result c.negated.ensures) refl
 
 pub linear-requires : goal.linear-requires
@@ -15,4 +15,4 @@ linear-requires c = (c.requires.0, c.requires.1.0, negated_good _ _ _ c.requires
 
 pub returns : goal.returns
 unfolding node_centre
-returns c = (node_signal _ _ _ _ _ (summed c), λ p. node_finishes _ _ _ _ _ (summed c) p refl)
+returns c = record { is = node_signal _ _ _ _ _ (summed (goal.at.returns c).After-linear); finishes = λ p. node_finishes _ _ _ _ _ (summed (goal.at.returns c).After-linear) p refl }

@@ -11,7 +11,7 @@ pub returns-then-c-eq0 : goal.returns-then-c-eq0
 unfolding SignalIn
 returns-then-c-eq0 c =
     let f = c.first_truth-first.ensures in
-    (wire_constant _ _ _ _ c.if-c-eq0.true f, λ p. finishes_self _ _ _ c.requires.0 (omega (arith, f, truth-bit c.args.c c.requires.1.1.0.cone 0)))
+    record { is = wire_constant _ _ _ _ c.if-c-eq0.true f; finishes = λ p. finishes_self _ _ _ c.requires.0 (omega (arith, f, truth-bit c.args.c c.requires.1.1.0.cone 0)) }
 
 pub returns-then-first-eq0 : goal.returns-then-first-eq0
 unfolding SignalIn
@@ -19,7 +19,7 @@ returns-then-first-eq0 c =
     let few = c.requires.1.1.1 in
     let some = c.if-c-eq0.false in
     let f = c.first_truth-first.ensures in
-    (wire_node _ few some (support_long (goal.at.returns-then-first-eq0 c).Start) _ _ _ f c.if-first-eq0.true, λ p. finishes_self _ _ _ c.requires.0 (source_below _ few some (support_long (goal.at.returns-then-first-eq0 c).Start) _ c.requires.1.1.0))
+    record { is = wire_node _ few some (support_long (goal.at.returns-then-first-eq0 c).Start) _ _ _ f c.if-first-eq0.true; finishes = λ p. finishes_self _ _ _ c.requires.0 (source_below _ few some (support_long (goal.at.returns-then-first-eq0 c).Start) _ c.requires.1.1.0) }
 
 pub negation-requires : goal.negation-requires
 negation-requires c =
@@ -32,4 +32,4 @@ returns c =
     let few = c.requires.1.1.1 in
     let some = c.if-c-eq0.false in
     let f = c.first_truth-first.ensures in
-    (wire_not _ few some (support_long (goal.at.returns c).Start) _ _ _ f c.if-first-eq0.false c.negation.ensures.0, c.negation.ensures.1)
+    record { is = wire_not _ few some (support_long (goal.at.returns c).Start) _ _ _ f c.if-first-eq0.false c.negation.ensures.is; finishes = c.negation.ensures.finishes }

@@ -29,20 +29,20 @@ pub returns-then-c-le1 : goal.returns-then-c-le1
 unfolding booted_of
 returns-then-c-le1 c =
     let st = c.requires.1 in
-    let n = view_sources c.args.c st.1.1.cone (support_long (goal.at.returns-then-c-le1 c).Start) in (
-      stays c.args.s (store_of c.args.nodes.now c.args.count) (cone_of c.args.c) (omega (arith, n, c.if-c-le1.true)),
-      record { grown = record { store = st.0; least = omega arith; most = omega arith; centred = centres_same }; stands = st.1.1 },
-    )
+    let n = view_sources c.args.c st.1.1.cone (support_long (goal.at.returns-then-c-le1 c).Start) in record {
+      is = stays c.args.s (store_of c.args.nodes.now c.args.count) (cone_of c.args.c) (omega (arith, n, c.if-c-le1.true));
+      stands = record { grown = record { store = st.0; least = omega arith; most = omega arith; centred = centres_same }; stands = st.1.1 };
+    }
 
 pub realign-d-requires : goal.realign-d-requires
-realign-d-requires c = let s = c.before in (limits_m s.args.s s.requires.0, (s.requires.1.0, s.requires.1.1.1))
+realign-d-requires c = (limits_m c.args.s c.requires.0, (c.requires.1.0, c.requires.1.1.1))
 
 pub returns : goal.returns
 returns c =
-    let s = c.before in
-    let n = view_sources s.args.c s.requires.1.1.1.cone (support_long s) in (
-      c.materialize.ensures.0
-          ∙ ap (λ (d : C.Cone). bootstrapped s.args.s (store_of s.args.nodes.now s.args.count) d (bootstrap_table s.args.s.p d)) c.realign-d.ensures.0
-          ∙ goes s.args.s (store_of s.args.nodes.now s.args.count) (cone_of s.args.c) (omega (arith, n, c.if-c-le1.false)),
-      c.materialize.ensures.1,
-    )
+    let s = c.args in
+    let n = view_sources s.c c.requires.1.1.1.cone (support_long (goal.at.returns c).Start) in record {
+      is = c.materialize.ensures.is
+          ∙ ap (λ (d : C.Cone). bootstrapped s.s (store_of s.nodes.now s.count) d (bootstrap_table s.s.p d)) c.realign-d.ensures.is
+          ∙ goes s.s (store_of s.nodes.now s.count) (cone_of s.c) (omega (arith, n, c.if-c-le1.false));
+      stands = c.materialize.ensures.stands;
+    }

@@ -9,23 +9,23 @@ use Rattle.cone.specs.View.{cone_of, entries}
 use Rattle.lut.specs.Store.{Interns, interns_node}
 use Rattle.bootstrap.specs.Boot.{sum_good, sum_is, grown_by_one, told_inside, not_constant, table_known, node_near, made_is, made_stands}
 use Rattle.bootstrap.proofs.boot.materialize.Goals as goal
-use Rattle.bootstrap.proofs.boot.materialize.Goals.{After-bootstrap-made, After-linear-sum, After-span-span, Start}
+use Rattle.bootstrap.proofs.boot.materialize.Goals.{After-bootstrap-made, After-linear-sum, After-span-span}
 
 -- `bootstrap::boot::materialize` meets its contract: the sum first, then the bootstrap of the cone's known entries.
-long : (c : Start) → length c.args.d.known ≡ 32
+long : (c : After-span-span) → length c.args.d.known ≡ 32
 long c = search rules
 
 -- the span is within the entries
 inside : (c : After-span-span) → c.span-span.result ≤ length c.args.d.known
-inside c = omega (arith, c.span-span.ensures, c.requires.1.1.cone.narrow, long (goal.at.HERE c).Start)
+inside c = omega (arith, c.span-span.ensures, c.requires.1.1.cone.narrow, long c)
 
 -- the sum stands in the store
-summed : (c : After-linear-sum) → Interns 0 (linear_of c.args.s (cone_of c.args.d)) c.args.nodes.now c.args.count c.linear-sum.new.0 c.linear-sum.result
+summed : (c : After-linear-sum) → Interns 0 (linear_of c.args.s (cone_of c.args.d)) c.args.nodes.now c.args.count c.linear-sum.new.nodes c.linear-sum.result
 summed c =
     interns_node _ _ _ _ _ _ c.linear-sum.ensures (sum_is c.args.s c.args.d c.sum_of.result c.sum_of.ensures) refl
 
 -- what the bootstrap was made of
-booted : (c : After-bootstrap-made) → Interns (centre_of c.args.s.p (bootstrap_table c.args.s.p (cone_of c.args.d))) (Bootstrap c.in-Node.source (bootstrap_table c.args.s.p (cone_of c.args.d))) c.linear-sum.new.0 c.linear-sum.result.count c.bootstrap-made.new.0 c.bootstrap-made.result
+booted : (c : After-bootstrap-made) → Interns (centre_of c.args.s.p (bootstrap_table c.args.s.p (cone_of c.args.d))) (Bootstrap c.in-Node.source (bootstrap_table c.args.s.p (cone_of c.args.d))) c.linear-sum.new.nodes c.linear-sum.result.count c.bootstrap-made.new.nodes c.bootstrap-made.result
 booted c =
     let table = ap (λ n. last_tried c.args.s.p (take n c.args.d.known)) c.span-span.ensures
     ∙ table_known c.args.s c.args.nodes.now c.args.count c.args.d c.requires.1.1 in
@@ -50,10 +50,10 @@ pub bootstrap-made-requires : goal.bootstrap-made-requires
 bootstrap-made-requires c =
     let i = summed (goal.at.bootstrap-made-requires c).After-linear-sum in
     let g = grown_by_one _ _ _ _ _ i in
-    let n = head_length c.args.d.known c.span-span.result (inside (goal.at.bootstrap-made-requires c).After-span-span) in (
-      (i.still, omega (arith, g.1, c.requires.1.0), told_inside _ _ _ _ _ i _ c.in-Node.is),
-      (omega (arith, n, c.span-span.ensures, c.requires.1.1.cone.narrow), subst (λ n. Entries (take n c.args.d.known)) (sym c.span-span.ensures) (entries c.args.d c.requires.1.1.cone)),
-    )
+    let n = head_length c.args.d.known c.span-span.result (inside (goal.at.bootstrap-made-requires c).After-span-span) in record {
+      store = (i.still, omega (arith, g.1, c.requires.1.0), told_inside _ _ _ _ _ i _ c.in-Node.is);
+      known_len_bound = (omega (arith, n, c.span-span.ensures, c.requires.1.1.cone.narrow), subst (λ n. Entries (take n c.args.d.known)) (sym c.span-span.ensures) (entries c.args.d c.requires.1.1.cone));
+    }
 
 pub returns-in_default-answer : goal.returns-in_default-answer
 returns-in_default-answer c = absurd (not_constant _ _ _ _ _ (booted (goal.at.returns-in_default-answer c).After-bootstrap-made) _ c.in_default-answer.is)
@@ -63,7 +63,7 @@ identity-requires c =
     node_near c.args.s c.args.nodes.now c.args.count c.args.d c.requires.1.1 _ _ (summed (goal.at.identity-requires c).After-linear-sum) _ c.in-Node.is _ _ (booted (goal.at.identity-requires c).After-bootstrap-made) _ c.in-Node-answer.is
 
 pub returns : goal.returns
-returns c = (
-  made_is c.args.s c.args.nodes.now c.args.count c.args.d c.requires.1.1 _ _ (summed (goal.at.returns c).After-linear-sum) _ c.in-Node.is _ _ (booted (goal.at.returns c).After-bootstrap-made) _ c.in-Node-answer.is _ c.identity.ensures.0 c.identity.ensures.1,
-  made_stands c.args.s c.args.nodes.now c.args.count c.args.d c.requires.1.1 _ _ (summed (goal.at.returns c).After-linear-sum) _ c.in-Node.is _ _ (booted (goal.at.returns c).After-bootstrap-made) _ c.in-Node-answer.is _ c.identity.ensures.0 c.identity.ensures.1,
-)
+returns c = record {
+  is = made_is c.args.s c.args.nodes.now c.args.count c.args.d c.requires.1.1 _ _ (summed (goal.at.returns c).After-linear-sum) _ c.in-Node.is _ _ (booted (goal.at.returns c).After-bootstrap-made) _ c.in-Node-answer.is _ c.identity.ensures.0 c.identity.ensures.1;
+  stands = made_stands c.args.s c.args.nodes.now c.args.count c.args.d c.requires.1.1 _ _ (summed (goal.at.returns c).After-linear-sum) _ c.in-Node.is _ _ (booted (goal.at.returns c).After-bootstrap-made) _ c.in-Node-answer.is _ c.identity.ensures.0 c.identity.ensures.1;
+}

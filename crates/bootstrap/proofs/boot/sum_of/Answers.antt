@@ -27,4 +27,4 @@ overflow_sub-result c = negated (to_z w64 (of_z w64 c.least.result)) _ (low_smal
 pub returns : goal.returns
 unfolding terms term terms_in terms_over cone_of
 returns c =
-    record { few = c.requires.few; constant = to_z-of_z (sub-t5 c) ∙ zero_minus (to_z w64 (of_z w64 c.least.result)) ∙ ap neg_ℤ (least_is c); are = refl }
+    record { few = c.requires.few; constant = to_z-of_z {w = w64} (negated (to_z w64 (of_z w64 c.least.result)) _ (low_small c.args.d c.requires) (least_is c)) ∙ zero_minus (to_z w64 (of_z w64 c.least.result)) ∙ ap neg_ℤ (least_is c); are = refl }

@@ -15,16 +15,17 @@ less_is c count b d = c.is_less.ensures ∙ ap₂ less (c.cone_order_key.ensures
 
 -- `bootstrap::form::better_form` meets its contract.
 pub returns-then-not-f : goal.returns-then-not-f
-returns-then-not-f c = (λ count b d. better-stays _ c.args.best c.args.f (not-true c.args.f.found c.if-not-f.true), λ d k l. k)
+returns-then-not-f c =
+    record { is = λ count b d. better-stays _ c.args.best c.args.f (not-true c.args.f.found c.if-not-f.true); kept = λ d k l. k }
 
 pub returns-then-not-best : goal.returns-then-not-best
 returns-then-not-best c =
-    (λ count b d. better-first _ c.args.best c.args.f (not-false c.args.f.found c.if-not-f.false) (not-true c.args.best.found c.if-not-best.true), λ d k l. l)
+    record { is = λ count b d. better-first _ c.args.best c.args.f (not-false c.args.f.found c.if-not-f.false) (not-true c.args.best.found c.if-not-best.true); kept = λ d k l. l }
 
 pub returns-then-is_less : goal.returns-then-is_less
 returns-then-is_less c =
-    (λ count b d. better_new _ c.args.best c.args.f (not-false c.args.f.found c.if-not-f.false) (not-false c.args.best.found c.if-not-best.false) (sym (less_is (goal.at.returns-then-is_less c).After-is_less count b d) ∙ c.if-is_less.true), λ d k l. l)
+    record { is = λ count b d. better_new _ c.args.best c.args.f (not-false c.args.f.found c.if-not-f.false) (not-false c.args.best.found c.if-not-best.false) (sym (less_is (goal.at.returns-then-is_less c).After-is_less count b d) ∙ c.if-is_less.true); kept = λ d k l. l }
 
 pub returns-else-is_less : goal.returns-else-is_less
 returns-else-is_less c =
-    (λ count b d. better_old _ c.args.best c.args.f (not-false c.args.f.found c.if-not-f.false) (not-false c.args.best.found c.if-not-best.false) (sym (less_is (goal.at.returns-else-is_less c).After-is_less count b d) ∙ c.if-is_less.false), λ d k l. k)
+    record { is = λ count b d. better_old _ c.args.best c.args.f (not-false c.args.f.found c.if-not-f.false) (not-false c.args.best.found c.if-not-best.false) (sym (less_is (goal.at.returns-else-is_less c).After-is_less count b d) ∙ c.if-is_less.false); kept = λ d k l. k }

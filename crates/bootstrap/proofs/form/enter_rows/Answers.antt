@@ -33,8 +33,8 @@ slice_bounds-enter-end c = head_length {A = ℕ} (replicate 32 2) c.args.span c.
 
 pub enter-ok-requires : goal.enter-ok-requires
 enter-ok-requires c =
-    let n = slice-aggregate-enter (goal.at.enter-ok-requires c).After-known-1 in
-    (c.requires.0, (low-is c, omega (arith, n, c.requires.1.1.0)))
+    let n = head_length {A = ℕ} (replicate 32 2) c.args.span c.requires.1.1.1 in
+    record { values_len = c.requires.0; low_value = low-is c; values_in_bounds = omega (arith, n, c.requires.1.1.0) }
 
 pub returns : goal.returns
 returns c =

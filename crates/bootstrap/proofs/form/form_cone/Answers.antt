@@ -12,7 +12,7 @@ use Rattle.cone.specs.Sources.{AreNodes, below_same}
 use Rattle.nodes.specs.View.{store_of}
 use Rattle.bootstrap.specs.Form.{reformed, entries_clash, entries_agree, formed_is, formed_cone, fits_long, fits-clash, form_not, form_so, kept_itself, kept-form}
 use Rattle.bootstrap.proofs.form.form_cone.Goals as goal
-use Rattle.bootstrap.proofs.form.form_cone.Goals.{Else-not-e, Else-s-span, Start}
+use Rattle.bootstrap.proofs.form.form_cone.Goals.{Else-not-e, Start}
 
 -- `bootstrap::form::form_cone` meets its contract.
 module _ (c : Cone) (cs : List ℤ) where
@@ -28,67 +28,66 @@ module _ (c : Cone) (cs : List ℤ) where
   unfolding reformed
   sources_are = refl
 
-coefs_long : (c : Start) → length c.args.c.coefs ≡ 11
+few_coefs : (c : Start) → c.args.c.n ≤ length c.args.coefs
+few_coefs c = let long : length c.args.coefs ≡ 11 = search rules in omega (arith, long, c.requires.1.0.few)
+
+coefs_long : (c : Else-not-e) → length c.args.c.coefs ≡ 11
 coefs_long c = search rules
 
-form_long : (c : Start) → length c.args.t4 ≡ 11
+form_long : (c : Else-not-e) → length c.args.coefs ≡ 11
 form_long c = search rules
 
 -- the span is within the entries
-short : (c : Else-s-span) → c.linear_span-span.result ≤ 32
-short c = omega (arith, c.requires.0, c.if-s-span.false)
-
-entries : (c : Else-not-e) → (span (linear_table (take c.args.c.n c.args.t4)) ≤ 32)
-    × (known_entries (linear_table (take c.args.c.n c.args.t4)) (cone_of c.args.c).truth ≡ some (take (span (linear_table (take c.args.c.n c.args.t4))) c.enter_form-e.result.known))
-entries c =
-    let h = short (goal.at.HERE c).Else-s-span in (
-      omega (arith, h, c.linear_span-span.ensures),
-      entries_agree _ c.enter_form-e.result _ c.enter_form-e.ensures (not-false c.enter_form-e.result.ok c.if-not-e.false)
-          ∙ ap (λ (n : ℕ). some (take n c.enter_form-e.result.known)) c.linear_span-span.ensures,
-    )
+entries : (c : Else-not-e) → (span (linear_table (take c.args.c.n c.args.coefs)) ≤ 32)
+    × (known_entries (linear_table (take c.args.c.n c.args.coefs)) (cone_of c.args.c).truth ≡ some (take (span (linear_table (take c.args.c.n c.args.coefs))) c.enter_form-e.result.known))
+entries c = (
+  omega (arith, c.requires.0, c.if-s-span.false, c.linear_span-span.ensures),
+  entries_agree _ c.enter_form-e.result _ c.enter_form-e.ensures (not-false c.enter_form-e.result.ok c.if-not-e.false)
+      ∙ ap (λ (n : ℕ). some (take n c.enter_form-e.result.known)) c.linear_span-span.ensures,
+)
 
 -- the cone is the one with the form's coefficients
-form : (c : Else-not-e) → cone_of (record { n = c.args.c.n; support = c.args.c.support; coefs = c.args.t4; known = c.enter_form-e.result.known }) ≡ reformed (cone_of c.args.c) (take c.args.c.n c.args.t4)
+form : (c : Else-not-e) → cone_of (record { n = c.args.c.n; support = c.args.c.support; coefs = c.args.coefs; known = c.enter_form-e.result.known }) ≡ reformed (cone_of c.args.c) (take c.args.c.n c.args.coefs)
 form c =
     let w = entries c in
-    formed_is c.args.c c.requires.1.0 (coefs_long (goal.at.HERE c).Start) c.args.t4 (form_long (goal.at.HERE c).Start) _ w.0 w.1
+    formed_is c.args.c c.requires.1.0 (coefs_long c) c.args.coefs (form_long c) _ w.0 w.1
 
 -- its sources are the cone's
-sources : (c : Else-not-e) → (cone_of (record { n = c.args.c.n; support = c.args.c.support; coefs = c.args.t4; known = c.enter_form-e.result.known })).support ≡ (cone_of c.args.c).support
+sources : (c : Else-not-e) → (cone_of (record { n = c.args.c.n; support = c.args.c.support; coefs = c.args.coefs; known = c.enter_form-e.result.known })).support ≡ (cone_of c.args.c).support
 sources c =
-    ap (λ (k : C.Cone). k.support) (form c) ∙ sources_are c.args.c (take c.args.c.n c.args.t4)
+    ap (λ (k : C.Cone). k.support) (form c) ∙ sources_are c.args.c (take c.args.c.n c.args.coefs)
 
-is_cone : (c : Else-not-e) → IsCone (record { n = c.args.c.n; support = c.args.c.support; coefs = c.args.t4; known = c.enter_form-e.result.known })
+is_cone : (c : Else-not-e) → IsCone (record { n = c.args.c.n; support = c.args.c.support; coefs = c.args.coefs; known = c.enter_form-e.result.known })
 is_cone c =
     let w = entries c in
-    formed_cone c.args.c c.requires.1.0 (coefs_long (goal.at.HERE c).Start) c.args.t4 (form_long (goal.at.HERE c).Start) _ w.0 w.1
+    formed_cone c.args.c c.requires.1.0 (coefs_long c) c.args.coefs (form_long c) _ w.0 w.1
 
 pub slice_bounds-linear_span-end : goal.slice_bounds-linear_span-end
-slice_bounds-linear_span-end c = head_length _ c.args.c.n (array-share-prefix-coefs (goal.at.slice_bounds-linear_span-end c).Start)
+slice_bounds-linear_span-end c = head_length _ c.args.c.n (few_coefs (goal.at.slice_bounds-linear_span-end c).Start)
 
 pub linear_span-span-requires : goal.linear_span-span-requires
 linear_span-span-requires c =
-    let n = slice-aggregate-linear-span c in
+    let n = head_length _ c.args.c.n (few_coefs (goal.at.linear_span-span-requires c).Start) in
     (omega (arith, n, c.requires.1.0.few), λ i. omega (arith, c.requires.1.1.1 i))
 
 pub returns-then-s-span : goal.returns-then-s-span
 returns-then-s-span c =
-    let cs = take c.args.c.n c.args.t4 in
-    let v = reformed (cone_of c.args.c) cs in (
-      λ count b. form_not c.args.s _ v c.args.c (fits_long c.args.s _ v (omega (arith, span_is c.args.c cs, c.linear_span-span.ensures, c.if-s-span.true))),
-      kept_itself c.args.c c.requires.1.0,
-    )
+    let cs = take c.args.c.n c.args.coefs in
+    let v = reformed (cone_of c.args.c) cs in record {
+      is = λ count b. form_not c.args.s _ v c.args.c (fits_long c.args.s _ v (omega (arith, span_is c.args.c cs, c.linear_span-span.ensures, c.if-s-span.true)));
+      kept = kept_itself c.args.c c.requires.1.0;
+    }
 
 pub enter_form-e-requires : goal.enter_form-e-requires
 enter_form-e-requires c =
-    (c.requires.1.0, (c.requires.1.1.1, (c.linear_span-span.ensures, short c)))
+    (c.requires.1.0, (c.requires.1.1.1, (c.linear_span-span.ensures, omega (arith, c.requires.0, c.if-s-span.false))))
 
 pub returns-then-not-e : goal.returns-then-not-e
 returns-then-not-e c =
-    let cs = take c.args.c.n c.args.t4 in
+    let cs = take c.args.c.n c.args.coefs in
     let v = reformed (cone_of c.args.c) cs in
     let clash = entries_are c.args.c cs ∙ entries_clash _ c.enter_form-e.result _ c.enter_form-e.ensures (not-true c.enter_form-e.result.ok c.if-not-e.true) in
-    (λ count b. form_not c.args.s _ v c.args.c (fits-clash c.args.s _ v clash), kept_itself c.args.c c.requires.1.0)
+    record { is = λ count b. form_not c.args.s _ v c.args.c (fits-clash c.args.s _ v clash); kept = kept_itself c.args.c c.requires.1.0 }
 
 pub is_fit-requires : goal.is_fit-requires
 is_fit-requires c =
@@ -96,18 +95,18 @@ is_fit-requires c =
 
 pub returns-then-not-is_fit : goal.returns-then-not-is_fit
 returns-then-not-is_fit c =
-    let v = reformed (cone_of c.args.c) (take c.args.c.n c.args.t4) in (
-      λ count b.
+    let v = reformed (cone_of c.args.c) (take c.args.c.n c.args.coefs) in record {
+      is = λ count b.
           form_not c.args.s _ v c.args.c
-          (ap (fits c.args.s (store_of c.args.nodes.now count)) (sym (form (goal.at.returns-then-not-is_fit c).Else-not-e)) ∙ sym (c.is_fit.ensures count (below_same count _ (cone_of c.args.c) (sources (goal.at.returns-then-not-is_fit c).Else-not-e) b)) ∙ not-true c.is_fit.result c.if-not-is_fit.true),
-      kept_itself c.args.c c.requires.1.0,
-    )
+          (ap (fits c.args.s (store_of c.args.nodes.now count)) (sym (form (goal.at.returns-then-not-is_fit c).Else-not-e)) ∙ sym (c.is_fit.ensures count (below_same count _ (cone_of c.args.c) (sources (goal.at.returns-then-not-is_fit c).Else-not-e) b)) ∙ c.if-not-is_fit.true);
+      kept = kept_itself c.args.c c.requires.1.0;
+    }
 
 pub returns : goal.returns
 returns c =
-    let cs = take c.args.c.n c.args.t4 in
-    let v = reformed (cone_of c.args.c) cs in (
-      λ count b.
-          form_so c.args.s _ v _ (form (goal.at.returns c).Else-not-e) (sym (c.is_fit.ensures count (below_same count _ (cone_of c.args.c) (sources (goal.at.returns c).Else-not-e) b)) ∙ not-false c.is_fit.result c.if-not-is_fit.false),
-      kept-form c.args.c _ (is_cone (goal.at.returns c).Else-not-e) (sources (goal.at.returns c).Else-not-e),
-    )
+    let cs = take c.args.c.n c.args.coefs in
+    let v = reformed (cone_of c.args.c) cs in record {
+      is = λ count b.
+          form_so c.args.s _ v _ (form (goal.at.returns c).Else-not-e) (sym (c.is_fit.ensures count (below_same count _ (cone_of c.args.c) (sources (goal.at.returns c).Else-not-e) b)) ∙ c.if-not-is_fit.false);
+      kept = kept-form c.args.c _ (is_cone (goal.at.returns c).Else-not-e) (sources (goal.at.returns c).Else-not-e);
+    }

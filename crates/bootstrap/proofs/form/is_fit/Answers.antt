@@ -23,8 +23,8 @@ judged : (c : After-is_over) → (count : ℕ) → Below count (cone_of c.args.c
 judged c count b = c.is_over.ensures ∙ ap (over c.args.s.norm) (c.norm2.ensures count b)
 
 pub returns-then-is_over : goal.returns-then-is_over
-returns c count b = unfit c.args.s _ (cone_of c.args.c) (sym (judged (goal.at.returns-then-is_over c).After-is_over count b) ∙ c.if-is_over.true)
+returns-then-is_over c count b = unfit c.args.s _ (cone_of c.args.c) (sym (judged (goal.at.returns-then-is_over c).After-is_over count b) ∙ c.if-is_over.true)
 
 pub returns : goal.returns
-returns-2 c count b =
+returns c count b =
     c.is_lut_valid.ensures ∙ fit c.args.s _ (cone_of c.args.c) (sym (judged (goal.at.returns c).After-is_over count b) ∙ c.if-is_over.false)

@@ -10,7 +10,7 @@ use Rattle.bootstrap.proofs.form.realign.Goals as goal
 
 pub returns-then-not-s : goal.returns-then-not-s
 returns-then-not-s c =
-    (not_realigned c.args.s (store_of c.args.nodes.now c.args.count) (cone_of c.args.c) (not-true c.args.s.many c.if-not-s.true), c.requires.1.1)
+    record { is = not_realigned c.args.s (store_of c.args.nodes.now c.args.count) (cone_of c.args.c) (not-true c.args.s.many c.if-not-s.true); stands = c.requires.1.1 }
 
 pub loop-i-init : goal.loop-i-init
 loop-i-init c =
@@ -38,11 +38,11 @@ consider-best-requires c =
 pub loop-i-preserved : goal.loop-i-preserved
 loop-i-preserved c =
     let o = c.loop-i in
-    (omega (arith, c.loop-i-test.true), walk_on c.args.s c.args.nodes.now c.args.count c.requires.1.0 c.args.c o.i o.best o.invariant.1 (omega (arith, c.loop-i-test.true)) c.consider-best.result (c.consider-best.ensures.0 c.args.count c.requires.1.1.below) c.consider-best.ensures.1)
+    (omega (arith, c.loop-i-test.true), walk_on c.args.s c.args.nodes.now c.args.count c.requires.1.0 c.args.c o.i o.best o.invariant.1 (omega (arith, c.loop-i-test.true)) c.consider-best.result (c.consider-best.ensures.is c.args.count c.requires.1.1.below) c.consider-best.ensures.kept)
 
 pub returns : goal.returns
 returns c =
-    let o = c.loop-i in (
-      walk_end c.args.s c.args.nodes.now c.args.count c.requires.1.0 c.args.c o.i o.best o.invariant.1 (omega (arith, c.loop-i-test.false)) (not-false c.args.s.many c.if-not-s.false),
-      walk_stands c.args.s c.args.nodes.now c.args.count c.requires.1.0 c.args.c o.i o.best o.invariant.1 c.requires.1.1,
-    )
+    let o = c.loop-i in record {
+      is = walk_end c.args.s c.args.nodes.now c.args.count c.requires.1.0 c.args.c o.i o.best o.invariant.1 (omega (arith, c.loop-i-test.false)) (not-false c.args.s.many c.if-not-s.false);
+      stands = walk_stands c.args.s c.args.nodes.now c.args.count c.requires.1.0 c.args.c o.i o.best o.invariant.1 c.requires.1.1;
+    }

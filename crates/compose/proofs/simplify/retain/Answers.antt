@@ -1,21 +1,15 @@
-use Rattle.std.proofs.Common.{◌≡◌, refl, sym, ap, subst, ◌∙◌, List, ◌++◌, append_assoc, append-nil, ⊎_elim, ℕ, ◌+◌, ◌-◌, ◌≤◌, ◌<◌, add-one, arith, ℤ, pos, nat_abs, length, get_or, take, set, length-set, take-suc-set, w64, to_z, of_z}
+use Rattle.std.proofs.Common.{◌≡◌, refl, sym, ap, subst, ◌∙◌, List, append_assoc, append-nil, ℕ, ◌+◌, ◌^◌, ◌≤◌, ◌<◌, add-one, arith, rules, ℤ, pos, nat_abs, length, get_or, take, set, length-set, take-suc-set, w64, to_z, of_z}
 use Rattle.laws.specs.Integer.{read_back, bits_abs}
+use Rattle.std.specs.Int.Signed.{mag}
 use Rattle.laws.specs.Select.{select, select_le}
 use Rattle.rules.specs.NetworkText.{sources}
 use Rattle.rules.specs.Store.{is_used}
 use Rattle.compose.specs.declared.simplify.Retained.{Retained}
 use Rattle.compose.specs.Simplify.{IsRetained, used_from, used_all, used_on, unused_on, used_end}
-use Rattle.theorems.specs.Terms.{coefs, terms-length, terms_over}
+use Rattle.theorems.specs.Terms.{terms-length, terms_over}
+use Rattle.compose.proofs.simplify.retain.Invariants.{Kept}
 use Rattle.compose.proofs.simplify.retain.Goals as goal
-use Rattle.compose.proofs.simplify.retain.Goals.{After-c-1, Then-c-ne0}
-
--- `compose::simplify::retain` meets its contract: the terms kept so far, and the used ones that are left, are the used ones.
--- the arrays hold the used terms before i
-record Kept (cs : List ℤ) (ns : List ℕ) (i : ℕ) (r : Retained) : Type 0 where
-  room : (length r.support ≡ 11) × (length r.coefs ≡ 11)
-  count : r.n + length (used_from cs ns i) ≡ length (used_from cs ns 0)
-  nodes : take r.n r.support ++ sources (used_from cs ns i) ≡ sources (used_from cs ns 0)
-  values : take r.n r.coefs ++ coefs (used_from cs ns i) ≡ coefs (used_from cs ns 0)
+use Rattle.compose.proofs.simplify.retain.Goals.{Then-c-ne0, then-c-ne0, else-c-ne0}
 
 used_few : (cs : List ℤ) (ns : List ℕ) → length cs ≡ length ns → length (used_from cs ns 0) ≤ length ns
 used_few cs ns e = rw used_all (omega (arith, select_le is_used (terms_over cs ns), terms-length cs ns e))
@@ -53,17 +47,14 @@ done cs ns i r e h k =
       values = sym (append-nil (take r.n r.coefs)) ∙ (rw (m, a) at k.values);
     }
 
--- the coefficient that is read, where it is not 0, and where it is
-back : (c : After-c-1) → let z = get_or c.args.coefs.now c.loop-i.i (pos 0) in to_z w64 (of_z w64 z) ≡ z
-back c = read_back _ c.c-1.given
-
-used : (c : Then-c-ne0) → 0 < nat_abs (get_or c.args.coefs.now c.loop-i.i (pos 0))
-used c = rw (back (goal.at.HERE c).After-c-1) at (bits_abs _ c.if-c-ne0.true)
+-- the coefficient that is read, where its bits are not 0
+used : (z : ℤ) → mag z < 2 ^ 63 → (of_z w64 z ≡ 0 → ⊥) → 0 < nat_abs z
+used z f e = rw (read_back z f) at (bits_abs _ e)
 
 room-left : (c : Then-c-ne0) → c.loop-i.r.n < 11
 room-left c =
     let o = c.loop-i in
-    has_room c.args.coefs.now c.args.support.now o.i c.requires.1 c.loop-i-test.true o.r o.invariant.1 c.requires.0 (used c)
+    has_room c.args.coefs.now c.args.support.now o.i c.requires.1 c.loop-i-test.true o.r o.invariant.1 c.requires.0 (used (get_or c.args.coefs.now o.i (pos 0)) (search rules) c.if-c-ne0.true)
 
 pub loop-i-init : goal.loop-i-init
 loop-i-init c = (omega arith, record { room = (refl, refl); count = omega arith; nodes = refl; values = refl })
@@ -88,13 +79,15 @@ loop-i-preserved c =
     let o = c.loop-i in
     let cs = c.args.coefs.now in
     let ns = c.args.support.now in
-    let t = c.loop-i-test.true in (
+    let t = c.loop-i-test.true in
+    let z = get_or cs o.i (pos 0) in
+    let fits : mag z < 2 ^ 63 = search rules in
+    let K = λ (r : Retained). Kept cs ns (o.i + 1) r in (
       omega arith,
-      ⊎_elim
-          (λ w. subst (λ r. Kept cs ns (o.i + 1) r) (sym w.2)
-          (added cs ns o.i c.requires.1 t o.r o.invariant.1 c.requires.0 (used (record { before = (goal.at.loop-i-preserved c).After-c-1; if1 = w.0 })) _ (back (goal.at.loop-i-preserved c).After-c-1)))
-          (λ w. subst (λ r. Kept cs ns (o.i + 1) r) (sym w.1) (passed cs ns o.i c.requires.1 t o.r o.invariant.1 (sym (back (goal.at.loop-i-preserved c).After-c-1) ∙ ap (to_z w64) w.0.false)))
-          c.if-c-ne0.branch,
+      elim c.if-c-ne0.branch [
+        | then-c-ne0 w ↦ subst K (sym w.r-is) (added cs ns o.i c.requires.1 t o.r o.invariant.1 c.requires.0 (used z fits w.if-c-ne0.true) _ (read_back z fits))
+        | else-c-ne0 w ↦ subst K (sym w.r-is) (passed cs ns o.i c.requires.1 t o.r o.invariant.1 (sym (read_back z fits) ∙ ap (to_z w64) w.if-c-ne0.false))
+      ],
     )
 
 pub returns : goal.returns

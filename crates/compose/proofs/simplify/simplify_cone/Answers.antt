@@ -1,12 +1,12 @@
 use Rattle.std.proofs.Common.{◌≡◌, sym, ◌∙◌, arith, rules, length, take}
-use Result.{rebuilt}
+use Rattle.compose.proofs.Result.{rebuilt, used_of}
 use Rattle.laws.specs.Tail.{head_length}
 use Rattle.cone.specs.View.{cone_of}
 use Rattle.compose.specs.Simplify.{IsRetained}
 use Rattle.compose.proofs.simplify.simplify_cone.Goals as goal
 use Rattle.compose.proofs.simplify.simplify_cone.Goals.{After-retain-kept, Start}
+
 -- `compose::simplify::simplify_cone` meets its contract.
-mod Result
 
 support_long : (c : Start) → length c.args.cone.support ≡ 11
 support_long c = search rules

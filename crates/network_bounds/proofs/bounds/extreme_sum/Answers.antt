@@ -14,7 +14,7 @@ part c =
     e ∙ ap (extreme_part c.args.low) c.coef_of.ensures
 
 next : (c : After-extreme_part-sum)
-    → Summing c.args.low (node_of c.args.nodes.now c.args.i) c.type_size.result (to_z w64 c.loop-k.sum +ℤ c.extreme_part-sum.result) (c.loop-k.k + 1)
+    → Summing c.args.low (node_of c.args.nodes.now c.args.i) c.size_of-n.result (to_z w64 c.loop-k.sum-bits +ℤ c.extreme_part-sum.result) (c.loop-k.k + 1)
 next c = summing_next _ _ c.loop-k.invariant _ c.requires.0.fine c.loop-k-test.true (part c)
 
 fits : (c : After-extreme_part-sum) → SFits w64 (to_z w64 c.loop-k.sum-bits +ℤ c.extreme_part-sum.result)
@@ -23,7 +23,7 @@ fits c = let s = next c in fits_abs _ (omega (arith, s.near, s.within, s.few))
 pub loop-k-init : goal.loop-k-init
 loop-k-init c =
     let p = c.requires in
-    simp (read_back c.constant_of-sum.result c.constant_of-sum.type_inv) (summing_start _ _ _ p.0.fine p.1 c.type_size.ensures c.constant_of-sum.ensures)
+    simp (read_back c.constant_of-sum.result c.constant_of-sum.type_inv) (summing_start _ _ _ p.0.fine p.1 c.size_of-n.ensures c.constant_of-sum.ensures)
 
 pub coef_of-requires : goal.coef_of-requires
 coef_of-requires c = (c.requires.0, omega (arith, c.loop-k-test.true, c.loop-k.invariant.size))

@@ -1,12 +1,14 @@
-use Rattle.std.proofs.Common.{◌≡◌, sym, ap₂, ◌∙◌, true≢false, Option, ◌<◌, arith, ℤ, pos, get_or}
+use Rattle.std.proofs.Common.{◌≡◌, sym, ap₂, ◌∙◌, true≢false, ◌<◌, arith, ℕ, List, ℤ, pos, length, get_or}
+use Rattle.std.proofs.Math.Option.{Option}
 use Rattle.laws.specs.Integer.{read_back}
 use Rattle.nodes.specs.Kinds.{sum_kind, boot_kind, third_kind}
 use Rattle.nodes.specs.Nodes.{kind_of, source_before}
+use Rattle.rules.specs.Store.{needs}
 use Rattle.lut.specs.Reuse.{boot_source}
-use Rattle.nodes.specs.View.{node_of}
+use Rattle.nodes.specs.View.{node_of, IsNode}
 use Rattle.network_run.specs.Value.{looked, input_value, sum_value, table_value}
 use Rattle.network_run.proofs.value.node_value.Goals as goal
-use Rattle.network_run.proofs.value.node_value.Goals.{After-table_of, Else-kind-eq-LINEAR}
+use Rattle.network_run.proofs.value.node_value.Goals.{Else-kind-eq-LINEAR}
 
 -- what is left is a boot
 boot : (c : Else-kind-eq-LINEAR) → kind_of (node_of c.args.nodes.now c.args.i) ≡ 2
@@ -14,10 +16,9 @@ boot c =
     let k = c.kind_of-kind.ensures in
     third_kind _ (λ e. c.if-kind-eq-INPUT.false (k ∙ e)) (λ e. c.if-kind-eq-LINEAR.false (k ∙ e))
 
-source : (c : After-table_of) → c.source_of-source.result < 672
-source c =
-    let n = node_of c.args.nodes.now c.args.i in
-    omega (arith, source_before c.args.i n c.requires.node.fine 0 (boot_source n (boot (goal.at.HERE c).Else-kind-eq-LINEAR)), c.source_of-source.ensures, c.requires.node.inside)
+-- a boot's source stands before its node
+source_below : (bytes : List ℕ) (i j : ℕ) → IsNode bytes i → kind_of (node_of bytes i) ≡ 2 → j ≡ get_or (needs (node_of bytes i)) 0 0 → j < 672
+source_below bytes i j s k e = omega (arith, source_before i (node_of bytes i) s.fine 0 (boot_source (node_of bytes i) k), e, s.inside)
 
 -- `network_run::value::node_value` meets its contract.
 pub kind_of-kind-requires : goal.kind_of-kind-requires
@@ -47,10 +48,12 @@ pub table_of-requires : goal.table_of-requires
 table_of-requires c = (c.requires.node, boot_kind _ (boot (goal.at.table_of-requires c).Else-kind-eq-LINEAR))
 
 pub offset_bounds-values-source : goal.offset_bounds-values-source
-offset_bounds-values-source c = omega (arith, source c)
+offset_bounds-values-source c =
+    omega (arith, source_below c.args.nodes.now c.args.i c.source_of-source.result c.requires.node (boot (goal.at.offset_bounds-values-source c).Else-kind-eq-LINEAR) c.source_of-source.ensures)
 
 pub bounds-values-source : goal.bounds-values-source
-bounds-values-source c = source c
+bounds-values-source c =
+    source_below c.args.nodes.now c.args.i c.source_of-source.result c.requires.node (boot (goal.at.bounds-values-source c).Else-kind-eq-LINEAR) c.source_of-source.ensures
 
 pub returns : goal.returns
 returns c =

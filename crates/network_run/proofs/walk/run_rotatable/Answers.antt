@@ -8,27 +8,24 @@ loop-i-init c = running_start c.args.bits.now c.args.nodes.now c.args.count c.ar
 
 pub node_value-requires : goal.node_value-requires
 node_value-requires c =
-    let s = c.before in
-    running_before s.requires.0 c.loop-i.invariant s.requires.1 c.loop-i-test.true
+    running_before c.requires.0 c.loop-i.invariant c.requires.1 c.loop-i-test.true
 
 pub returns-in_default : goal.returns-in_default
 returns-in_default c =
-    let s = c.before in
     let o = c.loop-i in
     let e = c.node_value.ensures in
-    (running_broken s.requires.0 o.invariant c.loop-i-test.true e.is _ (ap value_of c.in_default.is), o.invariant.long)
+    record { is = running_broken c.requires.0 o.invariant c.loop-i-test.true e.is _ (ap value_of c.in_default.is); long = o.invariant.long }
 
 pub loop-i-preserved : goal.loop-i-preserved
 loop-i-preserved c =
-    let s = c.before in
     let o = c.loop-i in
     let e = c.node_value.ensures in
     let q = c.in-At.is in
     let f : SFits w64 c.in-At.v = search rules in
     simp (to_z-of_z f)
-    (running_next s.requires.0 o.invariant c.loop-i-test.true e.is _ (ap value_of q) (λ z. subst SmallValue q (e.small z)))
+    (running_next c.requires.0 o.invariant c.loop-i-test.true e.is _ (ap value_of q) (λ z. subst SmallValue q (e.small z)))
 
 pub returns : goal.returns
 returns c =
     let o = c.loop-i in
-    (running_done c.requires.0 o.invariant c.loop-i-test.false, o.invariant.long)
+    record { is = running_done c.requires.0 o.invariant c.loop-i-test.false; long = o.invariant.long }

@@ -1,14 +1,7 @@
 -- One turn of `linear_table`'s loop, on the values.
-use mathlib.Core.Path.{◌≡◌, ap, ◌∙◌}
-use mathlib.Core.List.{List, [], ◌∷◌, ◌++◌}
-use Prim.Native.Nat.{ℕ, zero, suc, ◌+◌, ◌-◌, ◌≤◌, ◌<◌, ◌^◌}
-use native.Mathlib.Nat.{pow-le-pow_right, not-suc-le-zero, one-le-pow}
-use native.Mathlib.Numerals.{sub-one}
-use native.Mathlib.Omega.{arith}
-use lib.Dec.{lit<}
-use lib.IntN.{ℤ, pos}
-use lib.ListN.{length, get_or, set, take, drop, length-drop, length-append}
-use lib.Seq.{drop-cons, take_at, drop_at, drop-length, drop-set-lt, get_or-drop}
+use Rattle.std.proofs.Common.{◌≡◌, ap, ◌∙◌, List, [], ◌∷◌, ◌++◌, ℕ, zero, suc, ◌+◌, ◌-◌, ◌≤◌, ◌<◌, ◌^◌, lit<, sub-one, arith, ℤ, pos, not-suc-le-zero, length, get_or, set, take, drop, length-drop, length-append, drop-cons, get_or-drop}
+use Rattle.std.proofs.Math.Nat.{pow-le-pow_right, one-le-pow}
+use Rattle.std.proofs.Math.Seq.{take_at, drop_at, drop-length, drop-set-lt}
 use Rattle.laws.specs.Over.{over, over-append, over-over, take-over}
 use Rattle.laws.specs.Tail.{tail_part, tail_put}
 use Rattle.rules.specs.Cone.{linear_table}

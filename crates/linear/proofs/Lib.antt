@@ -1,0 +1,2 @@
+-- What the loops of this crate lean on.
+pub mod Turn
