@@ -5,7 +5,6 @@ use Rattle.std.proofs.Common.{sym, ◌∙◌, inl, inr, le_of_suc-le-suc, arith}
 use mathlib.Core.List.{List, [], ◌∷◌, ◌++◌, map}
 use borrow.Author.Tests.{lt-ltb, le-ltb}
 use Rattle.std.proofs.Math.ListN.{length, get_or}
-use Rattle.laws.specs.Over.{over}
 use Rattle.laws.specs.Tabulate.{tabulate, tabulate-length, tabulate-at}
 use Rattle.rules.specs.declared.MapReply.TheVariants as Reply
 use Rattle.rules.specs.declared.Policy.{Policy}

@@ -1,8 +1,7 @@
 -- The whole: what was read, written in the other edition.
-use Rattle.std.specs.Prelude.{◌≡◌, refl, Bool, true, false, List, ℕ, ◌<◌}
+use Rattle.std.specs.Prelude.{◌≡◌, Bool, true, false, List, ℕ, ◌<◌}
 use Rattle.std.proofs.Common.{sym, ◌∙◌}
 use Rattle.std.proofs.Math.Path.{ap, subst}
-use Rattle.laws.specs.Test.{if◌then◌else◌}
 use Rattle.rules.specs.declared.MapReply.TheVariants as Reply
 use Rattle.rules.specs.Builder.{table_limits}
 use Rattle.rules.specs.Converter.{network_text2, other_edition, convert, answer_text, converter}

@@ -1,12 +1,12 @@
 -- The writers' numbers are a renumbering.
-use Rattle.std.specs.Prelude.{◌≡◌, ℕ, zero, suc, ◌+◌, ◌*◌, ◌-◌, ◌<◌, ◌≤◌, ltb, length}
+use Rattle.std.specs.Prelude.{◌≡◌, ℕ, suc, ◌+◌, ◌*◌, ◌<◌, ◌≤◌, length}
 use Rattle.std.proofs.Math.Path.{refl, sym, ap, ap₂}
 use Rattle.std.proofs.Common.{subst, ◌∙◌, add-zero, zero-add, lt-ltb, le-ltb, ne_eqb}
 use mathlib.Core.List.{List, [], ◌∷◌, map}
 use Rattle.std.proofs.Math.Logic.{⊎_elim}
 use native.Mathlib.Omega.{arith}
 use Rattle.std.proofs.Math.ListN.{get_or}
-use Rattle.laws.specs.Tabulate.{tabulate, tabulate_same, map-tabulate}
+use Rattle.laws.specs.Tabulate.{tabulate_same, map-tabulate}
 use Rattle.laws.specs.Test.{lt_or_le}
 use Rattle.rules.specs.declared.Wire.{Wire}
 use Rattle.rules.specs.declared.Wire.TheVariants.{Const, Node}
@@ -19,7 +19,7 @@ use Rattle.nodes.specs.Nodes.{source_before}
 use Rattle.nodes.specs.View.{node_of, store_of, Fine, FineTerms, IsStore, at_store, store_length}
 use Rattle.writer.specs.Live.{new_number, new_term, new_node, live_from, live_nodes, Ready, Sourced}
 use Rattle.writer.specs.Outputs.{new_wire, live_output, live_outputs, Signalled, Ported}
-use Rattle.network.specs.View.{outputs_of, IsSignal, SignalsIn, Holds}
+use Rattle.network.specs.View.{outputs_of, IsSignal, Holds}
 use Rattle.network_judge.specs.declared.Header.{Header}
 
 -- `live` has each node's new number and one more.

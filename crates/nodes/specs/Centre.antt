@@ -12,7 +12,7 @@ use Rattle.laws.specs.Test.{lt_or_le}
 use Rattle.rules.specs.Network.{node_depth, node_centre}
 use Rattle.theorems.specs.Depths.{same_depth}
 use Rattle.nodes.specs.Depth.{put_node, put_byte, put_new, node_same}
-use Rattle.nodes.specs.View.{record_at, record_of, node_in, node_of, store_of, depth_in, centre_in, Fine, IsStore, part_drop, put_at, put_depth, put_centre}
+use Rattle.nodes.specs.View.{record_at, record_of, node_in, node_of, store_of, depth_in, centre_in, IsStore, part_drop, put_at, put_depth, put_centre}
 
 -- With this P, each of these nodes has its table's centre in its record.
 pub record Centred (p : ℕ) (bytes : List ℕ) (count : ℕ) : Type 0 where

@@ -1,7 +1,7 @@
 -- The new number of each node, and one more.
-use Rattle.std.specs.Prelude.{◌≡◌, refl, true, ℕ, suc, ◌+◌, ◌-◌, ◌<◌, ◌≤◌, length, set, take}
+use Rattle.std.specs.Prelude.{◌≡◌, true, ℕ, suc, ◌+◌, ◌-◌, ◌<◌, ◌≤◌, length, set, take}
 use Rattle.std.proofs.Common.{sym, ap, subst, ◌∙◌, true≢false, ⊎_elim, add-one, arith, eq-eqb, ne_eqb, drop-cons, length-take-le, get_or-take, get_or-set_other}
-use mathlib.Core.List.{List, [], ◌∷◌}
+use mathlib.Core.List.{List, ◌∷◌}
 use Rattle.std.proofs.Math.ListN.{get_or, drop, length-set}
 use Rattle.std.proofs.Math.Seq.{drop-length, get_or-set_same}
 use Rattle.laws.specs.Test.{eq-or-ne}
@@ -9,7 +9,7 @@ use Rattle.rules.specs.Network.{member}
 use Rattle.rules.specs.Regroup.{place_in, order_up_to, order}
 use Rattle.theorems.specs.Members.{member_cons}
 use Rattle.nodes.specs.View.{store_of, store_length}
-use Rattle.regroup.specs.Order.{order_in, order_is, order-all, Below, Arranged, arranged_below}
+use Rattle.regroup.specs.Order.{order_is, order-all, Below, Arranged, arranged_below}
 
 -- the numbers in o have their places
 pub record Numbers (o live : List ℕ) : Type 0 where

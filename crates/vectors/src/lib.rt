@@ -1,8 +1,10 @@
-// Numbers of a text, for programs that replay stored cases. It leans on no other code.
+// Numbers of a text, and input and output by bytes, for programs that replay stored cases. It leans on std alone.
 #![tactic(auto)]
 
-ghost use Rattle.std.specs.Prelude.{◌≡◌, ◌≤◌, min};
+ghost use Rattle.std.specs.Prelude.{◌≡◌, ◌≤◌, min, length};
 ghost use Rattle.vectors.specs.Token.{is_digit, starts_number, skipped, with_digit, digits_at, next_token, signed_of};
+
+use std::io::Read;
 
 // A number of a text: its absolute value, its sign, and where the text goes on.
 #[derive(Clone, Copy)]
@@ -112,4 +114,29 @@ pub fn signed(n: Token) -> i32
         return 0 - (n.value as i32);
     }
     n.value as i32
+}
+
+// Reads until the buffer is full or the input ends; how many bytes came. A read error is the end of the input.
+pub fn read_full<R: Read>(input: &mut R, buffer: &mut [u8]) -> usize
+    ensures { result ≤ length buffer.new }
+{
+    let mut done = 0;
+    while done < buffer.len() {
+        let got = input.read(&mut buffer[done..]).unwrap_or(0);
+        if got == 0 {
+            return done;
+        }
+        done += got;
+    }
+    done
+}
+
+// The bytes on standard output. A write that fails is let go: the output then differs from the listed one.
+pub fn put(rt: &impl Print, bytes: &[u8]) {
+    let _ = rt.write_all(bytes);
+}
+
+// A number in decimal.
+pub fn put_decimal(rt: &impl Print, n: u64) {
+    let _ = rt.print(n);
 }

@@ -9,8 +9,7 @@ ghost use Rattle.vectors.specs.Token.{signed_of};
 ghost use Rattle.vectors.specs.Tokens.{tokens_from, place_after};
 ghost use Rattle.vectors_builder.specs.Case.{byte_of, shown_byte, after_list, after_case};
 
-use libc::{STDIN_FILENO, STDOUT_FILENO};
-use vectors::{Token, at_most, next_token, signed, skip};
+use vectors::{Token, at_most, next_token, put, put_decimal, read_full, signed, skip};
 
 fn byte(n: Token) -> u8
     ensures { result ≡ byte_of n }
@@ -65,29 +64,29 @@ fn as_digits(out: &mut [u8])
     }
 }
 
-fn show(out: &mut [u8])
+fn show(rt: &impl Print, out: &mut [u8])
     ensures { out.new ≡ map shown_byte out.old }
 {
     as_digits(out);
-    io::write_all(STDOUT_FILENO, out);
-    io::write_all(STDOUT_FILENO, b"\n");
+    put(rt, out);
+    put(rt, b"\n");
 }
 
 // The reply's number, count and centre, and the buffer after it.
-fn run(p: usize, m: usize, values: &[i32], truths: &[u8], out: &mut [u8])
+fn run(rt: &impl Print, p: usize, m: usize, values: &[i32], truths: &[u8], out: &mut [u8])
     ensures { out.new ≡ map shown_byte (builder p m values.now truths.now out.old).buffer }
 {
     let reply = builder::composed_bootstrap_table(p, m, values, truths, out);
-    io::print_decimal(STDOUT_FILENO, builder::reply_number(reply) as u64);
-    io::write_all(STDOUT_FILENO, b" ");
-    io::print_decimal(STDOUT_FILENO, builder::reply_count(reply) as u64);
-    io::write_all(STDOUT_FILENO, b" ");
-    io::print_decimal(STDOUT_FILENO, builder::reply_centre(reply) as u64);
-    io::write_all(STDOUT_FILENO, b" ");
-    show(out);
+    put_decimal(rt, builder::reply_number(reply) as u64);
+    put(rt, b" ");
+    put_decimal(rt, builder::reply_count(reply) as u64);
+    put(rt, b" ");
+    put_decimal(rt, builder::reply_centre(reply) as u64);
+    put(rt, b" ");
+    show(rt, out);
 }
 
-fn with_buffer(p: usize, m: usize, values: &[i32], truths: &[u8], room: usize)
+fn with_buffer(rt: &impl Print, p: usize, m: usize, values: &[i32], truths: &[u8], room: usize)
     requires { room ≤ 40 }
 {
     let mut buffer = [
@@ -95,11 +94,12 @@ fn with_buffer(p: usize, m: usize, values: &[i32], truths: &[u8], room: usize)
         b'p', b'q', b'r', b's', b't', b'u', b'v', b'w', b'x', b'y', b'z', b'a', b'b', b'c', b'd',
         b'e', b'f', b'g', b'h', b'i', b'j', b'k', b'l', b'm', b'n',
     ];
-    run(p, m, values, truths, &mut buffer[..room]);
+    run(rt, p, m, values, truths, &mut buffer[..room]);
 }
 
 // The truths of a case into their place, and the case run.
 fn fill_truths(
+    rt: &impl Print,
     text: &[u8],
     from: usize,
     p: usize,
@@ -113,22 +113,31 @@ fn fill_truths(
     ensures next { result ≡ place_after text.now from (length truths.old) }
 {
     let next = take_truths(text, from, truths);
-    with_buffer(p, m, values, truths, room);
+    with_buffer(rt, p, m, values, truths, room);
     next
 }
 
-fn with_truths(text: &[u8], from: usize, p: usize, m: usize, room: usize, values: &[i32]) -> usize
+fn with_truths(
+    rt: &impl Print,
+    text: &[u8],
+    from: usize,
+    p: usize,
+    m: usize,
+    room: usize,
+    values: &[i32],
+) -> usize
     requires { room ≤ 40 }
     ensures { result ≡ after_list text.now from }
 {
     let mut truths = [0u8; 64];
     let n = next_token(text, from);
     let count = at_most(n, 64);
-    fill_truths(text, n.next, p, m, room, values, &mut truths[..count])
+    fill_truths(rt, text, n.next, p, m, room, values, &mut truths[..count])
 }
 
 // The values of a case into their place, and the rest of the case.
 fn fill_values(
+    rt: &impl Print,
     text: &[u8],
     from: usize,
     p: usize,
@@ -141,27 +150,28 @@ fn fill_values(
     ensures next { result ≡ after_list text.now (place_after text.now from (length values.old)) }
 {
     let next = take_values(text, from, values);
-    with_truths(text, next, p, m, room, values)
+    with_truths(rt, text, next, p, m, room, values)
 }
 
-fn with_values(text: &[u8], from: usize, p: usize, m: usize, room: usize) -> usize
+fn with_values(rt: &impl Print, text: &[u8], from: usize, p: usize, m: usize, room: usize) -> usize
     requires { room ≤ 40 }
     ensures { result ≡ after_list text.now (after_list text.now from) }
 {
     let mut values = [0i32; 64];
     let n = next_token(text, from);
     let count = at_most(n, 64);
-    fill_values(text, n.next, p, m, room, &mut values[..count])
+    fill_values(rt, text, n.next, p, m, room, &mut values[..count])
 }
 
 // One case from a place of the text, and where the next one starts.
-fn replay(text: &[u8], from: usize) -> usize
+fn replay(rt: &impl Print, text: &[u8], from: usize) -> usize
     ensures { result ≡ after_case text.now from }
 {
     let p = next_token(text, from);
     let m = next_token(text, p.next);
     let b = next_token(text, m.next);
     let next = with_values(
+        rt,
         text,
         b.next,
         p.value as usize,
@@ -172,20 +182,20 @@ fn replay(text: &[u8], from: usize) -> usize
 }
 
 // A proved loop has to end, so the cases are counted down from a number that no file uses up.
-fn replay_all(text: &[u8]) {
+fn replay_all(rt: &impl Print, text: &[u8]) {
     let mut at = skip(text, 0);
     let mut turns: usize = 100000;
     while turns > 0 {
         if text.len() <= at {
             return;
         }
-        at = replay(text, at);
+        at = replay(rt, text, at);
         turns -= 1;
     }
 }
 
-fn main() {
-    let mut text = io::large_buffer();
-    let n = io::read_full(STDIN_FILENO, &mut text);
-    replay_all(&text[..n]);
+fn main(rt: HostRuntime) {
+    let mut text = [0u8; 65536];
+    let n = read_full(&mut rt.stdin(), &mut text);
+    replay_all(&rt, &text[..n]);
 }

@@ -17,9 +17,8 @@ ghost use Rattle.vectors_cones.specs.Made.{rows_of, IsForm, IsSmall};
 use compose::Basis;
 use cone::Cone;
 use cone::valid::Validity;
-use libc::{STDIN_FILENO, STDOUT_FILENO};
 use rules::{Limit, Policy, Settings};
-use vectors::{Token, at_most, next_token, skip};
+use vectors::{Token, at_most, next_token, put, put_decimal, read_full, skip};
 
 // ---- reading
 
@@ -277,24 +276,24 @@ fn made_of(c: ConeRows) -> Made
 
 // ---- writing
 
-fn space() {
-    io::write_all(STDOUT_FILENO, b" ");
+fn space(rt: &impl Print) {
+    put(rt, b" ");
 }
 
-fn show_number(n: usize) {
-    io::print_decimal(STDOUT_FILENO, n as u64);
-    space();
+fn show_number(rt: &impl Print, n: usize) {
+    put_decimal(rt, n as u64);
+    space(rt);
 }
 
-fn show_signed(x: i64) {
+fn show_signed(rt: &impl Print, x: i64) {
     if x < -1000 {
-        io::write_all(STDOUT_FILENO, b"? ");
+        put(rt, b"? ");
         return;
     }
     if x < 0 {
-        io::write_all(STDOUT_FILENO, b"-");
+        put(rt, b"-");
     }
-    show_number(scale::magnitude(x));
+    show_number(rt, scale::magnitude(x));
 }
 
 // A value within -31..31 as a letter: P for 0.
@@ -307,7 +306,7 @@ fn letter(value: i32) -> u8 {
     if value < 0 { 80 - k } else { 80 + k }
 }
 
-fn show_values(values: [i32; 2048], rows: usize)
+fn show_values(rt: &impl Print, values: [i32; 2048], rows: usize)
     requires { rows ≤ 2048 }
 {
     let mut out = [0u8; 2048];
@@ -316,15 +315,15 @@ fn show_values(values: [i32; 2048], rows: usize)
         out[i] = letter(values[i]);
         i += 1;
     }
-    io::write_all(STDOUT_FILENO, &out[..rows]);
-    space();
+    put(rt, &out[..rows]);
+    space(rt);
 }
 
 fn digit(b: u8) -> u8 {
     if b < 10 { 48 + b } else { b'?' }
 }
 
-fn show_truth(truth: [u8; 2048], rows: usize)
+fn show_truth(rt: &impl Print, truth: [u8; 2048], rows: usize)
     requires { rows ≤ 2048 }
 {
     let mut out = [0u8; 2048];
@@ -333,32 +332,32 @@ fn show_truth(truth: [u8; 2048], rows: usize)
         out[i] = digit(truth[i]);
         i += 1;
     }
-    io::write_all(STDOUT_FILENO, &out[..rows]);
-    space();
+    put(rt, &out[..rows]);
+    space(rt);
 }
 
 // Each source with its coefficient.
-fn show_terms(support: [usize; 11], coefs: [i64; 11], n: usize)
+fn show_terms(rt: &impl Print, support: [usize; 11], coefs: [i64; 11], n: usize)
     requires { n ≤ 11 }
 {
     let mut i = 0;
     while i < n {
-        show_number(support[i]);
-        show_signed(coefs[i]);
+        show_number(rt, support[i]);
+        show_signed(rt, coefs[i]);
         i += 1;
     }
 }
 
 // Each source of a basis with both coefficients.
-fn show_basis(basis: Basis)
+fn show_basis(rt: &impl Print, basis: Basis)
     requires { basis.n ≤ 11 }
 {
-    show_number(basis.n);
+    show_number(rt, basis.n);
     let mut i = 0;
     while i < basis.n {
-        show_number(basis.support[i]);
-        show_signed(basis.left[i]);
-        show_signed(basis.right[i]);
+        show_number(rt, basis.support[i]);
+        show_signed(rt, basis.left[i]);
+        show_signed(rt, basis.right[i]);
         i += 1;
     }
 }
@@ -386,13 +385,13 @@ fn put_inputs(nodes: &mut [u8; 27552])
 }
 
 // Span, norm and divisor.
-fn show_measures(nodes: &[u8; 27552], cone: Cone)
+fn show_measures(rt: &impl Print, nodes: &[u8; 27552], cone: Cone)
     requires { IsStore nodes.now 672 × IsCone cone }
 {
-    show_number(cone.span());
-    io::print_decimal(STDOUT_FILENO, cone.norm2(nodes));
-    space();
-    show_signed(divisor_of(cone));
+    show_number(rt, cone.span());
+    put_decimal(rt, cone.norm2(nodes));
+    space(rt);
+    show_signed(rt, divisor_of(cone));
 }
 
 // The coefficients divided by their divisor, as the mapper's are before it simplifies; the truth at each row stays.
@@ -435,35 +434,35 @@ fn judged(s: Settings, nodes: &[u8; 27552], cone: Cone) -> u64
 }
 
 // A cone, and what validate_cone says of it.
-fn show_judged(s: Settings, nodes: &[u8; 27552], cone: Cone)
+fn show_judged(rt: &impl Print, s: Settings, nodes: &[u8; 27552], cone: Cone)
     requires { IsStore nodes.now 672 × IsCone cone }
 {
     let n = cone.n;
     let support = cone.support;
     let coefs = cone.coefs;
-    show_number(n);
-    show_terms(support, coefs, n);
+    show_number(rt, n);
+    show_terms(rt, support, coefs, n);
     let mut values = [0i32; 2048];
     let mut truth = [0u8; 2048];
     cone::table::truths_of(cone, &mut values, &mut truth);
-    show_truth(truth, linear::rows_of(n));
-    io::print_decimal(STDOUT_FILENO, judged(s, nodes, cone));
+    show_truth(rt, truth, linear::rows_of(n));
+    put_decimal(rt, judged(s, nodes, cone));
 }
 
-fn no_cone() {
-    io::write_all(STDOUT_FILENO, b"no cone");
+fn no_cone(rt: &impl Print) {
+    put(rt, b"no cone");
 }
 
 // The cone normalised and without unused sources.
-fn show_simplified(s: Settings, nodes: &[u8; 27552], cone: Cone)
+fn show_simplified(rt: &impl Print, s: Settings, nodes: &[u8; 27552], cone: Cone)
     requires { IsStore nodes.now 672 × IsCone cone }
 {
     let m = made_of(normalised(cone));
     if !m.is {
-        no_cone();
+        no_cone(rt);
         return;
     }
-    show_judged(s, nodes, compose::simplify::simplify_cone(m.cone));
+    show_judged(rt, s, nodes, compose::simplify::simplify_cone(m.cone));
 }
 
 // a times the left coefficients and the right ones.
@@ -480,7 +479,14 @@ fn merged_coefs(basis: Basis, a: i64) -> [i64; 11]
 }
 
 // The gate's truth over the union, with a times the left coefficients and the right ones.
-fn show_merged(s: Settings, nodes: &[u8; 27552], basis: Basis, a: i64, truth: [u8; 2048])
+fn show_merged(
+    rt: &impl Print,
+    s: Settings,
+    nodes: &[u8; 27552],
+    basis: Basis,
+    a: i64,
+    truth: [u8; 2048],
+)
     requires { IsStore nodes.now 672 × (IsSmall basis × (nat_abs a ≤ 32)) }
 {
     let n = basis.n;
@@ -493,10 +499,10 @@ fn show_merged(s: Settings, nodes: &[u8; 27552], basis: Basis, a: i64, truth: [u
         truth,
     });
     if !m.is {
-        no_cone();
+        no_cone(rt);
         return;
     }
-    show_simplified(s, nodes, m.cone);
+    show_simplified(rt, s, nodes, m.cone);
 }
 
 fn span_of(cone: Cone) -> i64
@@ -507,7 +513,7 @@ fn span_of(cone: Cone) -> i64
 }
 
 // The union with both rows of coefficients, the three tables, and four cones simplified: both, and both merged, the left one once and as often as the right span.
-fn run(s: Settings, nodes: &[u8; 27552], left: Cone, right: Cone, gate: [u8; 4])
+fn run(rt: &impl Print, s: Settings, nodes: &[u8; 27552], left: Cone, right: Cone, gate: [u8; 4])
     requires { IsStore nodes.now 672 × (IsCone left × (IsCone right × (length (union_support (cone_of left).support (cone_of right).support) ≤ 11))) }
 {
     let basis = compose::basis_of(left, right);
@@ -515,18 +521,18 @@ fn run(s: Settings, nodes: &[u8; 27552], left: Cone, right: Cone, gate: [u8; 4])
     let mut ys = [0i32; 2048];
     let mut truth = [0u8; 2048];
     compose::cone_composition_tables(left, right, basis, gate, &mut xs, &mut ys, &mut truth);
-    show_basis(basis);
+    show_basis(rt, basis);
     let rows = linear::rows_of(basis.n);
-    show_values(xs, rows);
-    show_values(ys, rows);
-    show_truth(truth, rows);
-    show_simplified(s, nodes, left);
-    space();
-    show_simplified(s, nodes, right);
-    space();
-    show_merged(s, nodes, basis, 1, truth);
-    space();
-    show_merged(s, nodes, basis, span_of(right), truth);
+    show_values(rt, xs, rows);
+    show_values(rt, ys, rows);
+    show_truth(rt, truth, rows);
+    show_simplified(rt, s, nodes, left);
+    space(rt);
+    show_simplified(rt, s, nodes, right);
+    space(rt);
+    show_merged(rt, s, nodes, basis, 1, truth);
+    space(rt);
+    show_merged(rt, s, nodes, basis, span_of(right), truth);
 }
 
 fn union_size(left: Cone, right: Cone) -> usize
@@ -540,32 +546,46 @@ fn union_size(left: Cone, right: Cone) -> usize
     support::union_support_size(&ls[..ln], &rs[..rn])
 }
 
-fn run_both(s: Settings, nodes: &[u8; 27552], left: Cone, right: Cone, gate: [u8; 4])
+fn run_both(
+    rt: &impl Print,
+    s: Settings,
+    nodes: &[u8; 27552],
+    left: Cone,
+    right: Cone,
+    gate: [u8; 4],
+)
     requires { IsStore nodes.now 672 × (IsCone left × IsCone right) }
 {
     if 11 < union_size(left, right) {
-        no_cone();
+        no_cone(rt);
         return;
     }
-    show_measures(nodes, left);
-    show_measures(nodes, right);
-    run(s, nodes, left, right, gate);
+    show_measures(rt, nodes, left);
+    show_measures(rt, nodes, right);
+    run(rt, s, nodes, left, right, gate);
 }
 
-fn run_tested(s: Settings, nodes: &[u8; 27552], left: ConeRows, right: ConeRows, gate: [u8; 4])
+fn run_tested(
+    rt: &impl Print,
+    s: Settings,
+    nodes: &[u8; 27552],
+    left: ConeRows,
+    right: ConeRows,
+    gate: [u8; 4],
+)
     requires { IsStore nodes.now 672 }
 {
     let l = made_of(left);
     if !l.is {
-        no_cone();
+        no_cone(rt);
         return;
     }
     let r = made_of(right);
     if !r.is {
-        no_cone();
+        no_cone(rt);
         return;
     }
-    run_both(s, nodes, l.cone, r.cone, gate);
+    run_both(rt, s, nodes, l.cone, r.cone, gate);
 }
 
 fn limit_of(n: usize) -> Limit {
@@ -576,7 +596,7 @@ fn limit_of(n: usize) -> Limit {
 }
 
 // One case from a place of the text, and where the next one starts.
-fn replay(nodes: &[u8; 27552], text: &[u8], from: usize) -> usize
+fn replay(rt: &impl Print, nodes: &[u8; 27552], text: &[u8], from: usize) -> usize
     requires { IsStore nodes.now 672 }
 {
     let p = next_token(text, from);
@@ -594,13 +614,20 @@ fn replay(nodes: &[u8; 27552], text: &[u8], from: usize) -> usize
         policy: Policy::Span,
         many: false,
     };
-    run_tested(s, nodes, left.cone, right.cone, [g[0], g[1], g[2], g[3]]);
-    io::write_all(STDOUT_FILENO, b"\n");
+    run_tested(
+        rt,
+        s,
+        nodes,
+        left.cone,
+        right.cone,
+        [g[0], g[1], g[2], g[3]],
+    );
+    put(rt, b"\n");
     skip(text, gate.next)
 }
 
 // A proved loop has to end, so the cases are counted down from a number that no file uses up.
-fn replay_all(nodes: &[u8; 27552], text: &[u8])
+fn replay_all(rt: &impl Print, nodes: &[u8; 27552], text: &[u8])
     requires { IsStore nodes.now 672 }
 {
     let mut at = skip(text, 0);
@@ -609,15 +636,15 @@ fn replay_all(nodes: &[u8; 27552], text: &[u8])
         if text.len() <= at {
             return;
         }
-        at = replay(nodes, text, at);
+        at = replay(rt, nodes, text, at);
         turns -= 1;
     }
 }
 
-fn main() {
-    let mut text = io::large_buffer();
-    let n = io::read_full(STDIN_FILENO, &mut text);
+fn main(rt: HostRuntime) {
+    let mut text = [0u8; 65536];
+    let n = read_full(&mut rt.stdin(), &mut text);
     let mut nodes = [0u8; 27552];
     put_inputs(&mut nodes);
-    replay_all(&nodes, &text[..n]);
+    replay_all(&rt, &nodes, &text[..n]);
 }

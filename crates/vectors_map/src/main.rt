@@ -8,8 +8,8 @@ ghost use Rattle.framing.specs.Step.{fed};
 ghost use Rattle.vectors_map.specs.Buffer.{untouched, left_at, kept, begins};
 
 use framing::{Event, Feed, begin, feed_byte, next_feed};
-use libc::{STDIN_FILENO, STDOUT_FILENO};
 use rules::MapReply;
+use vectors::{put, put_decimal, read_full};
 
 // Every byte of a buffer before it is lent: 165, which no text has.
 fn fill(out: &mut [u8])
@@ -63,126 +63,126 @@ fn is_same(network: &[u8], out: &[u8]) -> bool
     true
 }
 
-fn show(word: &[u8]) {
-    io::write_all(STDOUT_FILENO, word);
+fn show(rt: &impl Print, word: &[u8]) {
+    put(rt, word);
 }
 
 // A reply's number with its count or line.
-fn show_numbers(number: usize, value: usize) {
-    io::print_decimal(STDOUT_FILENO, number as u64);
-    show(b" ");
-    io::print_decimal(STDOUT_FILENO, value as u64);
+fn show_numbers(rt: &impl Print, number: usize, value: usize) {
+    put_decimal(rt, number as u64);
+    show(rt, b" ");
+    put_decimal(rt, value as u64);
 }
 
-fn show_kept(kept: bool) {
+fn show_kept(rt: &impl Print, kept: bool) {
     if kept {
-        show(b" kept");
+        show(rt, b" kept");
         return;
     }
-    show(b" touched");
+    show(rt, b" touched");
 }
 
-fn show_same(same: bool) {
+fn show_same(rt: &impl Print, same: bool) {
     if same {
-        show(b" same");
+        show(rt, b" same");
         return;
     }
-    show(b" other");
+    show(rt, b" other");
 }
 
 // A short buffer's reply, whether what no answer was written on is kept, and whether an answer is the first one.
-fn show_short(r: MapReply, out: &[u8], network: &[u8]) {
-    show(b" | ");
+fn show_short(rt: &impl Print, r: MapReply, out: &[u8], network: &[u8]) {
+    show(rt, b" | ");
     match r {
         MapReply::Written(n) => {
-            show_numbers(0, n);
-            show_kept(is_kept(out, n));
-            show_same(is_same(network, out));
+            show_numbers(rt, 0, n);
+            show_kept(rt, is_kept(out, n));
+            show_same(rt, is_same(network, out));
         }
         MapReply::Refused(number, line) => {
-            show_numbers(number, line);
-            show_kept(is_kept(out, 0));
+            show_numbers(rt, number, line);
+            show_kept(rt, is_kept(out, 0));
         }
     }
 }
 
 // The same text into the first k bytes of a buffer.
-fn map_into(text: &[u8], network: &[u8], out: &mut [u8], k: usize) {
+fn map_into(rt: &impl Print, text: &[u8], network: &[u8], out: &mut [u8], k: usize) {
     if out.len() < k {
         return;
     }
     fill(out);
     let r = mapper::map(text, &mut out[..k]);
-    show_short(r, out, network);
+    show_short(rt, r, out, network);
 }
 
-fn map_again(text: &[u8], network: &[u8], k: usize) {
-    let mut out = io::large_buffer();
-    map_into(text, network, &mut out, k);
+fn map_again(rt: &impl Print, text: &[u8], network: &[u8], k: usize) {
+    let mut out = [0u8; 65536];
+    map_into(rt, text, network, &mut out, k);
 }
 
 // Into buffers of no byte, one too few, as many as the network has, and one more.
-fn map_shorter(text: &[u8], network: &[u8]) {
+fn map_shorter(rt: &impl Print, text: &[u8], network: &[u8]) {
     let n = network.len();
-    map_again(text, network, 0);
+    map_again(rt, text, network, 0);
     if 0 < n {
-        map_again(text, network, n - 1);
+        map_again(rt, text, network, n - 1);
     }
-    map_again(text, network, n);
+    map_again(rt, text, network, n);
     if n < 65536 {
-        map_again(text, network, n + 1);
+        map_again(rt, text, network, n + 1);
     }
 }
 
-fn show_network(text: &[u8], out: &[u8], n: usize)
+fn show_network(rt: &impl Print, text: &[u8], out: &[u8], n: usize)
     requires { n ≤ length out.now }
 {
-    show(&out[..n]);
-    show(b"(end)\n");
-    show_numbers(0, n);
-    show_kept(is_kept(out, n));
-    map_shorter(text, &out[..n]);
-    show(b"\n");
+    show(rt, &out[..n]);
+    show(rt, b"(end)\n");
+    show_numbers(rt, 0, n);
+    show_kept(rt, is_kept(out, n));
+    map_shorter(rt, text, &out[..n]);
+    show(rt, b"\n");
 }
 
-fn show_refusal(text: &[u8], out: &[u8], number: usize, line: usize) {
-    show(b"(no ");
-    show_numbers(number, line);
-    show(b")\n(end)\n");
-    show_numbers(number, line);
-    show_kept(is_kept(out, 0));
-    map_again(text, b"", 0);
-    show(b"\n");
+fn show_refusal(rt: &impl Print, text: &[u8], out: &[u8], number: usize, line: usize) {
+    show(rt, b"(no ");
+    show_numbers(rt, number, line);
+    show(rt, b")\n(end)\n");
+    show_numbers(rt, number, line);
+    show_kept(rt, is_kept(out, 0));
+    map_again(rt, text, b"", 0);
+    show(rt, b"\n");
 }
 
-fn show_answer(text: &[u8], r: MapReply, out: &[u8]) {
+fn show_answer(rt: &impl Print, text: &[u8], r: MapReply, out: &[u8]) {
     match r {
         MapReply::Written(n) => {
             if n <= out.len() {
-                show_network(text, out, n);
+                show_network(rt, text, out, n);
             }
         }
-        MapReply::Refused(number, line) => show_refusal(text, out, number, line),
+        MapReply::Refused(number, line) => show_refusal(rt, text, out, number, line),
     }
 }
 
-fn map_first(text: &[u8], out: &mut [u8]) {
+fn map_first(rt: &impl Print, text: &[u8], out: &mut [u8]) {
     fill(out);
     let r = mapper::map(text, out);
-    show_answer(text, r, out);
+    show_answer(rt, text, r, out);
 }
 
-fn replay(text: &[u8]) {
-    let mut out = io::large_buffer();
-    map_first(text, &mut out);
+fn replay(rt: &impl Print, text: &[u8]) {
+    let mut out = [0u8; 65536];
+    map_first(rt, text, &mut out);
 }
 
 // A job that is closed is replayed.
-fn take_event(e: Event, job: &[u8]) {
+fn take_event(rt: &impl Print, e: Event, job: &[u8]) {
     match e {
         Event::Job(n) => {
             if n <= job.len() {
-                replay(&job[..n]);
+                replay(rt, &job[..n]);
             }
         }
         Event::More(_) => {}
@@ -191,38 +191,38 @@ fn take_event(e: Event, job: &[u8]) {
 }
 
 // One byte of the input.
-fn take_byte(f: Feed, b: u8, job: &mut [u8]) -> Feed
+fn take_byte(rt: &impl Print, f: Feed, b: u8, job: &mut [u8]) -> Feed
     ensures { state_with result job.new ≡ after (fed f b job.old) }
 {
     let e = feed_byte(f, b, job);
-    take_event(e, job);
+    take_event(rt, e, job);
     next_feed(e)
 }
 
-fn take_bytes(feed: Feed, bytes: &[u8], job: &mut [u8]) -> Feed
+fn take_bytes(rt: &impl Print, feed: Feed, bytes: &[u8], job: &mut [u8]) -> Feed
     ensures { state_with result job.new ≡ fed_all (state_with feed job.old) bytes.now }
 {
     let mut f = feed;
     let mut i = 0;
     while i < bytes.len() {
-        f = take_byte(f, bytes[i], job);
+        f = take_byte(rt, f, bytes[i], job);
         i += 1;
     }
     f
 }
 
 // A proved loop has to end, so the turns are counted down from a number that no run uses up.
-fn main() {
-    let mut job = io::large_buffer();
-    let mut bytes = io::buffer();
+fn main(rt: HostRuntime) {
+    let mut job = [0u8; 65536];
+    let mut bytes = [0u8; 4096];
     let mut f = begin();
     let mut turns = u64::MAX;
     while turns > 0 {
-        let n = io::read_full(STDIN_FILENO, &mut bytes);
+        let n = read_full(&mut rt.stdin(), &mut bytes);
         if n == 0 {
             return;
         }
-        f = take_bytes(f, &bytes[..n], &mut job);
+        f = take_bytes(&rt, f, &bytes[..n], &mut job);
         turns -= 1;
     }
 }

@@ -1,14 +1,13 @@
 -- Edition 2 written node by node. What is open: 0 where no `many` line is, else the line's node and one more.
 use Rattle.std.specs.Prelude.{◌≡◌, refl, Bool, true, false, List, [], ◌∷◌, ◌++◌, ℕ, zero, suc, eqb}
-use Rattle.std.proofs.Common.{sym, ap, ap₂, ◌∙◌, append_assoc, append-nil, ⊎_elim, arith, eq-eqb, ne_eqb}
+use Rattle.std.proofs.Common.{sym, ap, ◌∙◌, append_assoc, ⊎_elim, arith, eq-eqb, ne_eqb}
 use Rattle.laws.specs.Test.{if◌then◌else◌, eq-or-ne}
 use Rattle.rules.specs.Converter.{join_table, node_lines, tables_text, line2_text, lines2_text}
 use Rattle.rules.specs.Edition2.{Table, Line2, Plain, Many}
 use Rattle.rules.specs.Form.{bytes}
 use Rattle.rules.specs.Network.{LutNode, Input, Linear, Bootstrap}
-use Rattle.rules.specs.NetworkText.{NodeLine}
 use Rattle.rules.specs.Rotation.{centre_of}
-use Rattle.rules.specs.Writing.{digits, bits_text, node_text}
+use Rattle.rules.specs.Writing.{digits, node_text}
 use Rattle.lines.specs.Lines2.{many_text, table_text}
 
 -- what ends a line that is open

@@ -1,5 +1,5 @@
 -- The whole text of edition 2.
-use Rattle.std.specs.Prelude.{◌≡◌, refl, List, ◌++◌, ℕ, take}
+use Rattle.std.specs.Prelude.{List, ◌++◌, ℕ, take}
 use Rattle.rules.specs.Writing.{outputs_text}
 use Rattle.lines.specs.Lines2.{net2_text}
 use Rattle.writer.specs.declared.Network.{Network}

@@ -1,4 +1,4 @@
-use Rattle.std.proofs.Common.{◌≡◌, sym, ap, ◌∙◌, List, ⊎_elim, ℕ, ◌+◌, ◌-◌, ◌≤◌, ◌<◌, arith, get_or}
+use Rattle.std.proofs.Common.{◌≡◌, sym, ap, ◌∙◌, List, ⊎_elim, ℕ, ◌+◌, ◌≤◌, ◌<◌, arith, get_or}
 use Rattle.laws.specs.Test.{lt_or_le}
 use Rattle.theorems.specs.Truths.{all_equal_true, all_equal_false}
 use Rattle.attempt.proofs.all_equal.Goals as goal

@@ -1,6 +1,5 @@
 use Rattle.std.proofs.Common.{◌≡◌, sym, ap, subst, ◌∙◌, Bool, true, false, List, ℕ, arith, T, ltb, ℤ, length, replicate, to_z-of_z, w32, to_z, of_z}
 use mathlib.Core.Option.{none, some}
-use borrow.Author.Tests.{not-true, not-false}
 use lib.ListN.{length-replicate}
 use Rattle.laws.specs.Over.{over}
 use Rattle.laws.specs.Test.{if◌then◌else◌}
@@ -53,48 +52,56 @@ module _ (P : ℕ) (known t : List ℕ) (r : Bool) (e : (if r then some t else n
 
 module _ (c : Start) where
   low-is : to_z w32 (of_z w32 c.args.low) ≡ least c.args.values.now
-  low-is = to_z-of_z c.ranges.low ∙ c.requires.low_value.0
+  low-is = to_z-of_z c.ranges.low ∙ c.requires.low_value
 
   long : length c.args.known.now ≡ span c.args.values.now
-  long = ap length c.requires.low_value.1.0 ∙ length-replicate {A = ℕ} (span c.args.values.now) 2
+  long = ap length c.requires.known_value ∙ length-replicate {A = ℕ} (span c.args.values.now) 2
 
 -- from where the rows are entered
-module _ (c : Else-not-enter) where
-  entries : Entries c.enter.new.1.1.1.0
+module _ (c : Else-not-enter) (is-low : to_z w32 (of_z w32 c.args.low) ≡ least c.args.values.now) where
+  entries : Entries c.enter.new.known
   entries =
       let rows = c.enter in
-      known_entered _ _ _ _ rows.new.1.1.1.0 rows.result rows.ensures.1 c.requires.low_value.1.0 (not-false rows.result c.if-not-enter.false)
+      known_entered _ _ _ _ rows.new.known rows.result rows.ensures.all c.requires.known_value c.if-not-enter.false
 
   replied : (o : Built)
-      → o ≡ from_table c.args.size c.args.out.now (completion c.args.size c.enter.new.1.1.1.0)
+      → o ≡ from_table c.args.size c.args.out.now (completion c.args.size c.enter.new.known)
       → o ≡ from_known c.args.size c.args.out.now (known_entries c.args.values.now c.args.truths.now)
   replied o g =
       let rows = c.enter in
-      all_entered _ _ _ _ rows.new.1.1.1.0 rows.result rows.ensures.1 c.requires.low_value.1.0 _ _ (low-is start) o (not-false rows.result c.if-not-enter.false) g
+      all_entered _ _ _ _ rows.new.known rows.result rows.ensures.all c.requires.known_value _ _ is-low o c.if-not-enter.false g
 
 pub enter-requires : goal.enter-requires
-enter-requires c = (c.requires.values_len, (low-is (goal.at.enter-requires c).Start, omega (arith, long (goal.at.enter-requires c).Start)))
+enter-requires c =
+    let start = (goal.at.enter-requires c).Start in
+    record { values_len = c.requires.values_len; low_value = low-is start; values_in_bounds = omega (arith, long start) }
 
 pub returns-then-not-enter : goal.returns-then-not-enter
 returns-then-not-enter c =
     let rows = c.enter in
-    conflict _ _ _ _ rows.new.1.1.1.0 rows.result rows.ensures.1 c.requires.low_value.1.0 _ _ (low-is (goal.at.returns-then-not-enter c).Start) (not-true rows.result c.if-not-enter.true)
+    conflict _ _ _ _ rows.new.known rows.result rows.ensures.all c.requires.known_value _ _ (low-is (goal.at.returns-then-not-enter c).Start) c.if-not-enter.true
 
 pub complete-requires : goal.complete-requires
-complete-requires c = record { known_len = omega (arith, long (start (goal.at.complete-requires c).After-slice_known-4-1)); entries = entries (goal.at.complete-requires c).After-slice_known-4-1 }
+complete-requires c =
+    let g = goal.at.complete-requires c in
+    record { known_len = omega (arith, long g.Start); entries = entries g.Else-not-enter (low-is g.Start) }
 
 pub returns-then-not-complete : goal.returns-then-not-complete
 returns-then-not-complete c =
+    let g = goal.at.returns-then-not-complete c in
     let found = c.complete in
-    replied (goal.at.returns-then-not-complete c).After-slice_known-4-1 _ (no-completion _ _ found.new.1.1.0 found.result found.ensures.1 _ (not-true found.result c.if-not-complete.true))
+    replied g.Else-not-enter (low-is g.Start) _ (no-completion _ _ found.new.table found.result found.ensures.found _ c.if-not-complete.true)
 
 pub centre-c-requires : goal.centre-c-requires
 centre-c-requires c =
+    let g = goal.at.centre-c-requires c in
     let found = c.complete in
-    found_turns _ _ found.new.1.1.0 found.result found.ensures.1 (entries (goal.at.centre-c-requires c).After-known-1) (not-false found.result c.if-not-complete.false)
+    let turns = found_turns _ _ found.new.table found.result found.ensures.found (entries g.Else-not-enter (low-is g.Start)) c.if-not-complete.false in
+    record { of_bits = turns.0; rotated = turns.1 }
 
 pub returns : goal.returns
 returns c =
+    let g = goal.at.returns c in
     let found = c.complete in
-    replied (goal.at.returns c).After-enter _
-    (completed _ _ found.new.1.1.0 found.result found.ensures.1 _ _ _ (not-false found.result c.if-not-complete.false) c.centre-c.ensures c.write_table.ensures)
+    replied g.Else-not-enter (low-is g.Start) _
+    (completed _ _ found.new.table found.result found.ensures.found _ _ _ c.if-not-complete.false c.centre-c.ensures c.write_table.ensures)

@@ -1,5 +1,4 @@
 use Rattle.std.proofs.Common.{◌≡◌, sym, ap, ap₂, ◌∙◌, true, ◌+◌, ◌≤◌, arith, ℤ, nat_abs, ◌-ℤ◌, replicate, length-take-le, ◌≤ℤ◌, w32}
-use borrow.Author.Tests.{not-true, not-false}
 use Rattle.laws.specs.Integer.{ints, read_back-at}
 use Rattle.laws.specs.Tail.{take-replicate}
 use Rattle.rules.specs.Builder.{table_limits}
@@ -11,25 +10,25 @@ use Rattle.builder.proofs.composed_bootstrap_table.Goals.{After-span_of-length, 
 
 -- `builder::composed_bootstrap_table` meets its contract.
 settings : (c : Else-not-table_limits) → table_limits c.args.p c.args.m ≡ true
-settings c = sym c.table_limits.ensures ∙ not-false c.table_limits.result c.if-not-table_limits.false
+settings c = sym c.table_limits.ensures ∙ c.if-not-table_limits.false
 
 -- the span is what the code reckons, and fits the arrays
 module _ (c : After-span_of-length) where
-  length_is : c.Span-of.result ≡ span c.args.values.now
+  length_is : c.span_of-length.result ≡ span c.args.values.now
   length_is =
       let bounds = c.bounds_of-bounds.ensures in
-      c.Span-of.ensures
+      c.span_of-length.ensures
       ∙ ap (λ n. n + 1) (ap₂ (λ h l. nat_abs (h -ℤ l)) bounds.1 bounds.0)
       ∙ sym (span_is c.args.values.now (omega (arith, c.if-values-eq0.false)))
 
-  fits : c.Span-of.result ≤ c.args.m → c.Span-of.result ≤ 32
-  fits h = omega (arith, limits_most _ _ (settings (goal.at.HERE c).Else-not-table_limits))
+  fits : c.span_of-length.result ≤ c.args.m → c.span_of-length.result ≤ 32
+  fits h = omega (arith, limits_most _ _ (sym c.table_limits.ensures ∙ c.if-not-table_limits.false))
 
 ordered : (l h a b v : ℤ) → l ≡ a → h ≡ b → a ≤ℤ v → v ≤ℤ b → l ≤ℤ h
 ordered l h a b v e f i j = omega (arith, ints)
 
 pub returns-then-not-table_limits : goal.returns-then-not-table_limits
-returns-then-not-table_limits c = sym (bad_settings _ _ _ _ _ (sym c.table_limits.ensures ∙ not-true c.table_limits.result c.if-not-table_limits.true))
+returns-then-not-table_limits c = sym (bad_settings _ _ _ _ _ (sym c.table_limits.ensures ∙ c.if-not-table_limits.true))
 
 pub returns-then-values-truths : goal.returns-then-values-truths
 returns-then-values-truths c = sym (lengths_differ _ _ _ _ _ (settings (goal.at.returns-then-values-truths c).Else-not-table_limits) c.if-values-truths.true)
@@ -59,16 +58,14 @@ slice_bounds-build_from_rows-end-2 c = sym (length-take-le _ _ (fits (goal.at.sl
 
 pub build_from_rows-requires : goal.build_from_rows-requires
 build_from_rows-requires c =
-    let room = fits (goal.at.build_from_rows-requires c).After-span_of-length c.if-m-length.false in (
-      c.if-values-truths.false,
-      (
-        read_back-at w32 _ c.struct_told-1.given.0.1 ∙ c.bounds_of-bounds.ensures.0,
-        (
-          take-replicate c.Span-of.result 32 2 room ∙ ap (λ n. replicate n 2) (length_is (goal.at.build_from_rows-requires c).After-span_of-length),
-          length-take-le _ _ room ∙ length_is (goal.at.build_from_rows-requires c).After-span_of-length,
-        ),
-      ),
-    )
+    let at = (goal.at.build_from_rows-requires c).After-span_of-length in
+    let room = fits at c.if-m-length.false in
+    record {
+      values_len = c.if-values-truths.false;
+      low_value = read_back-at w32 _ c.struct_told-1.given.0.1 ∙ c.bounds_of-bounds.ensures.0;
+      known_value = take-replicate c.span_of-length.result 32 2 room ∙ ap (λ n. replicate n 2) (length_is at);
+      table_len = length-take-le _ _ room ∙ length_is at;
+    }
 
 pub returns : goal.returns
 returns c =

@@ -12,7 +12,10 @@ is_over_norm-requires c = (c.requires.store, (c.keep.ensures []).long)
 
 pub returns-then-is_over_norm : goal.returns-then-is_over_norm
 returns-then-is_over_norm c =
-    (over_refused _ _ _ _ _ _ _ (c.is_over_norm.ensures _ (c.keep.ensures _) (kept-closed _ _ _ _ _ c.requires.store)) c.if-is_over_norm.true _, recorded _ _ _ _ _ _ c.requires.store c.requires.centred)
+    record {
+      is = over_refused _ _ _ _ _ _ _ (c.is_over_norm.ensures _ (c.keep.ensures _) (kept-closed _ _ _ _ _ c.requires.store)) c.if-is_over_norm.true _;
+      recorded = recorded _ _ _ _ _ _ c.requires.store c.requires.centred;
+    }
 
 pub answer-requires : goal.answer-requires
 answer-requires c =
@@ -20,4 +23,7 @@ answer-requires c =
 
 pub returns : goal.returns
 returns c =
-    (answer_is _ _ _ _ _ _ _ (c.is_over_norm.ensures _ (c.keep.ensures _) (kept-closed _ _ _ _ _ c.requires.store)) c.if-is_over_norm.false _ c.requires (c.keep.ensures _) _ _ c.answer.ensures, recorded _ _ _ _ _ _ c.requires.store c.requires.centred)
+    record {
+      is = answer_is _ _ _ _ _ _ _ (c.is_over_norm.ensures _ (c.keep.ensures _) (kept-closed _ _ _ _ _ c.requires.store)) c.if-is_over_norm.false _ c.requires (c.keep.ensures _) _ _ c.answer.ensures;
+      recorded = recorded _ _ _ _ _ _ c.requires.store c.requires.centred;
+    }

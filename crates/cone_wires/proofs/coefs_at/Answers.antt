@@ -1,4 +1,4 @@
-use Rattle.std.proofs.Common.{◌≡◌, ap, ◌∙◌, ℕ, ◌-◌, ◌<◌, arith, pos, ◌-ℤ◌, w64, to_z, of_z, SFits, to_z-of_z}
+use Rattle.std.proofs.Common.{◌≡◌, ap, ◌∙◌, ℕ, ◌<◌, arith, pos, ◌-ℤ◌, w64, to_z, of_z, SFits, to_z-of_z}
 use mir.Facts.{to_z_pos}
 use Rattle.laws.specs.Integer.{plus, minus, abs_parts, sub_parts, one_part_zero, fits_abs}
 use Rattle.laws.specs.Front.{filling_start, filling_step, filling-all}

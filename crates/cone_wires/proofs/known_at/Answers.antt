@@ -1,4 +1,4 @@
-use Rattle.std.proofs.Common.{◌-◌, ◌<◌, arith}
+use Rattle.std.proofs.Common.{◌<◌, arith}
 use Rattle.laws.specs.Front.{filling_start, filling_step, filling-all}
 use Rattle.cone_wires.specs.Wires.{entry_read, known_long}
 use Rattle.cone_wires.proofs.known_at.Goals as goal

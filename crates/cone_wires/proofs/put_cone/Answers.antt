@@ -24,4 +24,4 @@ put_known-requires c = (c.requires.0, c.put_terms.ensures.long ∙ simp length-s
 
 pub returns : goal.returns
 returns c =
-    put_all c.args.wires.now c.args.slot c.args.c c.requires.1.1 c.requires.0 c.requires.1.0 (sources_long (goal.at.returns c).After-support-1) (coefs_long (goal.at.returns c).After-support-1) (entries_long (goal.at.returns c).After-support-1) _ _ c.put_terms.ensures c.put_known.ensures
+    put_all c.args.wires.now c.args.slot c.args.c c.requires.1.1 c.requires.0 c.requires.1.0 (sources_long (goal.at.returns c).Start) (coefs_long (goal.at.returns c).Start) (entries_long (goal.at.returns c).Start) _ _ c.put_terms.ensures c.put_known.ensures

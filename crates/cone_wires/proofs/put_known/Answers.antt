@@ -1,4 +1,4 @@
-use Rattle.std.proofs.Common.{◌≡◌, refl, subst, ◌-◌, arith}
+use Rattle.std.proofs.Common.{◌≡◌, refl, subst, arith}
 use Rattle.cone_wires.specs.Wires.{KnownPut, known_start, known_step}
 use Rattle.cone_wires.proofs.put_known.Goals as goal
 
@@ -17,4 +17,4 @@ pub returns : goal.returns
 returns c =
     let o = c.loop-i in
     let e : o.i ≡ 32 = omega (arith, o.invariant.0, c.loop-i-test.false) in
-    subst (λ k. KnownPut c.args.wires.now c.args.slot k c.args.t3 o.wires) e o.invariant.1
+    subst (λ k. KnownPut c.args.wires.now c.args.slot k c.args.known o.wires) e o.invariant.1

@@ -1,4 +1,4 @@
-use Rattle.std.proofs.Common.{ap₂, ◌∙◌, ◌+◌, ◌-◌, ◌*◌, ◌<◌, arith}
+use Rattle.std.proofs.Common.{ap₂, ◌∙◌, ◌+◌, ◌*◌, ◌<◌, arith}
 use Rattle.laws.specs.Front.{filling_start, filling_step, filling-all}
 use Rattle.cone_wires.specs.Wires.{node_read, support_long}
 use Rattle.cone_wires.proofs.support_at.Goals as goal

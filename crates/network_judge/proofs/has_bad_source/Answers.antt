@@ -1,4 +1,4 @@
-use Rattle.std.proofs.Common.{sym, ◌∙◌, ◌-◌, rules}
+use Rattle.std.proofs.Common.{sym, ◌∙◌, rules}
 use Rattle.nodes.specs.View.{is_node}
 use Rattle.network_judge.specs.Scans.{source_start, source_end, source_unknown, source_sum, source_next}
 use Rattle.network_judge.proofs.has_bad_source.Goals as goal

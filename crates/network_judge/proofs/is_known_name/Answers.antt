@@ -1,4 +1,4 @@
-use Rattle.std.proofs.Common.{sym, ◌∙◌, ◌-◌, rules}
+use Rattle.std.proofs.Common.{sym, ◌∙◌, rules}
 use Rattle.nodes.specs.View.{is_node}
 use Rattle.network_judge.specs.Scans.{input_plain, name_start, name_end, name_here, name_next}
 use Rattle.network_judge.proofs.is_known_name.Goals as goal

@@ -1,4 +1,4 @@
-use Rattle.std.proofs.Common.{◌∙◌, ℕ, ◌-◌, ◌≤◌, ◌<◌, arith, rules}
+use Rattle.std.proofs.Common.{◌∙◌, ℕ, ◌≤◌, ◌<◌, arith, rules}
 use Rattle.bootstrap.specs.View.{centres_same, centres_then}
 use Rattle.gates.specs.Wired.{wired_more}
 use Rattle.outputs.specs.Outputs.{signal_port}

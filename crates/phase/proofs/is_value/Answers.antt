@@ -1,4 +1,3 @@
-use Rattle.std.proofs.Common.{arith}
 use Rattle.std.proofs.Common.{T, nat_abs, ap, ◌∙◌, arith, to_z-of_z}
 use lib.Signed.{non_neg}
 use Rattle.theorems.specs.Widths.{period_most}

@@ -1,5 +1,4 @@
 use Rattle.std.proofs.Common.{rules}
-use Rattle.std.proofs.Common.{rules}
 use Rattle.laws.specs.Tests.{tests}
 use Rattle.rules.specs.Phase.{nearer}
 use Rattle.phase.proofs.nearer.Goals as goal

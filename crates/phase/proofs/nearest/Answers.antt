@@ -1,4 +1,3 @@
-use Rattle.std.proofs.Common.{arith}
 use Rattle.std.proofs.Common.{◌<◌, arith}
 use Rattle.theorems.specs.Widths.{some_step, period_most}
 use Rattle.phase.specs.Reckoned.{circle, nearest_is}
@@ -6,8 +5,11 @@ use Rattle.phase.proofs.nearest.Goals as goal
 use Rattle.phase.proofs.nearest.Goals.{After-step_of-step}
 
 -- `phase::nearest` meets its contract.
-divides : (c : After-step_of-step) → 0 < c.step_of_lem.result
-divides c = omega (arith, some_step (circle c.args.p c.requires), c.step_of_lem.ensures)
+divides : (c : After-step_of-step) → 0 < c.step_of-step.result
+divides c = omega (arith, some_step (circle c.args.p c.requires), c.step_of-step.ensures)
+
+pub nonzero_div-phase : goal.nonzero_div-phase
+nonzero_div-phase c = divides (goal.at.nonzero_div-phase c).After-step_of-step
 
 pub nonzero_rem-phase : goal.nonzero_rem-phase
 nonzero_rem-phase c = divides (goal.at.nonzero_rem-phase c).After-step_of-step
@@ -20,5 +22,5 @@ nonzero_rem-result c = omega (arith, (circle c.args.p c.requires).some_slots)
 
 pub returns : goal.returns
 returns c =
-    let step = c.step_of_lem in
+    let step = c.step_of-step in
     nearest_is c.args.p c.args.phase step.result _ _ step.ensures c.wide-k.ensures.0 c.nearer.ensures

@@ -1,4 +1,3 @@
-use Rattle.std.proofs.Common.{arith}
 use Rattle.std.proofs.Common.{◌≡◌, ◌^◌, ◌<◌, T, ℤ, pos, ◌+ℤ◌, arith, to_z-of_z, w64, SFits}
 use lib.Signed.{non_neg}
 use mir.Facts.{Fits-nat_abs, sfits_widen}

@@ -1,9 +1,7 @@
-use Rattle.std.proofs.Common.{rules}
-use Rattle.std.proofs.Common.{◌≡◌, ℕ, Bool, true, false, not, ℤ, nat_abs, sym, ap, ◌∙◌, ap₂, to_z-of_z, rules}
-use borrow.Author.Tests.{not-true, not-false}
+use Rattle.std.proofs.Common.{◌≡◌, ℕ, true, false, ℤ, nat_abs, sym, ap, ◌∙◌, ap₂, to_z-of_z}
 use Rattle.rules.specs.Phase.{is_period, is_value, phase, nearest, slot, found, turned_away, slot_answer}
 use Rattle.phase.proofs.slot.Goals as goal
-use Rattle.phase.proofs.slot.Goals.{After-is_value, Else-not-is_value}
+use Rattle.phase.proofs.slot.Goals.{After-is_value}
 
 -- `phase::slot` meets its contract.
 module _ (P : ℕ) (v e : ℤ) where
@@ -19,42 +17,38 @@ module _ (P : ℕ) (v e : ℤ) where
   unfolding slot_answer slot
   slot_found h i k x f g = rw (h, i, f, g)
 
--- a test of the code is one of the definition
-fails : (b t : Bool) → b ≡ t → not b ≡ true → t ≡ false
-fails b t e h = sym e ∙ not-true b h
-
-holds : (b t : Bool) → b ≡ t → not b ≡ false → t ≡ true
-holds b t e h = sym e ∙ not-false b h
-
 -- the value as `is_value` has read it
 module _ (c : After-is_value) where
   read : c.is_value.result ≡ is_value c.args.p c.args.v
   read = c.is_value.ensures ∙ ap (is_value c.args.p) (to_z-of_z c.ranges.v)
 
   period : is_period c.args.p ≡ true
-  period = holds _ _ c.is_period.ensures c.if-not-is_period.false
+  period = sym c.is_period.ensures ∙ c.if-not-is_period.false
 
-module _ (c : Else-not-is_value) where
-  is_value_lem : is_value c.args.p c.args.v ≡ true
-  is_value_lem = holds _ _ (read (goal.at.HERE c).After-is_value) c.if-not-is_value.false
+  in_circle : c.is_value.result ≡ true → is_value c.args.p c.args.v ≡ true
+  in_circle h = sym read ∙ h
 
 pub returns-then-not-is_period : goal.returns-then-not-is_period
-returns-then-not-is_period c = search (rules, bad_period, fails)
+returns-then-not-is_period c = bad_period _ _ _ (sym c.is_period.ensures ∙ c.if-not-is_period.true)
 
 pub is_value-requires : goal.is_value-requires
-is_value-requires c = search (rules, holds)
+is_value-requires c = sym c.is_period.ensures ∙ c.if-not-is_period.false
 
 pub returns-then-not-is_value : goal.returns-then-not-is_value
-returns-then-not-is_value c = bad_value _ _ _ (period (goal.at.returns-then-not-is_value c).After-is_value) (fails _ _ (read (goal.at.returns-then-not-is_value c).After-is_value) c.if-not-is_value.true)
+returns-then-not-is_value c =
+    let at = (goal.at.returns-then-not-is_value c).After-is_value in
+    bad_value _ _ _ (period at) (sym (read at) ∙ c.if-not-is_value.true)
 
 pub phase_of-requires : goal.phase_of-requires
-phase_of-requires c = (period (goal.at.phase_of-requires c).After-is_value, rw (to_z-of_z c.ranges.v) (is_value_lem c))
+phase_of-requires c =
+    let at = (goal.at.phase_of-requires c).After-is_value in
+    (period at, rw (to_z-of_z c.ranges.v) (in_circle at c.if-not-is_value.false))
 
 pub nearest-requires : goal.nearest-requires
 nearest-requires c = period (goal.at.nearest-requires c).After-is_value
 
 pub returns : goal.returns
 returns c =
-    let s = start (goal.at.returns c).After-is_value in
-    slot_found _ _ _ (period (goal.at.returns c).After-is_value) (is_value_lem (goal.at.returns c).Else-not-is_value) _ _ c.nearest.ensures
-    (c.phase_of.ensures ∙ ap₂ (λ v e. phase s.args.p (nat_abs v) e) (to_z-of_z s.fits.v) (to_z-of_z s.fits.e))
+    let at = (goal.at.returns c).After-is_value in
+    slot_found _ _ _ (period at) (in_circle at c.if-not-is_value.false) _ _ c.nearest.ensures
+    (c.phase_of.ensures ∙ ap₂ (λ v e. phase c.args.p (nat_abs v) e) (to_z-of_z c.ranges.v) (to_z-of_z c.ranges.e))

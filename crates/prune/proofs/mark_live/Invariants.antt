@@ -1,4 +1,4 @@
-use Rattle.std.proofs.Common.{◌-◌, ◌≤◌}
+use Rattle.std.proofs.Common.{◌≤◌}
 use Rattle.nodes.specs.View.{store_of}
 use Rattle.prune.specs.Prune.{Reaching}
 use Rattle.prune.proofs.mark_live.Given as goal

@@ -1,4 +1,4 @@
-use Rattle.std.proofs.Common.{◌-◌, ◌≤◌, length, drop}
+use Rattle.std.proofs.Common.{◌≤◌, length, drop}
 use Rattle.rules.specs.Store.{needs}
 use Rattle.nodes.specs.View.{node_of}
 use Rattle.prune.specs.Prune.{Marking, adding}

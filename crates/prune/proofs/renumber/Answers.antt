@@ -1,4 +1,4 @@
-use Rattle.std.proofs.Common.{not, ◌-◌, arith, eqb, get_or, length-set}
+use Rattle.std.proofs.Common.{not, arith, eqb, get_or, length-set}
 use Rattle.prune.specs.Prune.{numbering_start, numbering_turn, numbers_done, counted_one}
 use Rattle.prune.proofs.renumber.Goals as goal
 

@@ -4,7 +4,7 @@ use Rattle.laws.specs.Integer.{read_back-at}
 use Rattle.scale_pair.specs.declared.score.Score.{Score}
 use Rattle.scale_pair.specs.Pair.{Scaling, Level, level_of, scaling_at}
 use Rattle.search.specs.declared.Ranges.{Ranges}
-use Rattle.search.specs.Search.{Context, InSpans, step_at, Scored, Merges}
+use Rattle.search.specs.Search.{InSpans, step_at, Scored, Merges}
 use Rattle.search.specs.Steps.{step-skipped, step_clashed, step_considered, rows_turn, rows_clash, rows_end, rows_entries, scored, merges, row_level, row_inside}
 use Rattle.search.specs.Walk.{walk_row, walk, row_turn, row_end, walk_turn, walk_end}
 use Rattle.search.proofs.search.Goals as goal

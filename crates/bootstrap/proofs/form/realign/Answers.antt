@@ -1,4 +1,4 @@
-use Rattle.std.proofs.Common.{refl, ◌∙◌, [], ◌-◌, arith}
+use Rattle.std.proofs.Common.{refl, ◌∙◌, [], arith}
 use borrow.Author.Tests.{not-true, not-false}
 use Rattle.cone.specs.View.{cone_of}
 use Rattle.cone.specs.Sources.{stands_nodes}

@@ -1,4 +1,4 @@
-use Rattle.std.proofs.Common.{◌-◌, arith}
+use Rattle.std.proofs.Common.{arith}
 use Rattle.convert.specs.Arrays.{counted_none, counted_step, counted_all}
 use Rattle.convert.proofs.arrays.keep_numbers.Goals as goal
 

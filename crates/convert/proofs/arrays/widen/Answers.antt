@@ -1,4 +1,4 @@
-use Rattle.std.proofs.Common.{◌-◌, arith}
+use Rattle.std.proofs.Common.{arith}
 use Rattle.convert.specs.Arrays.{copied_none, copied_step, copied_all}
 use Rattle.convert.proofs.arrays.widen.Goals as goal
 

@@ -1,4 +1,4 @@
-use Rattle.std.proofs.Common.{arith, refl, ◌∙◌, ◌-◌}
+use Rattle.std.proofs.Common.{arith, refl, ◌∙◌}
 use Rattle.lines.specs.Put.{left-all, byte_step, bytes_done, put_length, byte-room}
 use Rattle.lines.proofs.put.put_all.Goals as goal
 

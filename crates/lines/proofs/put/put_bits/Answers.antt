@@ -1,4 +1,4 @@
-use Rattle.std.proofs.Common.{arith, refl, ◌∙◌, ◌-◌}
+use Rattle.std.proofs.Common.{arith, refl, ◌∙◌}
 use Rattle.lines.specs.Put.{left-all, bit-step, bits_done, put_length, bit-room}
 use Rattle.lines.proofs.put.put_bits.Goals as goal
 

@@ -1,4 +1,4 @@
-use Rattle.std.proofs.Common.{SFits, to_z, get_or, pos, ◌+ℤ◌, to_z-of_z, ◌≡◌, ap, ◌∙◌, ◌+◌, ◌-◌, arith, w64}
+use Rattle.std.proofs.Common.{SFits, to_z, get_or, pos, ◌+ℤ◌, to_z-of_z, ◌≡◌, ap, ◌∙◌, ◌+◌, arith, w64}
 use Rattle.laws.specs.Integer.{read_back, fits_abs}
 use Rattle.rules.specs.Store.{terms_of}
 use Rattle.nodes.specs.View.{node_of, term}

@@ -1,4 +1,4 @@
-use Rattle.std.proofs.Common.{to_z, ◌-◌, w64}
+use Rattle.std.proofs.Common.{◌-◌}
 use Rattle.nodes.specs.View.{node_of}
 use Rattle.network_bounds.specs.Bounds.{Summing}
 use Rattle.network_bounds.proofs.bounds.extreme_sum.Given as goal

@@ -1,4 +1,4 @@
-use Rattle.std.proofs.Common.{◌≡◌, ℕ, ap, subst, ◌-◌, arith, rules, w64, to_z, of_z, to_z-of_z, pos, get_or}
+use Rattle.std.proofs.Common.{◌≡◌, ℕ, ap, subst, arith, rules, w64, to_z, of_z, to_z-of_z, pos, get_or}
 use Rattle.laws.specs.Integer.{fits_abs}
 use Rattle.network_text.specs.declared.sum.Lin.{Lin}
 use Rattle.network_text.specs.Terms.{Small, terms_start}

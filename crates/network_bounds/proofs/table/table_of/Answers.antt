@@ -1,4 +1,4 @@
-use Rattle.std.proofs.Common.{length-set, rules, arith, ◌-◌, refl, sym, ◌∙◌}
+use Rattle.std.proofs.Common.{length-set, rules, arith, refl, sym, ◌∙◌}
 use Rattle.network_bounds.specs.Table.{bit_stored, place_length, table_done}
 use Rattle.laws.specs.Front.{front_zero, front-step}
 use Rattle.network_bounds.proofs.table.table_of.Goals as goal

@@ -1,5 +1,4 @@
 use Rattle.std.proofs.Common.{ap, ◌∙◌, ◌-◌, arith}
-use Rattle.rules.specs.Store as rules
 use Rattle.nodes.specs.Depth.{deepest_none, deepest_more, deepest_done}
 use Rattle.nodes.specs.Nodes.{source_before}
 use Rattle.nodes.specs.View.{node_of, depth_in, is_node}

@@ -1,4 +1,4 @@
-use Rattle.std.proofs.Common.{◌≡◌, ◌-◌, ◌≤◌, length, rules}
+use Rattle.std.proofs.Common.{◌≡◌, ◌≤◌, length}
 use Rattle.rules.specs.Store as rules
 use Rattle.nodes.specs.Depth.{deepest_from}
 use Rattle.nodes.specs.View.{node_of, depth_in}

@@ -1,18 +1,17 @@
-use Rattle.std.proofs.Common.{sym, ◌∙◌, ◌-◌, arith}
+use Rattle.std.proofs.Common.{sym, ◌∙◌, ℕ, ◌+◌, List, arith}
 use Rattle.nodes.specs.Nodes.{few_terms, terms-all}
-use Rattle.nodes.specs.View.{node_of, IsNode, is_node}
+use Rattle.nodes.specs.View.{node_of, IsNode, IsStore, is_node}
 use Rattle.nodes.specs.Norm.{norm_none, norm_more, norm-other, norm_done}
 use Rattle.nodes.proofs.norm.node_norm.Goals as goal
-use Rattle.nodes.proofs.norm.node_norm.Goals.{Start}
 
-stands : (c : Start) → IsNode c.args.nodes.now c.args.i
-stands c = is_node c.args.nodes.now _ c.args.i c.requires (omega arith)
+stands : (bytes : List ℕ) (i : ℕ) → IsStore bytes (i + 1) → IsNode bytes i
+stands bytes i s = is_node bytes _ i s (omega arith)
 
 pub kind_of-requires : goal.kind_of-requires
-kind_of-requires c = stands c
+kind_of-requires c = stands c.args.nodes.now c.args.i c.requires
 
 pub weight_of-requires : goal.weight_of-requires
-weight_of-requires c = stands (goal.at.weight_of-requires c).Start
+weight_of-requires c = stands c.args.nodes.now c.args.i c.requires
 
 pub returns-then-kind_of-ne-LINEAR : goal.returns-then-kind_of-ne-LINEAR
 returns-then-kind_of-ne-LINEAR c =
@@ -20,7 +19,7 @@ returns-then-kind_of-ne-LINEAR c =
     c.weight_of.ensures ∙ sym (norm-other _ _ (λ e. c.if-kind_of-ne-LINEAR.true (k ∙ e)))
 
 pub size_of-k-requires : goal.size_of-k-requires
-size_of-k-requires c = stands (goal.at.size_of-k-requires c).Start
+size_of-k-requires c = stands c.args.nodes.now c.args.i c.requires
 
 pub loop-k-init : goal.loop-k-init
 loop-k-init c =
@@ -36,7 +35,7 @@ overflow_add-sum c = let o = c.loop-k in omega (arith, o.invariant.1.1, c.term_n
 pub loop-k-preserved : goal.loop-k-preserved
 loop-k-preserved c =
     let o = c.loop-k in
-    (omega (arith, o.invariant.0), norm_more _ _ _ _ _ c.loop-k-test.true o.invariant.0 (few_terms c.args.i (node_of c.args.nodes.now c.args.i) (stands (goal.at.loop-k-preserved c).Start).fine) o.invariant.1.0 o.invariant.1.1 c.term_norm-sum.ensures.0 c.term_norm-sum.ensures.1)
+    (omega (arith, o.invariant.0), norm_more _ _ _ _ _ c.loop-k-test.true o.invariant.0 (few_terms c.args.i (node_of c.args.nodes.now c.args.i) (stands c.args.nodes.now c.args.i c.requires).fine) o.invariant.1.0 o.invariant.1.1 c.term_norm-sum.ensures.0 c.term_norm-sum.ensures.1)
 
 pub returns : goal.returns
 returns c =

@@ -1,4 +1,4 @@
-use Rattle.std.proofs.Common.{◌+◌, ◌≤◌, arith, T, ℤ, pos, nat_abs, ◌+ℤ◌, to_z-of_z, w64, SFits}
+use Rattle.std.proofs.Common.{◌≤◌, arith, T, ℤ, pos, nat_abs, ◌+ℤ◌, to_z-of_z, w64, SFits}
 use lib.Signed.{non_neg, yes_non_neg}
 use Rattle.laws.specs.Integer.{ints, plus, minus, fits_abs, abs_add, abs_parts, add_parts}
 use Rattle.nodes.specs.View.{biased, biased-small}

@@ -1,4 +1,4 @@
-use Rattle.std.proofs.Common.{◌≡◌, ap, ◌∙◌, ◌-◌, arith, length}
+use Rattle.std.proofs.Common.{◌≡◌, ap, ◌∙◌, arith, length}
 use lib.Seq.{paste, paste-zero}
 use Rattle.nodes.specs.Records.{paste_turn}
 use Rattle.nodes.proofs.record.put_bytes.Goals as goal

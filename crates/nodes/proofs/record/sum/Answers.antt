@@ -1,4 +1,4 @@
-use Rattle.std.proofs.Common.{◌≡◌, ap, ◌∙◌, ◌-◌, ◌<◌, arith, rules, length}
+use Rattle.std.proofs.Common.{◌≡◌, ap, ◌∙◌, ◌<◌, arith, rules, length}
 use Rattle.laws.specs.Integer.{read_back}
 use Rattle.nodes.specs.View.{biased}
 use Rattle.nodes.specs.Records.{written-length, sum_start, sum-turn, sum_done}

@@ -1,4 +1,4 @@
-use Rattle.std.proofs.Common.{length-take-le, ◌≡◌, subst, ◌-◌, arith}
+use Rattle.std.proofs.Common.{length-take-le, ◌≡◌, subst, arith}
 use Rattle.nodes.specs.View.{is_node, store_below}
 use Rattle.regroup.specs.Order.{Arranged, arranged_none, arranged_below, arranged_step}
 use Rattle.regroup.proofs.order.arrange.Goals as goal

@@ -1,4 +1,4 @@
-use Rattle.std.proofs.Common.{◌-◌, arith}
+use Rattle.std.proofs.Common.{arith}
 use Rattle.regroup.specs.Behind.{insert_start, insert-step, insert_done}
 use Rattle.regroup.proofs.order.insert.Goals as goal
 

@@ -1,4 +1,4 @@
-use Rattle.std.proofs.Common.{◌-◌, ◌≤◌, take}
+use Rattle.std.proofs.Common.{◌≤◌, take}
 use Rattle.regroup.specs.Numbers.{Numbering}
 use Rattle.regroup.proofs.order.number.Given as goal
 

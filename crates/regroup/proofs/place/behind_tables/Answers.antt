@@ -1,4 +1,4 @@
-use Rattle.std.proofs.Common.{◌-◌, false, arith}
+use Rattle.std.proofs.Common.{◌-◌, arith}
 use Rattle.regroup.specs.Order.{table_on, scan_start, scan_none, scan_found, scan_on}
 use Rattle.nodes.specs.View.{is_node}
 use Rattle.regroup.proofs.place.behind_tables.Goals as goal

@@ -1,4 +1,4 @@
-use Rattle.std.proofs.Common.{◌-◌, ◌≤◌, ◌≡◌, false, take, drop}
+use Rattle.std.proofs.Common.{◌≤◌, ◌≡◌, false, take, drop}
 use Rattle.regroup.specs.Order.{table_on}
 use Rattle.laws.specs.Select.{any}
 use Rattle.regroup.proofs.place.behind_tables.Given as goal

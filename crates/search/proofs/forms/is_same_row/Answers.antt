@@ -1,4 +1,4 @@
-use Rattle.std.proofs.Common.{◌≡◌, refl, sym, ap, ◌∙◌, ◌-◌, ◌<◌, ◌^◌, arith, rules, ℤ, w64, to_z, of_z}
+use Rattle.std.proofs.Common.{◌≡◌, refl, sym, ap, ◌∙◌, ◌<◌, ◌^◌, arith, rules, ℤ, w64, to_z, of_z}
 use lib.Signed.{mag}
 use Rattle.laws.specs.Integer.{read_back}
 use Rattle.search.specs.EqualForms.{same_end, same_turn, same_not}

@@ -1,4 +1,4 @@
-use Rattle.std.proofs.Common.{arith, refl, ◌∙◌, ◌-◌}
+use Rattle.std.proofs.Common.{arith, refl, ◌∙◌}
 use Rattle.lines.specs.Put.{left-all, put_length}
 use Rattle.writer.specs.Live.{live_nodes, lines_left, line-room, line-turn, lines_done}
 use Rattle.writer.proofs.node_lines.put_nodes.Goals as goal

@@ -1,4 +1,4 @@
-use Rattle.std.proofs.Common.{arith, refl, ◌∙◌, ◌-◌}
+use Rattle.std.proofs.Common.{arith, refl, ◌∙◌}
 use Rattle.nodes.specs.View.{node_of}
 use Rattle.lines.specs.Put.{left-all, put_length}
 use Rattle.writer.specs.Live.{among_terms, past_terms, term_room, term_turn, terms_done}

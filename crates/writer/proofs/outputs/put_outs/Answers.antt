@@ -1,4 +1,4 @@
-use Rattle.std.proofs.Common.{arith, refl, ◌∙◌, ◌-◌}
+use Rattle.std.proofs.Common.{arith, refl, ◌∙◌}
 use Rattle.lines.specs.Put.{left-all, put_length}
 use Rattle.writer.specs.Outputs.{outputs_left, output-room, output-turn, outputs_done}
 use Rattle.writer.proofs.outputs.put_outs.Goals as goal

@@ -1,4 +1,4 @@
-use Rattle.std.proofs.Common.{refl, sym, subst, ◌∙◌, ◌-◌, ◌<◌, arith}
+use Rattle.std.proofs.Common.{refl, sym, subst, ◌∙◌, ◌<◌, arith}
 use Rattle.lines.specs.Put.{left-all, put_length}
 use Rattle.writer2.specs.Node2.{lines_left, known_at, piece-room, piece-turn, closing-room, lines_done}
 use Rattle.writer2.proofs.many.put_lines.Goals as goal

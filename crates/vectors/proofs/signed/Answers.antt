@@ -1,20 +1,11 @@
--- `vectors::signed` meets its contract: a value below 2 ^ 31 can be negated.
-use mathlib.Core.Path.{◌≡◌}
-use mathlib.Core.Bool.{true, false}
-use Prim.Native.Nat.{ℕ, ◌<◌, ◌≤◌}
-use native.Mathlib.Omega.{arith}
-use borrow.Author.Rules.{rules}
-use borrow.Author.Tests.{lt-ltb, le-ltb}
-use lib.IntN.{pos, negsuc, neg_ℤ, ◌-ℤ◌}
-use mir.Facts.{to_z_pos, to_z-of_z}
-use mir.Syntax.{w32}
-use mir.Val.{SFits, to_z, of_z}
+use Rattle.std.proofs.Common.{◌≡◌, true, false, ℕ, ◌<◌, ◌≤◌, arith, lt-ltb, le-ltb, pos, negsuc, neg_ℤ, ◌-ℤ◌, to_z-of_z, w32, SFits, to_z, of_z}
+use mir.Facts.{to_z_pos}
 use Rattle.laws.specs.Integer.{ints, plus, minus, sub_parts, plus_neg, minus_neg, abs_add, abs_neg, fits_abs}
 use Rattle.vectors.specs.declared.Token.{Token}
 use Rattle.vectors.specs.Token.{signed_of}
-use Rattle.vectors.proofs.signed.Statement.{statement}
-use Rattle.vectors.proofs.signed.Tie as tie
+use Rattle.vectors.proofs.signed.Goals as goal
 
+-- `vectors::signed` meets its contract: a value below 2 ^ 31 can be negated.
 opposite : (a : ℕ) → pos 0 -ℤ pos a ≡ neg_ℤ (pos a)
 unfolding plus minus
 opposite a = omega (arith, ints, sub_parts (pos 0) (pos a), plus_neg (pos a), minus_neg (pos a))
@@ -36,13 +27,14 @@ module _ (t : Token) where
     unfolding signed_of
     negated e = rw (to_z-of_z fits, to_z_pos w32 {n = t.value} (omega arith), le-ltb 2147483647 t.value h, e) (opposite t.value)
 
-pub signed-spec : {M : Type 1} → statement M
-signed-spec =
-    tie.close
-    (tie.spec
-    (λ c. large c.before.before.args.n c.if1.true)
-    (λ c. search rules)
-    (λ c. fits c.before.before.before.before.args.n c.before.before.if1.false)
-    (λ c. negated c.before.before.before.before.args.n c.before.before.if1.false c.before.if2.true)
-    (λ c. search rules)
-    (λ c. plain c.before.before.before.before.args.n c.before.before.if1.false c.before.if2.false))
+pub returns-then-n-gt2147483647 : goal.returns-then-n-gt2147483647
+returns-then-n-gt2147483647 c = large c.args.n c.if-n-gt2147483647.true
+
+pub overflow_sub-result : goal.overflow_sub-result
+overflow_sub-result c = fits c.args.n c.if-n-gt2147483647.false
+
+pub returns-then-n : goal.returns-then-n
+returns-then-n c = negated c.args.n c.if-n-gt2147483647.false c.if-n.true
+
+pub returns : goal.returns
+returns c = plain c.args.n c.if-n-gt2147483647.false c.if-n.false
