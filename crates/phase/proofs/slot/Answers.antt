@@ -23,16 +23,13 @@ module _ (c : After-is_value) where
   read = c.is_value.ensures ∙ ap (is_value c.args.p) (to_z-of_z c.ranges.v)
 
   period : is_period c.args.p ≡ true
-  period = sym c.is_period.ensures ∙ c.if-not-is_period.false
+  period = cc
 
   in_circle : c.is_value.result ≡ true → is_value c.args.p c.args.v ≡ true
   in_circle h = sym read ∙ h
 
 pub returns-then-not-is_period : goal.returns-then-not-is_period
-returns-then-not-is_period c = bad_period _ _ _ (sym c.is_period.ensures ∙ c.if-not-is_period.true)
-
-pub is_value-requires : goal.is_value-requires
-is_value-requires c = sym c.is_period.ensures ∙ c.if-not-is_period.false
+returns-then-not-is_period c = bad_period _ _ _ cc
 
 pub returns-then-not-is_value : goal.returns-then-not-is_value
 returns-then-not-is_value c =
