@@ -1,4 +1,4 @@
-use Rattle.std.proofs.Common.{sym, ◌∙◌}
+use Rattle.std.proofs.Common.{sym, ◌∙◌, arith}
 use Rattle.laws.specs.Integer.{read_back}
 use Rattle.search.specs.Steps.{considered_no, considered_yes, score_is}
 use Rattle.search.proofs.considered.Goals as goal
@@ -9,8 +9,7 @@ returns-then-not-is_completable c = considered_no _ _ _ _ (sym c.is_completable.
 
 pub returns : goal.returns
 returns c =
-    let told = c.struct_told-1.given in
     let e = c.energy_of-energy in
     considered_yes _ _ _ _ (sym c.is_completable.ensures ∙ c.if-not-is_completable.false) _ _ c.better.ensures
     (score_is _ _ c.args.best _ _ _ _ _ (c.reuse_cost-reuse.ensures c.args.m) (read_back e.result e.type_inv ∙ e.ensures)
-    (read_back c.args.c.a told.1.0.1) (read_back c.args.c.b told.1.1.0.1))
+    (read_back c.args.c.a (omega arith)) (read_back c.args.c.b (omega arith)))

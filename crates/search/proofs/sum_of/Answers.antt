@@ -1,4 +1,4 @@
-use Rattle.std.proofs.Common.{refl, ap, ap₂, ◌∙◌, neg_ℤ}
+use Rattle.std.proofs.Common.{refl, ap, ap₂, ◌∙◌, arith, neg_ℤ}
 use Rattle.laws.specs.Integer.{read_back}
 use Rattle.scale_pair.specs.Pair.{merged}
 use Rattle.search.proofs.sum_of.Goals as goal
@@ -9,8 +9,8 @@ returns c =
     let n = c.negated in
     record {
       count = refl;
-      constant = read_back n.result n.type_inv ∙ n.ensures ∙ ap neg_ℤ (read_back c.args.c.low c.struct_told-3-1.given.1.1.1.1.0.1);
+      constant = read_back n.result n.type_inv ∙ n.ensures ∙ ap neg_ℤ (read_back c.args.c.low (omega arith));
       coefficients = c.prepare_coefficients-coefs.ensures
-          ∙ ap₂ (λ x y. merged x y c.args.left.now c.args.right.now) (read_back c.args.c.a c.struct_told-1.given.1.0.1) (read_back c.args.c.b c.struct_told-2-1.given.1.1.0.1);
+          ∙ ap₂ (λ x y. merged x y c.args.left.now c.args.right.now) (read_back c.args.c.a (omega arith)) (read_back c.args.c.b (omega arith));
       sources_are = refl;
     }

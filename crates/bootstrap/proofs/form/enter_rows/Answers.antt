@@ -1,4 +1,4 @@
-use Rattle.std.proofs.Common.{◌≡◌, sym, ap, ap₂, ◌∙◌, Bool, true, false, List, ◌++◌, ℕ, ◌≤◌, arith, w32, to_z, of_z, ℤ, take, replicate, take_at}
+use Rattle.std.proofs.Common.{◌≡◌, sym, ap, ap₂, ◌∙◌, Bool, true, false, List, ◌++◌, ℕ, ◌≤◌, arith, w32, ℤ, take, replicate, take_at}
 use mathlib.Core.Option.{none, some}
 use lib.ListN.{length-replicate}
 use Rattle.laws.specs.Integer.{read_back-at}
@@ -9,7 +9,6 @@ use Rattle.rules.specs.Span.{least, span}
 use Rattle.theorems.specs.Rows.{entered_entries, unknown_entries}
 use Rattle.bootstrap.specs.Form.{entries_of}
 use Rattle.bootstrap.proofs.form.enter_rows.Goals as goal
-use Rattle.bootstrap.proofs.form.enter_rows.Goals.{After-struct_told-1}
 
 -- `bootstrap::form::enter_rows` meets its contract.
 module _ (n : ℕ) (low : ℤ) (values : List ℤ) (truth out rest : List ℕ) (short : n ≤ 32) (e : n ≡ span values) (l : low ≡ least values) where
@@ -25,17 +24,15 @@ module _ (n : ℕ) (low : ℤ) (values : List ℤ) (truth out rest : List ℕ) (
       ap some (take_at out rest n long) ∙ f ∙ unknown
   entries_are false f = f ∙ unknown
 
-low-is : (c : After-struct_told-1) → to_z w32 (of_z w32 c.bounds_of-bounds.result.low) ≡ least c.args.values.now
-low-is c = read_back-at w32 c.bounds_of-bounds.result.low c.struct_told-1.given.0.1 ∙ c.bounds_of-bounds.ensures.0
-
 pub slice_bounds-enter-end : goal.slice_bounds-enter-end
 slice_bounds-enter-end c = head_length {A = ℕ} (replicate 32 2) c.args.span c.requires.1.1.1
 
 pub enter-ok-requires : goal.enter-ok-requires
 enter-ok-requires c =
     let n = head_length {A = ℕ} (replicate 32 2) c.args.span c.requires.1.1.1 in
-    record { values_len = c.requires.0; low_value = low-is c; values_in_bounds = omega (arith, n, c.requires.1.1.0) }
+    record { values_len = c.requires.0; low_value = read_back-at w32 c.bounds_of-bounds.result.low (omega arith) ∙ c.bounds_of-bounds.ensures.0; values_in_bounds = omega (arith, n, c.requires.1.1.0) }
 
 pub returns : goal.returns
 returns c =
-    entries_are c.args.span _ c.args.values.now c.args.truth.now _ _ c.requires.1.1.1 c.requires.1.1.0 (low-is (goal.at.returns c).After-struct_told-1) c.enter-ok.result c.enter-ok.ensures.all
+    let low = read_back-at w32 c.bounds_of-bounds.result.low (omega arith) ∙ c.bounds_of-bounds.ensures.0 in
+    entries_are c.args.span _ c.args.values.now c.args.truth.now _ _ c.requires.1.1.1 c.requires.1.1.0 low c.enter-ok.result c.enter-ok.ensures.all

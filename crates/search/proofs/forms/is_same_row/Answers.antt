@@ -1,4 +1,4 @@
-use Rattle.std.proofs.Common.{◌≡◌, refl, sym, ap, ◌∙◌, ◌<◌, ◌^◌, arith, rules, ℤ, w64, to_z, of_z}
+use Rattle.std.proofs.Common.{◌≡◌, refl, sym, ap, ◌∙◌, ◌<◌, ◌^◌, get_or, pos, arith, rules, ℤ, w64, to_z, of_z}
 use lib.Signed.{mag}
 use Rattle.laws.specs.Integer.{read_back}
 use Rattle.search.specs.EqualForms.{same_end, same_turn, same_not}
@@ -20,7 +20,7 @@ pub loop-i-preserved : goal.loop-i-preserved
 loop-i-preserved c =
     let o = c.loop-i in (
       omega arith,
-      same_turn c.args.left.now c.args.right.now o.i (omega (arith, c.requires)) (omega (arith, c.requires)) (bits_same _ _ c.x-1.given c.y-1.given c.if-x-y.false) ∙ o.invariant.1,
+      same_turn c.args.left.now c.args.right.now o.i (omega (arith, c.requires)) (omega (arith, c.requires)) (bits_same (get_or c.args.left.now o.i (pos 0)) (get_or c.args.right.now o.i (pos 0)) (omega arith) (omega arith) c.if-x-y.false) ∙ o.invariant.1,
     )
 
 pub returns : goal.returns
