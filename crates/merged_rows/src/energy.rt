@@ -18,7 +18,7 @@ pub struct CandidateRow {
     pub count: u16,
 }
 
-// A row of a lent slice of records. Proved by hand.
+// A row of a lent slice of records.
 fn row_at(rows: &[CandidateRow], i: usize) -> CandidateRow
     requires { i < length rows.now }
     ensures { result ≡ get_or rows.now i no_row }
@@ -26,7 +26,7 @@ fn row_at(rows: &[CandidateRow], i: usize) -> CandidateRow
     rows[i]
 }
 
-// A block of rows is lent, and one of them read. Proved by hand, and its callers are covered.
+// A block of rows is lent, and one of them read.
 fn lent_row(rows: [CandidateRow; 8], i: usize) -> CandidateRow
     requires { i < 8 }
     ensures { result ≡ get_or rows i no_row }

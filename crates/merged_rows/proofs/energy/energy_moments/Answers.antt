@@ -1,13 +1,16 @@
-use Rattle.std.proofs.Common.{◌≡◌, ap, ◌∙◌, ⊎_elim, ℕ, ◌+◌, ◌-◌, ◌≤◌, ◌<◌, zero-le, arith, take}
+use Rattle.std.proofs.Common.{◌≡◌, ap, ◌∙◌, ℕ, ◌+◌, ◌≤◌, ◌<◌, zero-le, arith, take}
 use Rattle.merged_rows.specs.EnergyRows.{none_so_far, in_fewer, moments_of}
 use Rattle.merged_rows.proofs.energy.energy_moments.Goals as goal
-use Rattle.merged_rows.proofs.energy.energy_moments.Goals.{Joined-n-i-lt8}
+use Rattle.merged_rows.proofs.energy.energy_moments.Goals.{Joined-n-i-lt8, then-n-i-lt8, else-n-i-lt8}
 
 -- how many rows the block has
 piece : (c : Joined-n-i-lt8) → let i = c.loop-i.i in (0 < c.if-n-i-lt8.k) × ((c.if-n-i-lt8.k ≤ 8) × (i + c.if-n-i-lt8.k ≤ c.args.n))
 piece c =
     let t = c.loop-i-test.true in
-    ⊎_elim (λ w. of w.1 (omega (arith, w.0.true))) (λ w. of w.1 (omega (arith, w.0.false))) c.if-n-i-lt8.branch
+    elim c.if-n-i-lt8.branch [
+      | then-n-i-lt8 w ↦ of w.k-is (omega (arith, w.if-n-i-lt8.true))
+      | else-n-i-lt8 w ↦ of w.k-is (omega (arith, w.if-n-i-lt8.false))
+    ]
   where
     of : {k m : ℕ} → k ≡ m → (0 < m) × ((m ≤ 8) × (c.loop-i.i + m ≤ c.args.n))
         → (0 < k) × ((k ≤ 8) × (c.loop-i.i + k ≤ c.args.n))

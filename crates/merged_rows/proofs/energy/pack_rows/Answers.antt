@@ -1,4 +1,4 @@
-use Rattle.std.proofs.Common.{◌≡◌, refl, ◌∙◌, List, ⊎_elim, ◌≢◌, ℕ, ◌+◌, ◌-◌, ◌<◌, zero-le, not-suc-le-zero, arith, ℤ, pos, length, get_or, set, length-set, get_or-set_same, get_or-set_other, w32}
+use Rattle.std.proofs.Common.{◌≡◌, refl, ◌∙◌, List, ⊎_elim, ◌≢◌, ℕ, ◌+◌, ◌<◌, zero-le, not-suc-le-zero, arith, rules, ℤ, pos, length, get_or, set, length-set, get_or-set_same, get_or-set_other, w32}
 use Rattle.laws.specs.Integer.{read_back-at}
 use Rattle.laws.specs.Test.{eq-or-ne}
 use Rattle.merged_rows.specs.declared.energy.CandidateRow.{CandidateRow}
@@ -30,7 +30,7 @@ loop-i-preserved c =
         packed (λ j. row_of c.args.xs.now c.args.ys.now c.args.truth.now c.args.counts.now (c.args.start + j)) o.rows o.i _
             (omega (arith, o.invariant.1.0, c.requires.0, c.loop-i-test.true))
             (one_row c.args.xs.now c.args.ys.now c.args.truth.now c.args.counts.now (c.args.start + o.i) _ _
-            (read_back-at w32 _ c.x-1.given) (read_back-at w32 _ c.y-1.given))
+            (read_back-at w32 _ (search rules)) (read_back-at w32 _ (search rules)))
             o.invariant.1.1,
       ),
     )

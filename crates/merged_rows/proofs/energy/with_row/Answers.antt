@@ -6,15 +6,15 @@ use Rattle.merged_rows.proofs.energy.with_row.Goals as goal
 use Rattle.merged_rows.proofs.energy.with_row.Goals.{After-added, After-added-2, After-added-3, Start}
 
 xx_is : (c : After-added) → c.added.result ≡ c.args.m.xx +ℤ ((c.args.x *ℤ c.args.x) *ℤ pos c.args.count)
-xx_is c = simp (to_z-of_z c.ranges.x, read_back c.args.m.xx c.struct_told-1.given.0.1) at c.added.ensures
+xx_is c = simp (to_z-of_z c.ranges.x, read_back c.args.m.xx (search rules)) at c.added.ensures
 
 xy_is : (c : After-added-2) → c.added-2.result ≡ c.args.m.xy +ℤ ((c.args.x *ℤ c.args.y) *ℤ pos c.args.count)
 xy_is c =
-    simp (to_z-of_z c.ranges.x, to_z-of_z c.ranges.y, read_back c.args.m.xy c.struct_told-2-1.given.1.0.1) at c.added-2.ensures
+    simp (to_z-of_z c.ranges.x, to_z-of_z c.ranges.y, read_back c.args.m.xy (search rules)) at c.added-2.ensures
 
 yy_is : (c : After-added-3) → c.added-3.result ≡ c.args.m.yy +ℤ ((c.args.y *ℤ c.args.y) *ℤ pos c.args.count)
 yy_is c =
-    simp (to_z-of_z c.ranges.y, read_back c.args.m.yy c.struct_told-3-1.given.1.1.0.1) at c.added-3.ensures
+    simp (to_z-of_z c.ranges.y, read_back c.args.m.yy (search rules)) at c.added-3.ensures
 
 few : (c : Start) → c.args.count < 2 ^ 16
 few c = search rules

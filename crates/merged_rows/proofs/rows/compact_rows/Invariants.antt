@@ -1,5 +1,5 @@
 use Rattle.std.proofs.Common.{◌-◌, ◌≤◌}
-use Turn.{Compacting}
+use Rattle.merged_rows.proofs.Turn.{Compacting}
 use Rattle.merged_rows.proofs.rows.compact_rows.Given as goal
 
 abbrev pub invariant-loop-i : goal.invariant-loop-i
