@@ -1,10 +1,10 @@
-use Rattle.std.proofs.Common.{sym}
+use Rattle.std.proofs.Common.{sym, ℕ}
 use Rattle.std.proofs.lemmas.List.{length-replicate, length-take-le}
 use Rattle.vectors_convert.proofs.main.Goals as goal
 
 -- The input is too long for a tactic to count its bytes.
 pub slice_bounds-read_full-end : goal.slice_bounds-read_full-end
-slice_bounds-read_full-end c = sym (length-replicate 655360 0)
+slice_bounds-read_full-end c = sym (length-replicate {0} {A = ℕ} 655360 0)
 
 pub slice_bounds-input-end : goal.slice_bounds-input-end
 slice_bounds-input-end c = c.read_full-n.ensures
