@@ -21,7 +21,6 @@ use Rattle.network.specs.Put.{Ready, Follows}
 use Rattle.network.specs.Verdict.{refusal, network_from, network_read, network_admitted, network_end, line_refused, line_next}
 use Rattle.network.specs.View.{outputs_of, net_of, network_of, prefix_of, Holds}
 use Rattle.network_judge.specs.declared.Header.{Header}
-use Rattle.network.specs.declared.Reading.TheVariants.{Good, Refused}
 use Rattle.network.specs.declared.put.Step.{Step}
 
 -- The line from `at` to `end` was read; r has the number that it is refused with, or the header with it.

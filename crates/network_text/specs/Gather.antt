@@ -5,47 +5,44 @@ use Rattle.std.proofs.Common.{◌∙◌, true≢false, not-suc-le-zero, le_of_su
 use Rattle.std.proofs.Math.Bool.{true, false, not, and-false, and_assoc, or-true, or-false, or_assoc}
 use mathlib.Core.List.{List, [], ◌∷◌, ◌++◌, append_assoc, append-nil}
 use Rattle.std.proofs.Math.Logic.{⊎_elim}
-use Rattle.std.proofs.Math.Option.{Option, none, some, some-injective, none-ne-some}
+use Rattle.std.proofs.Math.Option.{Option, none, some}
 use Prim.Native.Nat.{ℕ, zero, suc, ◌<◌, ◌≤◌, min}
 use native.Mathlib.Omega.{arith}
 use Rattle.std.proofs.lemmas.Bool.{lt-leb}
-use Rattle.std.proofs.Math.Dec.{T, eqb}
+use Rattle.std.proofs.Math.Dec.{eqb}
 use Rattle.std.proofs.Math.IntN.{nat_abs}
-use Rattle.std.proofs.Math.ListN.{drop, length-append, length-set}
-use Rattle.std.proofs.Math.Seq.{get_or-set_same, get_or-set_other}
+use Rattle.std.proofs.Math.ListN.{drop}
 use Rattle.std.specs.Int.{w64}
-use Rattle.laws.specs.Test.{if◌then◌else◌, allb, allb-at, allb-all, and_left, and_right, is_T, T-is, decide, eq-or-ne, lt_or_le}
+use Rattle.laws.specs.Test.{if◌then◌else◌, allb, and_left, and_right, is_T, T-is, eq-or-ne, lt_or_le}
 use Rattle.rules.specs.Form.{Piece, give, onward, many}
 use Rattle.rules.specs.Network.{Term, member}
 use Rattle.rules.specs.NetworkText.{small, good_terms, good_sum, sources, all_different}
 use Rattle.text.specs.Capped.{capped, exact_some, exact_none}
-use Rattle.text.specs.Decimal.{same_number}
 use Rattle.text.specs.Many.{many_none, many_some}
 use Rattle.text.specs.Number.{digits_value}
 use Rattle.text.specs.Reads.{found, ends}
 use Rattle.forms.specs.Signed.{cap_signed, cap_abs, cap_exact, cap_back}
-use Rattle.theorems.specs.Terms.{sources-length}
 use Rattle.network_text.specs.Lines.{cap_term, cap_terms}
-use Rattle.network_text.specs.Places.{good_coef, no_places, with_place, Parts, apart, good_next}
+use Rattle.network_text.specs.Places.{good_coef, no_places, Parts, apart, good_next}
 use Rattle.network_text.specs.Term.{spaced_term, cap_coef, term_taken, term_end, Node, ReadsTerm, DigitsAt, takes_term}
 use Rattle.network_text.specs.declared.sum.TermRead.{TermRead}
 use Rattle.network_text.specs.declared.sum.TermRead.TheVariants.{At}
-use Rattle.network_text.specs.Terms.{Small, no_terms, with_term, terms_of, terms_none, terms_more, small_none, small_more}
+use Rattle.network_text.specs.Terms.{Small, no_terms, terms_of, terms_none, small_none}
 use Rattle.network_text.specs.declared.sum.Terms.{Terms}
 
 -- ---- Lists of terms with one more behind.
 
-cap_terms_more : (ts : List Term) (t : Term) → cap_terms (ts ++ (t ∷ [])) ≡ cap_terms ts ++ (cap_term t ∷ [])
+pub cap_terms_more : (ts : List Term) (t : Term) → cap_terms (ts ++ (t ∷ [])) ≡ cap_terms ts ++ (cap_term t ∷ [])
 unfolding cap_terms
 cap_terms_more [] t = refl
 cap_terms_more (s ∷ ts) t = ap {B = List Term} (λ us. cap_term s ∷ us) (cap_terms_more ts t)
 
-sources-append : (ts us : List Term) → sources (ts ++ us) ≡ sources ts ++ sources us
+pub sources-append : (ts us : List Term) → sources (ts ++ us) ≡ sources ts ++ sources us
 unfolding sources
 sources-append [] us = refl
 sources-append (t ∷ ts) us = ap {B = List ℕ} (λ is. t.node ∷ is) (sources-append ts us)
 
-terms-append : (ts us : List Term) → good_terms (ts ++ us) ≡ (good_terms ts && good_terms us)
+pub terms-append : (ts us : List Term) → good_terms (ts ++ us) ≡ (good_terms ts && good_terms us)
 unfolding good_terms
 terms-append [] us = refl
 terms-append (t ∷ ts) us = rw (terms-append ts us) (sym (and_assoc (small t.coef && not (eqb (nat_abs t.coef) 0)) (good_terms ts) (good_terms us)))
@@ -56,7 +53,7 @@ member-append i [] js = refl
 member-append i (j ∷ is) js = rw (member-append i is js) (sym (or_assoc (eqb i j) (member i is) (member i js)))
 
 -- A node that stands twice, and one that does not.
-twice : (i : ℕ) (is js : List ℕ) → member i is ≡ true → all_different (is ++ (i ∷ js)) ≡ false
+pub twice : (i : ℕ) (is js : List ℕ) → member i is ≡ true → all_different (is ++ (i ∷ js)) ≡ false
 unfolding all_different member
 twice i [] js h = absurd (true≢false (sym h))
 twice i (j ∷ is) js h =
@@ -66,7 +63,7 @@ twice i (j ∷ is) js h =
     rw (twice i is js k) (and-false (not (member j (is ++ (i ∷ js))))))
     (eq-or-ne i j)
 
-once : (i : ℕ) (is : List ℕ) → all_different is ≡ true → member i is ≡ false → all_different (is ++ (i ∷ [])) ≡ true
+pub once : (i : ℕ) (is : List ℕ) → all_different is ≡ true → member i is ≡ false → all_different (is ++ (i ∷ [])) ≡ true
 unfolding all_different member
 once i [] h k = refl
 once i (j ∷ is) h k =
@@ -78,14 +75,14 @@ once i (j ∷ is) h k =
     rw (member-append j is (i ∷ []), ne_eqb j i (λ e. n (sym e)), or-false (member j is), l, once i is r m))
     (eq-or-ne i j)
 
-not_member : (v : ℕ) (is : List ℕ) → ((j : ℕ) → j < length is → get_or is j 0 ≡ v → ⊥) → member v is ≡ false
+pub not_member : (v : ℕ) (is : List ℕ) → ((j : ℕ) → j < length is → get_or is j 0 ≡ v → ⊥) → member v is ≡ false
 unfolding member
 not_member v [] h = refl
 not_member v (i ∷ is) h =
     let n : v ≡ i → ⊥ = λ e. h 0 (omega arith) (sym e) in
     rw (ne_eqb v i n) (not_member v is (λ j k. h (suc j) (omega arith)))
 
-never : (v : ℕ) (is : List ℕ) → member v is ≡ false → (j : ℕ) → j < length is → get_or is j 0 ≡ v → ⊥
+pub never : (v : ℕ) (is : List ℕ) → member v is ≡ false → (j : ℕ) → j < length is → get_or is j 0 ≡ v → ⊥
 unfolding member
 never v [] m j h e = not-suc-le-zero h
 never v (i ∷ is) m zero h e = let z : true ≡ false = rw (eq-eqb v i (sym e)) at m in true≢false z
@@ -100,31 +97,6 @@ pub record NodeAt (l : List ℕ) (a e i : ℕ) : Type 0 where
   pub digits : DigitsAt l a e
   pub value : digits_value l a e ≡ i
 
-module _ (l starts ends is : List ℕ) (a e v n : ℕ) (long : length is ≡ n) (each : (j : ℕ) → j < n → NodeAt l (get_or starts j 0) (get_or ends j 0) (get_or is j 0)) (here : NodeAt l a e v) where
-  f : ℕ → Bool
-  f = apart l starts ends a e
-
-  apart_is : (j : ℕ) → j < n → f j ≡ not (eqb (get_or is j 0) v)
-  unfolding apart digits_value f
-  apart_is j h =
-      let p = each j h in
-      ap not (same_number _ _ p.digits.decimal here.digits.decimal ∙ ap₂ eqb p.value here.value)
-
-  new_true : allb n (apart l starts ends a e) ≡ true → member v is ≡ false
-  unfolding f
-  new_true h =
-      not_member v is
-      (λ j k q. let b : T (not (eqb (get_or is j 0) v)) = subst T (apart_is j (omega arith)) (allb-at n (apart l starts ends a e) (is_T _ h) j (omega arith)) in subst (λ x. T (not x)) (eq-eqb (get_or is j 0) v q) b)
-
-  new_false : allb n (apart l starts ends a e) ≡ false → member v is ≡ true
-  unfolding f
-  new_false h =
-      ⊎_elim (λ (m : member v is ≡ true). m)
-      (λ (m : member v is ≡ false).
-      let t : T (allb n (apart l starts ends a e)) = allb-all n (apart l starts ends a e) (λ j k. subst T (sym (apart_is j k ∙ ap not (ne_eqb (get_or is j 0) v (never v is m j (omega arith))))) tt) in
-      absurd (subst T h t))
-      (decide (member v is))
-
 -- ---- What is gathered.
 
 unfoldable pub ahead : List Term → Option (Piece (List Term)) → Option (Piece (List Term))
@@ -136,7 +108,7 @@ unfolding ahead
 ahead_nil none = refl
 ahead_nil (some p) = refl
 
-ahead_more : (ts : List Term) (t : Term) (o : Option (Piece (List Term))) → ahead ts (onward o (λ us. give (t ∷ us))) ≡ ahead (ts ++ (t ∷ [])) o
+pub ahead_more : (ts : List Term) (t : Term) (o : Option (Piece (List Term))) → ahead ts (onward o (λ us. give (t ∷ us))) ≡ ahead (ts ++ (t ∷ [])) o
 unfolding ahead onward
 ahead_more ts t none = refl
 ahead_more ts t (some p) = ap (λ us. some (record { value = us; rest = p.rest })) (sym (append_assoc ts (t ∷ []) p.value))
@@ -177,23 +149,23 @@ kept_start l at c h k =
     }
 
 -- One element more behind a list.
-get_d_before : (is : List ℕ) (i j : ℕ) → j < length is → get_or (is ++ (i ∷ [])) j 0 ≡ get_or is j 0
+pub get_d_before : (is : List ℕ) (i j : ℕ) → j < length is → get_or (is ++ (i ∷ [])) j 0 ≡ get_or is j 0
 get_d_before [] i j h = absurd (not-suc-le-zero h)
 get_d_before (k ∷ is) i zero h = refl
 get_d_before (k ∷ is) i (suc j) h = get_d_before is i j (le_of_suc-le-suc h)
 
-get_d_last : (is : List ℕ) (i j : ℕ) → j ≡ length is → get_or (is ++ (i ∷ [])) j 0 ≡ i
+pub get_d_last : (is : List ℕ) (i j : ℕ) → j ≡ length is → get_or (is ++ (i ∷ [])) j 0 ≡ i
 get_d_last [] i j e = rw e
 get_d_last (k ∷ is) i zero e = absurd (omega arith)
 get_d_last (k ∷ is) i (suc j) e = get_d_last is i j (omega arith)
 
-good_small : (z : ℤ) → good_coef z ≡ true → nat_abs z ≤ 31
+pub good_small : (z : ℤ) → good_coef z ≡ true → nat_abs z ≤ 31
 unfolding good_coef small
 good_small z g = leb→le (nat_abs z) 31 (and_left (leb (nat_abs z) 31) (not (eqb (nat_abs z) 0)) (is_T _ g))
 
 -- The term that was read is the one that stands there, as far as its coefficient is small.
 module _ (l : List ℕ) (i next v : ℕ) (z : ℤ) (read : capped cap_coef (spaced_term (drop i l)) ≡ some (record { value = record { coef = z; node = v }; rest = drop next l })) where
-  exact : (u : Term) × (spaced_term (drop i l) ≡ some (record { value = u; rest = drop next l })) × (z ≡ cap_signed u.coef) × (v ≡ u.node)
+  pub exact : (u : Term) × (spaced_term (drop i l) ≡ some (record { value = u; rest = drop next l })) × (z ≡ cap_signed u.coef) × (v ≡ u.node)
   unfolding cap_coef
   exact =
       let x = exact_some cap_coef (spaced_term (drop i l)) read in
@@ -214,7 +186,7 @@ module _ (l : List ℕ) (i next v : ℕ) (z : ℤ) (read : capped cap_coef (spac
       let t = takes_term (drop i l) (record { value = x.0; rest = drop next l }) x.1 in
       omega (arith, length-drop i l, length-drop next l)
 
-  bad_coef : good_coef z ≡ false → (small exact.0.coef && not (eqb (nat_abs exact.0.coef) 0)) ≡ false
+  pub bad_coef : good_coef z ≡ false → (small exact.0.coef && not (eqb (nat_abs exact.0.coef) 0)) ≡ false
   unfolding good_coef small
   bad_coef g =
       let x = exact in
@@ -227,27 +199,27 @@ module _ (l : List ℕ) (i next v : ℕ) (z : ℤ) (read : capped cap_coef (spac
 
 -- ---- What makes a sum a bad one.
 
-long_bad : (d : ℤ) (us : List Term) → 11 < length us → good_sum d us ≡ false
+pub long_bad : (d : ℤ) (us : List Term) → 11 < length us → good_sum d us ≡ false
 unfolding good_sum
 long_bad d us h = rw (lt-leb (length us) 11 h, and-false (leb 1 (length us))) (and-false (small d && good_terms us))
 
-terms_bad : (d : ℤ) (us : List Term) → good_terms us ≡ false → good_sum d us ≡ false
+pub terms_bad : (d : ℤ) (us : List Term) → good_terms us ≡ false → good_sum d us ≡ false
 unfolding good_sum
 terms_bad d us h = rw (h, and-false (small d))
 
-same_bad : (d : ℤ) (us : List Term) → all_different (sources us) ≡ false → good_sum d us ≡ false
+pub same_bad : (d : ℤ) (us : List Term) → all_different (sources us) ≡ false → good_sum d us ≡ false
 unfolding good_sum
 same_bad d us h = rw (h, and-false (leb 1 (length us) && leb (length us) 11)) (and-false (small d && good_terms us))
 
-head_bad : (ts : List Term) (u : Term) (ws : List Term) → (small u.coef && not (eqb (nat_abs u.coef) 0)) ≡ false → (good_terms ts && good_terms (u ∷ ws)) ≡ false
+pub head_bad : (ts : List Term) (u : Term) (ws : List Term) → (small u.coef && not (eqb (nat_abs u.coef) 0)) ≡ false → (good_terms ts && good_terms (u ∷ ws)) ≡ false
 unfolding good_terms
 head_bad ts u ws h = rw h (and-false (good_terms ts))
 
-twice_at : (v : ℕ) (u : Term) (is : List ℕ) (ws : List Term) → v ≡ u.node → member v is ≡ true → all_different (is ++ sources (u ∷ ws)) ≡ false
+pub twice_at : (v : ℕ) (u : Term) (is : List ℕ) (ws : List Term) → v ≡ u.node → member v is ≡ true → all_different (is ++ sources (u ∷ ws)) ≡ false
 unfolding sources
 twice_at v u is ws q m = twice u.node is (sources ws) (rw q at m)
 
-term_good : (z : ℤ) (v : ℕ) → good_coef z ≡ true → good_terms (record { coef = z; node = v } ∷ []) ≡ true
+pub term_good : (z : ℤ) (v : ℕ) → good_coef z ≡ true → good_terms (record { coef = z; node = v } ∷ []) ≡ true
 unfolding good_coef good_terms
 term_good z v g = rw g
 
@@ -277,7 +249,7 @@ module _ (l : List ℕ) (at : ℕ) (c : ℤ) (t : Terms) (i : ℕ) (ts : List Te
         ⊎_elim (λ (h : t.lin.n < 11). h)
         (λ (h : 11 ≤ t.lin.n). let q : false ≡ true = rw (le-leb 11 t.lin.n h) at g in absurd (true≢false (sym q))) (lt_or_le t.lin.n 11)
 
-    passes : good_next l t z a e ≡ true → (good_coef z ≡ true) × (allb t.lin.n (apart l t.starts t.ends a e) ≡ true)
+    pub passes : good_next l t z a e ≡ true → (good_coef z ≡ true) × (allb t.lin.n (apart l t.starts t.ends a e) ≡ true)
     unfolding good_next
     passes g =
         let q : (if good_coef z then allb t.lin.n (apart l t.starts t.ends a e) else false) ≡ true = rw (lt-leb 11 t.lin.n (room g)) at g in
@@ -288,77 +260,10 @@ module _ (l : List ℕ) (at : ℕ) (c : ℤ) (t : Terms) (i : ℕ) (ts : List Te
         by true f q = (f, q)
         by false f q = absurd (true≢false (sym q))
 
-    kept-terms : good_coef z ≡ true → many spaced_term (drop at l) ≡ ahead (ts ++ (record { coef = z; node = v } ∷ [])) (many spaced_term (drop next l))
+    pub kept-terms : good_coef z ≡ true → many spaced_term (drop at l) ≡ ahead (ts ++ (record { coef = z; node = v } ∷ [])) (many spaced_term (drop next l))
     kept-terms g =
         k.rest ∙ ap (ahead ts) (many_some spaced_term takes_term (drop i l) (record { value = record { coef = z; node = v }; rest = drop next l }) (good_exact l i next v z read g))
         ∙ ahead_more ts (record { coef = z; node = v }) (many spaced_term (drop next l))
-
-    pub kept_next : good_next l t z a e ≡ true → next ≤ length l → s ≡ min 65536 v
-        → Kept l at c (with_place t z s a e) next (ts ++ (record { coef = z; node = v } ∷ []))
-    unfolding with_place with_term sources cap_term
-    kept_next g h w =
-        let n = room g in
-        let p = passes g in
-        let x : Term = record { coef = z; node = v } in
-        let q : sources (ts ++ (x ∷ [])) ≡ sources ts ++ (v ∷ []) = sources-append ts (x ∷ []) in
-        let b : nat_abs z ≤ 31 = good_small z p.0 in
-        let m = sources-length ts in
-        let r = k.count in
-        record {
-          inside = h;
-          constant = k.constant;
-          coefs_long = simp length-set k.coefs_long;
-          sources_long = simp length-set k.sources_long;
-          starts_long = simp length-set k.starts_long;
-          ends_long = simp length-set k.ends_long;
-          small = small_more t.lin z s n b (omega (arith, k.coefs_long)) k.small;
-          count = simp length-append (omega arith);
-          terms = terms_more t.lin z s (omega (arith, k.coefs_long)) (omega (arith, k.sources_long))
-              ∙ ap₂ (λ (us : List Term) (y : ℕ). us ++ (record { coef = z; node = y } ∷ [])) k.terms w ∙ sym (cap_terms_more ts x);
-          places = λ j d.
-              ⊎_elim
-              (λ (f : j ≡ t.lin.n).
-              rw (f, q, get_or-set_same t.starts t.lin.n a 0 (omega (arith, k.starts_long)), get_or-set_same t.ends t.lin.n e 0 (omega (arith, k.ends_long)), get_d_last (sources ts) v t.lin.n (omega arith)) here)
-              (λ (f : j ≡ t.lin.n → ⊥).
-              rw (q, get_or-set_other t.starts t.lin.n j a 0 f, get_or-set_other t.ends t.lin.n j e 0 f, get_d_before (sources ts) v j (omega arith)) (k.places j (omega arith)))
-              (eq-or-ne j t.lin.n);
-          good = terms-append ts (x ∷ []) ∙ rw (k.good, term_good z v p.0);
-          differ = rw q (once v (sources ts) k.differ (new_true l t.starts t.ends (sources ts) a e v t.lin.n (omega arith) k.places here p.1));
-          rest = kept-terms p.0;
-        }
-
-    -- a further term that is none of a good sum
-    bad_sum : good_next l t z a e ≡ false → (d : ℤ) (ws : List Term) → good_sum d ((ts ++ ((exact l i next v z read).0 ∷ [])) ++ ws) ≡ false
-    unfolding good_next
-    bad_sum g d ws = ⊎_elim (λ (h : t.lin.n < 11). by (good_coef z) refl (rw (lt-leb 11 t.lin.n h) at g)) full (lt_or_le t.lin.n 11)
-      where
-        x : (u : Term) × (spaced_term (drop i l) ≡ some (record { value = u; rest = drop next l })) × (z ≡ cap_signed u.coef) × (v ≡ u.node)
-        x = exact l i next v z read
-
-        us : List Term
-        us = (ts ++ (x.0 ∷ [])) ++ ws
-
-        full : 11 ≤ t.lin.n → good_sum d us ≡ false
-        full h = long_bad d us (let r = k.count in simp length-append (omega arith))
-
-        by : (b : Bool) → good_coef z ≡ b → (if b then allb t.lin.n (apart l t.starts t.ends a e) else false) ≡ false → good_sum d us ≡ false
-        by true f h =
-            let m : member v (sources ts) ≡ true = new_false l t.starts t.ends (sources ts) a e v t.lin.n (let r = k.count in omega (arith, sources-length ts)) k.places here h in
-            same_bad d us (rw (append_assoc ts (x.0 ∷ []) ws, sources-append ts (x.0 ∷ ws)) (twice_at v x.0 (sources ts) ws x.3 m))
-        by false f h =
-            terms_bad d us (rw (append_assoc ts (x.0 ∷ []) ws, terms-append ts (x.0 ∷ ws)) (head_bad ts x.0 ws (bad_coef l i next v z read f)))
-
-    pub kept_spoilt : good_next l t z a e ≡ false → (d : ℤ) (us : List Term) (y : List ℕ)
-        → many spaced_term (drop at l) ≡ some (record { value = us; rest = y }) → good_sum d us ≡ false
-    unfolding ahead
-    kept_spoilt g d us y h =
-        let x = exact l i next v z read in
-        let q = k.rest ∙ ap (ahead ts) (many_some spaced_term takes_term (drop i l) (record { value = x.0; rest = drop next l }) x.1) ∙ ahead_more ts x.0 (many spaced_term (drop next l)) in
-        by (many spaced_term (drop next l)) (sym q ∙ h)
-      where
-        by : (o : Option (Piece (List Term))) → ahead (ts ++ ((exact l i next v z read).0 ∷ [])) o ≡ some (record { value = us; rest = y }) → good_sum d us ≡ false
-        by none f = absurd (none-ne-some _ f)
-        by (some p) f = subst (λ (r : Piece (List Term)). good_sum d r.value ≡ false) (some-injective _ _ f) (bad_sum g d p.value)
 
 -- ---- A term that was read, taken apart.
 

@@ -1,9 +1,9 @@
 -- A `lin` line behind its first word: the sum that it is, if it is a good one.
-use Rattle.std.specs.Prelude.{◌≡◌, Bool, ◌&&◌, ℕ, ◌+◌, ◌-◌, ◌<◌, ◌≤◌, min, eqb, ℤ, pos, length, drop}
+use Rattle.std.specs.Prelude.{◌≡◌, Bool, ◌&&◌, ℕ, ◌-◌, ◌<◌, ◌≤◌, min, eqb, ℤ, pos, length, drop}
 use Rattle.std.proofs.Math.Path.{refl, sym, ap, ap₂, subst}
 use Rattle.std.proofs.Common.{◌∙◌, true≢false, ⊎_elim, arith, length-drop, to_z, of_z}
 use Rattle.std.proofs.Math.Bool.{true, false, and-false}
-use mathlib.Core.List.{List, [], ◌∷◌, ◌++◌}
+use mathlib.Core.List.{List, []}
 use Rattle.std.proofs.Math.Option.{Option, none, some, some-injective}
 use borrow.Author.Tests.{eq-eqb, ne_eqb, le-leb, lt-leb}
 use Rattle.std.proofs.Math.Dec.{leb→le}
@@ -20,8 +20,8 @@ use Rattle.forms.specs.declared.Signed.TheVariants.{At as Value, Nothing}
 use Rattle.text.specs.Capped.{capped, exact_some, exact_none}
 use Rattle.text.specs.Number.{digits_value}
 use Rattle.text.specs.Reads.{Reads, found, ends}
-use Rattle.network_text.specs.Gather.{Kept, kept_start, kept_next, kept_end, kept_spoilt, room, turn_read, turn_here, turn-back, turn_end, turn_source}
-use Rattle.network_text.specs.Places.{no_places, with_place, good_next}
+use Rattle.network_text.specs.Gather.{Kept, kept_start, kept_end, room, turn_read, turn_here, turn-back}
+use Rattle.network_text.specs.Places.{no_places, good_next}
 use Rattle.network_text.specs.Lines.{cap_terms, good_form, good_line}
 use Rattle.network_text.specs.Term.{spaced_term, cap_coef, ReadsTerm}
 use Rattle.network_text.specs.Terms.{Small, no_terms, terms_of, small_none}
@@ -177,28 +177,11 @@ module _ {l : List ℕ} {at : ℕ} {c : ℤ} {t : Terms} {i : ℕ} {ts : List Te
 
   -- a further term
   module _ {r : TermRead} {z : ℤ} {s a e next : ℕ} (R : ReadsTerm l i r) (q : r ≡ At z s a e next) {b : Bool} (g : b ≡ good_next l t (to_z w64 (of_z w64 z)) a e) where
-    judged : b ≡ good_next l t z a e
+    pub judged : b ≡ good_next l t z a e
     judged = g ∙ ap (λ y. good_next l t y a e) (turn-back R q)
-
-    pub terms_spoilt : b ≡ false → TermsRead l at c (record { good = false; lin = t.lin; end = i })
-    terms_spoilt h =
-        record {
-          small = k.small;
-          constant = k.constant;
-          inside = k.inside;
-          whole = λ w. absurd (true≢false (sym w));
-          spoilt = λ _. kept_spoilt l at c t i ts k z s a e next (digits_value l a e) (turn_read R q) (turn_here R q) (sym judged ∙ h);
-        }
 
     pub terms-room : b ≡ true → t.lin.n < 11
     terms-room h = room l at c t i ts k z s a e next (digits_value l a e) (turn_read R q) (turn_here R q) (sym judged ∙ h)
-
-    pub terms_next : {u : Terms} → b ≡ true → u ≡ with_place t (to_z w64 (of_z w64 z)) s a e → (us : List Term) × Kept l at c u next us
-    terms_next h w =
-        let o = w ∙ ap (λ y. with_place t y s a e) (turn-back R q) in (
-          ts ++ (record { coef = z; node = digits_value l a e } ∷ []),
-          rw o (kept_next l at c t i ts k z s a e next (digits_value l a e) (turn_read R q) (turn_here R q) (sym judged ∙ h) (turn_end R q) (turn_source R q)),
-        )
 
 pub terms-first : {l : List ℕ} {at : ℕ} {t : Terms} (c : ℤ) → at ≤ length l → nat_abs c ≤ 31 → t ≡ no_places c → (ts : List Term) × Kept l at c t at ts
 terms-first {l} {at} c h k e = ([], rw e (kept_start l at c h k))

@@ -1,4 +1,4 @@
-use Rattle.std.proofs.Common.{◌-◌, rules}
+use Rattle.std.proofs.Common.{rules}
 use Rattle.circuit.specs.Reading.{going_start, going_next, going_less, going_refused, going_empty, going_good}
 use Rattle.circuit.proofs.read.Goals as goal
 

@@ -1,4 +1,4 @@
-use Rattle.std.proofs.Common.{◌-◌, arith}
+use Rattle.std.proofs.Common.{arith}
 use Rattle.network.specs.Step.{no_lines, lines_start, lines_refused, lines_next, lines_unstarted, lines-ended}
 use Rattle.network.specs.View.{held}
 use Rattle.network.proofs.read.Goals as goal

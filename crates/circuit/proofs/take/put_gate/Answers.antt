@@ -1,4 +1,4 @@
-use Rattle.std.proofs.Common.{◌*◌, ◌-◌, ◌≤◌, arith, rules, length-set}
+use Rattle.std.proofs.Common.{◌*◌, ◌≤◌, arith, rules, length-set}
 use lib.Seq.{paste-zero}
 use Rattle.circuit.specs.GateBytes.{put_next, put_done}
 use Rattle.circuit.proofs.take.put_gate.Goals as goal

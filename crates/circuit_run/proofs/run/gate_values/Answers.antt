@@ -1,4 +1,4 @@
-use Rattle.std.proofs.Common.{◌∙◌, ◌-◌, arith, rules}
+use Rattle.std.proofs.Common.{◌∙◌, arith, rules}
 use Rattle.circuit_run.specs.Run.{bits_many, run_start, run-bits, run_slots, run_next, run_done}
 use Rattle.circuit_run.proofs.run.gate_values.Goals as goal
 

@@ -1,4 +1,4 @@
-use Rattle.std.proofs.Common.{sym, ◌∙◌, ◌-◌, arith, rules}
+use Rattle.std.proofs.Common.{sym, ◌∙◌, arith, rules}
 use Rattle.laws.specs.Front.{front_zero}
 use Rattle.circuit_run.specs.Run.{fill_next, fill_done}
 use Rattle.circuit_run.proofs.run.input_values.Goals as goal

@@ -1,4 +1,4 @@
-use Rattle.std.proofs.Common.{◌≡◌, ap, ◌∙◌, ◌-◌, ◌≤◌, ◌<◌, arith, rules, length}
+use Rattle.std.proofs.Common.{◌≡◌, ap, ◌∙◌, ◌≤◌, ◌<◌, arith, rules, length}
 use Rattle.laws.specs.Front.{filling_start}
 use Rattle.rules.specs.Circuit.{wire_bit}
 use Rattle.rules.specs.CircuitText.{no_node}

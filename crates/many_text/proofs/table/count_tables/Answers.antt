@@ -1,4 +1,4 @@
-use Rattle.std.proofs.Common.{◌-◌, ◌<◌, ◌^◌, length, arith, rules}
+use Rattle.std.proofs.Common.{◌<◌, ◌^◌, length, arith, rules}
 use Rattle.many_text.specs.Tables.{counted_start, counted_all, counted_spoilt, counted_next, table_bits, table_less, table_inside}
 use Rattle.many_text.proofs.table.count_tables.Goals as goal
 use Rattle.many_text.proofs.table.count_tables.Goals.{After-shared_slice_known-1}

@@ -1,4 +1,4 @@
-use Rattle.std.proofs.Common.{◌<◌, ◌^◌, length, rules}
+use Rattle.std.proofs.Common.{◌≡◌, ◌<◌, ◌^◌, length, arith, rules}
 use Rattle.network.specs.Step.{kept, step_refused, line_ready, step_next}
 use Rattle.network.proofs.put.take_line.Goals as goal
 
@@ -13,8 +13,10 @@ pub put_line-header-requires : goal.put_line-header-requires
 put_line-header-requires c =
     -- a slice's length is a number of the machine
     let long : length c.args.text.now < 2 ^ 64 = search rules in
-    line_ready c.args.judge c.requires.0 c.requires.1 c.read_line-r.ensures c.line_number-number.ensures long c.if-number-ne0.false
+    let fine : c.line_number-number.result ≡ 0 = omega arith in
+    line_ready c.args.judge c.requires.0 c.requires.1 c.read_line-r.ensures c.line_number-number.ensures long fine
 
 pub returns : goal.returns
 returns c =
-    step_next c.args.judge c.requires.0 c.requires.1 c.read_line-r.ensures c.line_number-number.ensures c.if-number-ne0.false c.put_line-header.ensures
+    let fine : c.line_number-number.result ≡ 0 = omega arith in
+    step_next c.args.judge c.requires.0 c.requires.1 c.read_line-r.ensures c.line_number-number.ensures fine c.put_line-header.ensures

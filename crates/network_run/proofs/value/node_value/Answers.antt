@@ -1,4 +1,4 @@
-use Rattle.std.proofs.Common.{◌≡◌, sym, ap₂, ◌∙◌, true≢false, ◌<◌, arith, ℕ, List, ℤ, pos, length, get_or}
+use Rattle.std.proofs.Common.{◌≡◌, sym, ap₂, ◌∙◌, true≢false, ◌<◌, arith, ℕ, List, ℤ, pos, get_or}
 use Rattle.std.proofs.Math.Option.{Option}
 use Rattle.laws.specs.Integer.{read_back}
 use Rattle.nodes.specs.Kinds.{sum_kind, boot_kind, third_kind}

@@ -1,9 +1,9 @@
-use Rattle.std.proofs.Common.{◌≡◌, sym, ap, ◌∙◌, ◌+◌, ◌*◌, ◌≤◌, ◌<◌, arith, ℕ, List, ℤ, to_z-of_z, w64, SFits, to_z, pos, nat_abs, ◌+ℤ◌, ◌*ℤ◌, length, get_or}
+use Rattle.std.proofs.Common.{◌≡◌, sym, ap, ◌∙◌, ◌+◌, ◌*◌, ◌≤◌, ◌<◌, arith, ℕ, List, ℤ, to_z-of_z, w64, SFits, to_z, pos, nat_abs, ◌+ℤ◌, length, get_or}
 use Rattle.laws.specs.Integer.{read_back, fits_abs}
 use Rattle.rules.specs.Network.{LutNode, sum_from}
 use Rattle.rules.specs.Store.{needs, terms_of}
 use Rattle.nodes.specs.Nodes.{terms_need, few_terms, source_before, as_many, constant_small, coefficient-small}
-use Rattle.nodes.specs.View.{term, node_of, Fine, IsNode}
+use Rattle.nodes.specs.View.{node_of, Fine, IsNode}
 use Rattle.network_run.specs.Value.{sum_start, sum_next, sum_end, sum_size, term_is}
 use Rattle.network_run.proofs.value.sum_of.Goals as goal
 use Rattle.network_run.proofs.value.sum_of.Goals.{In-loop-k}

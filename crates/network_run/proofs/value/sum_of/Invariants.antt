@@ -1,4 +1,4 @@
-use Rattle.std.proofs.Common.{◌≡◌, ◌+◌, ◌*◌, ◌-◌, ◌≤◌, w64, to_z, nat_abs, length}
+use Rattle.std.proofs.Common.{◌≡◌, ◌+◌, ◌*◌, ◌-◌, ◌≤◌, nat_abs, length}
 use Rattle.rules.specs.Network.{sum_from}
 use Rattle.rules.specs.Store.{terms_of}
 use Rattle.nodes.specs.Nodes.{constant_of}

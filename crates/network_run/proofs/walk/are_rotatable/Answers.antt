@@ -1,4 +1,4 @@
-use Rattle.std.proofs.Common.{sym, ◌∙◌, ◌-◌, arith}
+use Rattle.std.proofs.Common.{sym, ◌∙◌, arith}
 use Rattle.nodes.specs.View.{store_of, is_node}
 use Rattle.network_run.specs.Nodes.{turns_start, turns_next, turns_not, turns_end}
 use Rattle.network_run.proofs.walk.are_rotatable.Goals as goal

@@ -1,4 +1,4 @@
-use Rattle.std.proofs.Common.{ap, subst, ◌-◌, to_z-of_z, w64, SFits, rules}
+use Rattle.std.proofs.Common.{ap, subst, to_z-of_z, w64, SFits, rules}
 use Rattle.network_run.specs.Nodes.{running_start, running_before, running_broken, running_next, running_done}
 use Rattle.network_run.specs.Value.{value_of, SmallValue}
 use Rattle.network_run.proofs.walk.run_rotatable.Goals as goal

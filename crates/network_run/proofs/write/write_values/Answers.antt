@@ -1,4 +1,4 @@
-use Rattle.std.proofs.Common.{refl, sym, ◌-◌, arith, length-set}
+use Rattle.std.proofs.Common.{refl, sym, arith, length-set}
 use Rattle.laws.specs.Front.{front_zero}
 use Rattle.laws.specs.Integer.{read_back}
 use Rattle.network_run.specs.Write.{write_next, write_done}

@@ -1,4 +1,4 @@
-use Rattle.std.proofs.Common.{rules, ◌-◌, true, sym}
+use Rattle.std.proofs.Common.{rules, sym}
 use Rattle.network_text.specs.Places.{part_same, part_other, all_apart}
 use Rattle.laws.specs.Test.{allb_none, allb_more, allb_fails}
 use Rattle.network_text.proofs.sum.is_new.Goals as goal

@@ -1,6 +1,7 @@
-use Rattle.std.proofs.Common.{to_z-of_z, arith, to_z, of_z, w64, ◌-◌}
+use Rattle.std.proofs.Common.{to_z-of_z, arith, to_z, of_z, w64}
 use Rattle.network_text.specs.Term.{term_taken}
-use Rattle.network_text.specs.Sum.{terms-first, terms-whole, terms_spoilt, terms-room, terms_next}
+use Rattle.network_text.specs.Sum.{terms-first, terms-whole, terms-room}
+use Rattle.network_text.proofs.Gather.{terms_spoilt, terms_next}
 use Rattle.text.specs.Reads.{found}
 use Rattle.network_text.specs.Gather.{kept_parts, turn-digits, turn_end, turn-less}
 use Rattle.network_text.proofs.sum.read_terms.Goals as goal

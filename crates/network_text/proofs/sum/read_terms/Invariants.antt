@@ -1,4 +1,4 @@
-use Rattle.std.proofs.Common.{to_z, w64, length, List, ◌-◌}
+use Rattle.std.proofs.Common.{length, List, ◌-◌}
 use Rattle.network_text.specs.Gather.{Kept}
 use Rattle.rules.specs.Network.{Term}
 use Rattle.network_text.proofs.sum.read_terms.Given as goal
