@@ -1,11 +1,11 @@
-use Rattle.std.proofs.Common.{◌≡◌, ap₂, ◌∙◌, ℤ, nat_abs, ◌+ℤ◌, ◌-ℤ◌, ◌*ℤ◌, w64, to_z, of_z, to_z-of_z}
+use Rattle.std.proofs.Common.{rules, ◌≡◌, ap₂, ◌∙◌, ℤ, nat_abs, ◌+ℤ◌, ◌-ℤ◌, ◌*ℤ◌, w64, to_z, of_z, to_z-of_z}
 use lib.Signed.{quot_z}
 use Rattle.laws.specs.Integer.{le_same, read_back}
 use Rattle.scale_pair.specs.declared.pair.Pair.{Pair}
 use Rattle.merged_rows.specs.MergedValues.{merged_value}
 use Rattle.scale_pair.specs.Pair.{level_of, small_same, value_small}
 use Rattle.scale_pair.proofs.pair.level.Goals as goal
-use Rattle.scale_pair.proofs.pair.level.Goals.{After-struct_told-4-1}
+use Rattle.scale_pair.proofs.pair.level.Goals.{After-quotient}
 
 -- `scale_pair::pair::level` meets its contract.
 value : (a b d x y a' b' d' x' y' v v' q q' : ℤ) → a' ≡ a → b' ≡ b → d' ≡ d → x' ≡ x → y' ≡ y → v ≡ (a' *ℤ x') +ℤ (b' *ℤ y') → v' ≡ v → q ≡ quot_z v' d' → q' ≡ q
@@ -15,20 +15,20 @@ value a b d x y a' b' d' x' y' v v' q q' ea eb ed ex ey ev ew eq er =
     let w : v' ≡ (a *ℤ x) +ℤ (b *ℤ y) = rw (ew, ev, ea, eb, ex, ey) in
     er ∙ eq ∙ ap₂ quot_z w ed
 
-module _ (c : After-struct_told-4-1) where
+module _ (c : After-quotient) where
   value-is : to_z w64 (of_z w64 c.quotient.result) ≡ merged_value c.args.c.a c.args.c.b c.args.c.divisor c.args.x c.args.y
   value-is =
       let u = c.wide in
       let v = c.wide-2 in
       let w = c.scaled-v in
       let q = c.quotient in
-      value _ _ _ _ _ _ _ _ _ _ _ _ _ _ (read_back c.args.c.a c.struct_told-1.given.1.0.1) (read_back c.args.c.b c.struct_told-2-1.given.1.1.0.1)
-      (read_back c.args.c.divisor c.struct_told-3-1.given.1.1.1.0.1)
+      value _ _ _ _ _ _ _ _ _ _ _ _ _ _ (read_back c.args.c.a (search rules)) (read_back c.args.c.b (search rules))
+      (read_back c.args.c.divisor (search rules))
       (read_back u.result u.type_inv ∙ u.ensures ∙ to_z-of_z c.ranges.x) (read_back v.result v.type_inv ∙ v.ensures ∙ to_z-of_z c.ranges.y)
-      w.ensures.0 (read_back w.result w.type_inv) q.ensures (read_back q.result q.type_inv)
+      w.ensures.value (read_back w.result w.type_inv) q.ensures (read_back q.result q.type_inv)
 
   low-is : to_z w64 (of_z w64 c.args.c.low) ≡ c.args.c.low
-  low-is = read_back c.args.c.low c.struct_told-4-1.given.1.1.1.1.0.1
+  low-is = read_back c.args.c.low (search rules)
 
 level_is : (c : Pair) (x y v low : ℤ) → v ≡ merged_value c.a c.b c.divisor x y → low ≡ c.low → nat_abs (v -ℤ low) ≡ level_of c x y
 unfolding level_of
@@ -38,14 +38,14 @@ pub scaled-v-requires : goal.scaled-v-requires
 scaled-v-requires c =
     let u = c.wide in
     let v = c.wide-2 in
-    let x = small_same _ _ _ (read_back u.result u.type_inv ∙ u.ensures ∙ to_z-of_z c.ranges.x) c.requires.x-small in
-    let y = small_same _ _ _ (read_back v.result v.type_inv ∙ v.ensures ∙ to_z-of_z c.ranges.y) c.requires.y-small in
-    (small_same _ _ _ (read_back c.args.c.a c.struct_told-1.given.1.0.1) c.requires.scaling.first, (x, (small_same _ _ _ (read_back c.args.c.b c.struct_told-2-1.given.1.1.0.1) c.requires.scaling.second, y)))
+    let x = small_same _ _ _ (read_back u.result u.type_inv ∙ u.ensures ∙ to_z-of_z c.ranges.x) c.requires.x_small in
+    let y = small_same _ _ _ (read_back v.result v.type_inv ∙ v.ensures ∙ to_z-of_z c.ranges.y) c.requires.y_small in
+    (small_same _ _ _ (read_back c.args.c.a (search rules)) c.requires.scaling.first, (x, (small_same _ _ _ (read_back c.args.c.b (search rules)) c.requires.scaling.second, y)))
 
 pub above-requires : goal.above-requires
 above-requires c =
-    let s = start c in
-    (le_same _ _ _ _ (low-is c) (value-is c) s.pre.above, (small_same _ _ _ (value-is c) (value_small _ _ _ _ _ s.pre.scaling s.pre.x_small s.pre.y_small), small_same _ _ _ (low-is c) s.pre.low_small))
+    let q = (goal.at.above-requires c).After-quotient in
+    (le_same _ _ _ _ (low-is q) (value-is q) c.requires.above, (small_same _ _ _ (value-is q) (value_small _ _ _ _ _ c.requires.scaling c.requires.x_small c.requires.y_small), small_same _ _ _ (low-is q) c.requires.low_small))
 
 pub returns : goal.returns
-returns c = c.above.ensures ∙ level_is _ _ _ _ _ (value-is (goal.at.returns c).After-struct_told-4-1) (low-is (goal.at.returns c).After-struct_told-4-1)
+returns c = c.above.ensures ∙ level_is _ _ _ _ _ (value-is (goal.at.returns c).After-quotient) (low-is (goal.at.returns c).After-quotient)

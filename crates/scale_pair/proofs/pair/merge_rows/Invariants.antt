@@ -1,4 +1,4 @@
-use Rattle.std.proofs.Common.{◌≡◌, ◌-◌, ◌≤◌, length, take, w64, to_z}
+use Rattle.std.proofs.Common.{◌≡◌, ◌-◌, ◌≤◌, length, take}
 use Rattle.scale_pair.specs.Pair.{merged_row}
 use Rattle.scale_pair.proofs.pair.merge_rows.Given as goal
 

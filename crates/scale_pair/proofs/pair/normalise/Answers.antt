@@ -5,11 +5,11 @@ use Rattle.scale_pair.proofs.pair.normalise.Goals as goal
 
 -- `scale_pair::pair::normalise` meets its contract.
 pub coefficient_normalization_divisor-d-requires : goal.coefficient_normalization_divisor-d-requires
-coefficient_normalization_divisor-d-requires c = machine c.before.args.coefs.now c.before.requires
+coefficient_normalization_divisor-d-requires c = machine c.args.coefs.now c.requires
 
 pub divide_all-requires : goal.divide_all-requires
 divide_all-requires c =
-    let s = c.before in
+    let s = c in
     let d = c.coefficient_normalization_divisor-d in
     (divisor_used _ s.args.coefs.now _ (read_back d.result d.type_inv ∙ d.ensures), machine s.args.coefs.now s.requires)
 
@@ -23,4 +23,4 @@ pub returns-else-d-ne1 : goal.returns-else-d-ne1
 returns-else-d-ne1 c =
     let d = c.coefficient_normalization_divisor-d in
     let is = read_back d.result d.type_inv ∙ d.ensures in
-    (is, undivided _ c.before.args.coefs.now _ is (ap (to_z w64) c.if-d-ne1.false))
+    (is, undivided _ c.args.coefs.now _ is (ap (to_z w64) c.if-d-ne1.false))

@@ -1,4 +1,5 @@
 use Rattle.std.proofs.Common.{◌≡◌, sym, ap, ◌∙◌, true, false}
+use Rattle.std.proofs.lemmas.Bool.{not-true, not-false}
 use Rattle.laws.specs.Test.{if◌then◌else◌}
 use Rattle.rules.specs.Cone.{less}
 use Rattle.scale_pair.specs.declared.score.Score.{Score}
@@ -22,10 +23,10 @@ module _ (best s : Score) where
   kept e f = ap (λ t. if t then s else best) (sym f) ∙ found e
 
 pub returns-then-not-best : goal.returns-then-not-best
-returns-then-not-best c = first _ _ (c.if-not-best.true)
+returns-then-not-best c = first _ _ (not-true _ c.if-not-best.true)
 
 pub returns-then-is_less : goal.returns-then-is_less
-returns-then-is_less c = lower _ _ (c.if-not-best.false) (sym c.is_less.ensures ∙ c.if-is_less.true)
+returns-then-is_less c = lower _ _ (not-false _ c.if-not-best.false) (sym c.is_less.ensures ∙ c.if-is_less.true)
 
 pub returns : goal.returns
-returns c = kept _ _ (c.if-not-best.false) (sym c.is_less.ensures ∙ c.if-is_less.false)
+returns c = kept _ _ (not-false _ c.if-not-best.false) (sym c.is_less.ensures ∙ c.if-is_less.false)
