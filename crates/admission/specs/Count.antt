@@ -6,7 +6,7 @@ use Rattle.std.proofs.Math.Bool.{true, false, or-false, or-true, or_assoc}
 use mathlib.Core.List.{List, [], ◌∷◌, ◌++◌, append-nil}
 use native.Mathlib.Omega.{arith}
 use Rattle.laws.specs.Tabulate.{tabulate, tabulate-length, tabulate-at, tabulate_snoc}
-use Rattle.laws.specs.Test.{if◌then◌else◌, if_both, eq-or-ne}
+use Rattle.laws.specs.Test.{if◌then◌otherwise◌, if_both, eq-or-ne}
 use Rattle.rules.specs.declared.Stats.{Stats}
 use Rattle.rules.specs.Network.{LutNode, Input, Linear, Bootstrap, is_input, is_linear, is_bootstrap, table_length, node_norm, count, largest, boot_sources, member, different, node_depth, depths_from, depths, depth, largest_depth, has_centre}
 use Rattle.rules.specs.Network as W
@@ -23,7 +23,7 @@ use Rattle.nodes.specs.View.{node_of, store_of, depth_in, centre_in, store_lengt
 -- How many tables of the first i nodes have this centre in their records.
 unfoldable pub tables_of : List ℕ → ℕ → ℕ → ℕ
 tables_of bytes k zero = 0
-tables_of bytes k (suc i) = tables_of bytes k i + (if (is_bootstrap (node_of bytes i) && eqb (centre_in bytes i) k) then 1 else 0)
+tables_of bytes k (suc i) = tables_of bytes k i + (if (is_bootstrap (node_of bytes i) && eqb (centre_in bytes i) k) then 1 otherwise 0)
 
 -- The statistics of these nodes among all of them, with n outputs and so many tables of each centre.
 unfoldable pub stats_among : List LutNode → List LutNode → ℕ → (ℕ → ℕ) → Stats
@@ -75,7 +75,7 @@ with_boot s n taken len =
       inputs = s.inputs;
       sums = s.sums;
       boots = s.boots + 1;
-      sources = if taken then s.sources else (s.sources + 1);
+      sources = if taken then s.sources otherwise (s.sources + 1);
       longest = max s.longest len;
       norm = max s.norm n;
       outputs = s.outputs;
@@ -97,9 +97,9 @@ with_centre s c =
       norm = s.norm;
       outputs = s.outputs;
       depth = s.depth;
-      centre0 = if eqb c 0 then (s.centre0 + 1) else s.centre0;
-      centre1 = if eqb c 1 then (s.centre1 + 1) else s.centre1;
-      centre2 = if eqb c 2 then (s.centre2 + 1) else s.centre2;
+      centre0 = if eqb c 0 then (s.centre0 + 1) otherwise s.centre0;
+      centre1 = if eqb c 1 then (s.centre1 + 1) otherwise s.centre1;
+      centre2 = if eqb c 2 then (s.centre2 + 1) otherwise s.centre2;
     }
 
 abbrev pub with_depth : Stats → ℕ → Stats
@@ -136,21 +136,21 @@ unfolding member
 member_more j i [] = or-false (eqb j i)
 member_more j i (k ∷ is) = rw (member_more j i is) (sym (or_assoc (eqb j k) (member j is) (eqb j i)))
 
-different_more : (i : ℕ) (is : List ℕ) → different (is ++ (i ∷ [])) ≡ different is + (if member i is then 0 else 1)
+different_more : (i : ℕ) (is : List ℕ) → different (is ++ (i ∷ [])) ≡ different is + (if member i is then 0 otherwise 1)
 unfolding different member
 different_more i [] = omega arith
 different_more i (j ∷ is) =
     let h = different_more i is in
     ⊎_elim
     (λ (e : j ≡ i). rw (member_more j i is, eq-eqb j i e, eq-eqb i j (sym e), e) (by_same (member i is) (different is) (different (is ++ (i ∷ []))) h))
-    (λ (n : j ≡ i → ⊥). rw (member_more j i is, ne_eqb j i n, ne_eqb i j (λ e. n (sym e))) (by_other (member j is) (if member i is then 0 else 1) (different is) (different (is ++ (i ∷ []))) h))
+    (λ (n : j ≡ i → ⊥). rw (member_more j i is, ne_eqb j i n, ne_eqb i j (λ e. n (sym e))) (by_other (member j is) (if member i is then 0 otherwise 1) (different is) (different (is ++ (i ∷ []))) h))
     (eq-or-ne j i)
   where
-    by_same : (b : Bool) (d e : ℕ) → e ≡ d + (if b then 0 else 1) → (if (b || true) then 0 else 1) + e ≡ ((if b then 0 else 1) + d) + 0
+    by_same : (b : Bool) (d e : ℕ) → e ≡ d + (if b then 0 otherwise 1) → (if (b || true) then 0 otherwise 1) + e ≡ ((if b then 0 otherwise 1) + d) + 0
     by_same true d e h = omega arith
     by_same false d e h = omega arith
 
-    by_other : (b : Bool) (x d e : ℕ) → e ≡ d + x → (if (b || false) then 0 else 1) + e ≡ ((if b then 0 else 1) + d) + x
+    by_other : (b : Bool) (x d e : ℕ) → e ≡ d + x → (if (b || false) then 0 otherwise 1) + e ≡ ((if b then 0 otherwise 1) + d) + x
     by_other true x d e h = omega arith
     by_other false x d e h = omega arith
 
@@ -193,7 +193,7 @@ Takes n = (k : ℕ) → k < length (needs n) → get_or (needs n) k 0 < 672
 
 -- so many tables of each centre with one node more, which has the centre x in its record
 abbrev AddsCentre : (ℕ → ℕ) → LutNode → ℕ → (ℕ → ℕ) → Type 0
-AddsCentre before n x after = (j : ℕ) → after j ≡ before j + (if (is_bootstrap n && eqb x j) then 1 else 0)
+AddsCentre before n x after = (j : ℕ) → after j ≡ before j + (if (is_bootstrap n && eqb x j) then 1 otherwise 0)
 
 module _ (all ns : List LutNode) (k : ℕ) (before after : ℕ → ℕ) (x : ℕ) where
   stats_more : (n : LutNode) (d : ℕ) → Takes n → d ≡ node_depth (depth ns) n → AddsCentre before n x after
@@ -217,11 +217,11 @@ module _ (all ns : List LutNode) (k : ℕ) (before after : ℕ → ℕ) (x : ℕ
       (omega (arith, largest_more table_length ns m)) (sym (largest_more (node_norm all) ns m)) (ap (max (largest_depth ns)) q ∙ sym (largest-depth_more ns m))
       (more (eqb x 0) (before 0) ∙ sym (z 0)) (more (eqb x 1) (before 1) ∙ sym (z 1)) (more (eqb x 2) (before 2) ∙ sym (z 2))
     where
-      by : (b : Bool) (d : ℕ) → (if b then d else (d + 1)) ≡ d + (if b then 0 else 1)
+      by : (b : Bool) (d : ℕ) → (if b then d otherwise (d + 1)) ≡ d + (if b then 0 otherwise 1)
       by true d = omega arith
       by false d = refl
 
-      more : (b : Bool) (d : ℕ) → (if b then (d + 1) else d) ≡ d + (if b then 1 else 0)
+      more : (b : Bool) (d : ℕ) → (if b then (d + 1) otherwise d) ≡ d + (if b then 1 otherwise 0)
       more true d = refl
       more false d = omega arith
 
@@ -246,7 +246,7 @@ unfolding tables_of
 tables_most bytes k zero = omega arith
 tables_most bytes k (suc i) = omega (arith, tables_most bytes k i, one_or_none (is_bootstrap (node_of bytes i) && eqb (centre_in bytes i) k))
 
-tables_more : (bytes : List ℕ) (k i : ℕ) → tables_of bytes k (i + 1) ≡ tables_of bytes k i + (if (is_bootstrap (node_of bytes i) && eqb (centre_in bytes i) k) then 1 else 0)
+tables_more : (bytes : List ℕ) (k i : ℕ) → tables_of bytes k (i + 1) ≡ tables_of bytes k i + (if (is_bootstrap (node_of bytes i) && eqb (centre_in bytes i) k) then 1 otherwise 0)
 unfolding tables_of
 tables_more bytes k i = rw (add-one i)
 
@@ -256,7 +256,7 @@ unfolding tables_of count has_centre store_of tabulate
 tables_counted p bytes n z k zero h = refl
 tables_counted p bytes n z k (suc i) h =
     ap₂ (λ a b. a + b) (tables_counted p bytes n z k i (omega arith))
-    (ap (λ c. if (is_bootstrap (node_of bytes i) && eqb c k) then 1 else 0) (z.at i (omega arith)))
+    (ap (λ c. if (is_bootstrap (node_of bytes i) && eqb c k) then 1 otherwise 0) (z.at i (omega arith)))
     ∙ sym (count_snoc (has_centre p k) (store_of bytes i) (node_of bytes i))
     ∙ ap (count (has_centre p k)) (sym (tabulate_snoc i (node_of bytes)))
 
@@ -344,8 +344,8 @@ module _ (s : Stats) (norm centre : ℕ) (taken : List Bool) where
 -- ---- laws: what the code stores is what the definition has
 
 module _ (s : Stats) where
-  pub centre_is : (x a b c : ℕ) → a ≡ (if eqb x 0 then (s.centre0 + 1) else s.centre0) → b ≡ (if eqb x 1 then (s.centre1 + 1) else s.centre1)
-      → c ≡ (if eqb x 2 then (s.centre2 + 1) else s.centre2)
+  pub centre_is : (x a b c : ℕ) → a ≡ (if eqb x 0 then (s.centre0 + 1) otherwise s.centre0) → b ≡ (if eqb x 1 then (s.centre1 + 1) otherwise s.centre1)
+      → c ≡ (if eqb x 2 then (s.centre2 + 1) otherwise s.centre2)
       → record { inputs = s.inputs; sums = s.sums; boots = s.boots; sources = s.sources; longest = s.longest; norm = s.norm; outputs = s.outputs; depth = s.depth; centre0 = a; centre1 = b; centre2 = c }
       ≡ with_centre s x
   centre_is x a b c e f g = rw (e, f, g)
@@ -365,7 +365,7 @@ module _ (s : Stats) where
       ≡ with_sum s n
   sum_is n m f = rw f
 
-  pub boot_is : (n : ℕ) (taken : Bool) (len d l m : ℕ) → d ≡ (if taken then s.sources else (s.sources + 1)) → l ≡ max s.longest len → m ≡ max s.norm n
+  pub boot_is : (n : ℕ) (taken : Bool) (len d l m : ℕ) → d ≡ (if taken then s.sources otherwise (s.sources + 1)) → l ≡ max s.longest len → m ≡ max s.norm n
       → record { inputs = s.inputs; sums = s.sums; boots = s.boots + 1; sources = d; longest = l; norm = m; outputs = s.outputs; depth = s.depth; centre0 = s.centre0; centre1 = s.centre1; centre2 = s.centre2 }
       ≡ with_boot s n taken len
   boot_is n taken len d l m e f g = rw (e, f, g)

@@ -1,6 +1,6 @@
 // The statistics, counted over the node store.
 ghost use Rattle.std.specs.Prelude.{◌≡◌, ℕ, ◌+◌, ◌≤◌, eqb, length};
-ghost use Rattle.laws.specs.Test.{if◌then◌else◌};
+ghost use Rattle.laws.specs.Test.{if◌then◌otherwise◌};
 ghost use Rattle.rules.specs.Network.{node_norm};
 ghost use Rattle.nodes.specs.Centre.{Centred};
 ghost use Rattle.nodes.specs.View.{node_of, store_of, centre_in, IsStore};
@@ -52,7 +52,7 @@ fn count_sum(s: Stats, norm: usize) -> Stats
 // One more where the source is a new one.
 fn sources_with(sources: usize, taken: bool) -> usize
     requires { sources ≤ 672 }
-    ensures { result ≡ (if taken then sources else (sources + 1)) }
+    ensures { result ≡ (if taken then sources otherwise (sources + 1)) }
 {
     if taken { sources } else { sources + 1 }
 }
@@ -72,7 +72,7 @@ fn count_boot(s: Stats, norm: usize, taken: bool, len: usize) -> Stats
 // One more where the centre is this one.
 fn tables_with(tables: usize, centre: usize, own: usize) -> usize
     requires { tables ≤ 672 }
-    ensures { result ≡ (if eqb own centre then (tables + 1) else tables) }
+    ensures { result ≡ (if eqb own centre then (tables + 1) otherwise tables) }
 {
     if own == centre { tables + 1 } else { tables }
 }

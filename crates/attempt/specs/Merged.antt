@@ -6,7 +6,7 @@ use Rattle.std.proofs.Math.Logic.{⊎_elim}
 use Rattle.std.proofs.Math.Option.{Option, none, some, map}
 use Rattle.std.proofs.Math.ListN.{length, get_or, take, length-map}
 use Rattle.std.proofs.Math.Seq.{take_all}
-use Rattle.laws.specs.Test.{if◌then◌else◌, decide}
+use Rattle.laws.specs.Test.{if◌then◌otherwise◌, decide}
 use Rattle.rules.specs.declared.Settings.{Settings}
 use Rattle.rules.specs.Builder.{known_entries}
 use Rattle.rules.specs.Cone as C
@@ -49,7 +49,7 @@ pub record Mergeable (basis : Basis) (best : Score) : Type 0 where
 
 -- What is made of the pair, if there is one.
 unfoldable pub merged_by_lem : Basis → Score → Option C.Cone
-merged_by_lem basis best = if best.found then some (simplify_cone (cone_of (merged_of basis best))) else none
+merged_by_lem basis best = if best.found then some (simplify_cone (cone_of (merged_of basis best))) otherwise none
 
 pub record MergedTo (basis : Basis) (best : Score) (c : Cone) : Type 0 where
   pub cone : IsCone c
@@ -194,12 +194,12 @@ module _ (s : Settings) (nodes : List LutNode) (left right : C.Cone) (truth : Li
   merged_by =
       ⊎_elim
       (λ (e : best.found ≡ true).
-      ap (λ t. if t then some (simplify_cone (cone_of (merged_of basis best))) else none) e
+      ap (λ t. if t then some (simplify_cone (cone_of (merged_of basis best))) otherwise none) e
       ∙ ap (λ c. some (simplify_cone c)) (merged_is left right truth basis best s is rows t_long (finds.found e))
-      ∙ ap (λ t. map merge_cones (if t then some one else none)) (sym e))
+      ∙ ap (λ t. map merge_cones (if t then some one otherwise none)) (sym e))
       (λ (e : best.found ≡ false).
-      ap (λ t. if t then some (simplify_cone (cone_of (merged_of basis best))) else none) e
-      ∙ ap (λ t. map merge_cones (if t then some one else none)) (sym e))
+      ap (λ t. if t then some (simplify_cone (cone_of (merged_of basis best))) otherwise none) e
+      ∙ ap (λ t. map merge_cones (if t then some one otherwise none)) (sym e))
       (decide best.found)
       ∙ ap (map merge_cones) finds.candidate
     where

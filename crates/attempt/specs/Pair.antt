@@ -2,7 +2,7 @@
 use Rattle.std.specs.Prelude.{◌≡◌, true, false, List, ℕ, ◌+◌, ◌≤◌, ◌<◌, ◌^◌, ℤ, length, get_or, take}
 use Rattle.std.proofs.Math.Option.{Option, none, some, map}
 use Rattle.std.proofs.Common.{lt-ltb, le-ltb}
-use Rattle.laws.specs.Test.{if◌then◌else◌}
+use Rattle.laws.specs.Test.{if◌then◌otherwise◌}
 use Rattle.rules.specs.declared.Settings.{Settings}
 use Rattle.rules.specs.CircuitText.{in_limits}
 use Rattle.rules.specs.Cone as C
@@ -48,7 +48,7 @@ gated s nodes left right gate =
     let support = union_support left.support right.support in
     let truth = gate_truth support left right gate in
     let merged = map merge_cones (find_candidate s nodes support left right truth) in
-    if all_equal truth then some (constant (get_or truth 0 0)) else merged
+    if all_equal truth then some (constant (get_or truth 0 0)) otherwise merged
 
 -- ---- laws: too many sources, or not
 module _ (s : Settings) (nodes : List LutNode) (left right : C.Cone) (gate : List ℕ) where

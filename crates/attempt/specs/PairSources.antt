@@ -6,7 +6,7 @@ use mathlib.Core.List.{List, [], ◌∷◌, ◌++◌, map, map-id}
 use Prim.Native.Nat.{ℕ, zero, suc, ◌≤◌, ◌<◌}
 use Rattle.std.proofs.Math.ListN.{get_or-eq_default}
 use Rattle.laws.specs.Select.{select}
-use Rattle.laws.specs.Test.{if◌then◌else◌, lt_or_le}
+use Rattle.laws.specs.Test.{if◌then◌otherwise◌, lt_or_le}
 use Rattle.rules.specs.Cone as C
 use Rattle.rules.specs.Composition.{union_support, simplify_cone}
 use Rattle.rules.specs.Network.{Term, member}
@@ -28,7 +28,7 @@ module _ {A : Type 0} (k : ℕ) (g : A → ℕ) (f : A → Bool) where
   near_select [] h = h
   near_select (x ∷ l) h = by (f x) (near_select l (λ j q. h (suc j) (omega arith)))
     where
-      by : (t : Bool) → Near k (map g (select f l)) → Near k (map g (if t then x ∷ select f l else select f l))
+      by : (t : Bool) → Near k (map g (select f l)) → Near k (map g (if t then x ∷ select f l otherwise select f l))
       by true r zero m = h 0 (omega arith)
       by true r (suc i) m = r i (omega arith)
       by false r i m = r i m

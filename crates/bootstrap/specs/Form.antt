@@ -8,7 +8,7 @@ use Rattle.std.proofs.Math.Option.{Option, none, some}
 use Rattle.std.proofs.lemmas.Bool.{lt-leb}
 use Rattle.std.proofs.Math.ListN.{length, take}
 use Rattle.std.proofs.Math.Seq.{ext_get_or}
-use Rattle.laws.specs.Test.{if◌then◌else◌, if_both}
+use Rattle.laws.specs.Test.{if◌then◌otherwise◌, if_both}
 use Rattle.rules.specs.declared.Settings.{Settings}
 use Rattle.rules.specs.Builder.{known_entries}
 use Rattle.rules.specs.Cone as C
@@ -32,10 +32,10 @@ use Rattle.bootstrap.specs.declared.form.Form.{Form}
 -- ---- What the structs stand for.
 
 unfoldable pub entries_of : ℕ → Entered → Option (List ℕ)
-entries_of span e = if e.ok then some (take span e.known) else none
+entries_of span e = if e.ok then some (take span e.known) otherwise none
 
 unfoldable pub candidate_in : List LutNode → Form → Option Candidate
-candidate_in nodes f = if f.found then some (ranked nodes (cone_of f.cone)) else none
+candidate_in nodes f = if f.found then some (ranked nodes (cone_of f.cone)) otherwise none
 
 -- A form of c: its sources are c's, and it is c itself where none was found.
 pub record Kept (c : Cone) (f : Form) : Type 0 where
@@ -50,7 +50,7 @@ unfoldable pub reformed : C.Cone → List ℤ → C.Cone
 reformed c cs = record { support = c.support; coefficients = cs; truth = c.truth }
 
 unfoldable pub fitting : Settings → List LutNode → C.Cone → Option Candidate
-fitting s nodes c = if fits s nodes c then some (ranked nodes c) else none
+fitting s nodes c = if fits s nodes c then some (ranked nodes c) otherwise none
 
 unfoldable pub better_of : Option Candidate → Option Candidate → Option Candidate
 better_of d none = d
@@ -58,7 +58,7 @@ better_of d (some c) = some (better d c)
 
 unfoldable pub turned : Settings → List LutNode → C.Cone → Option Candidate → Option (List Term) → Option Candidate
 turned s nodes c d none = d
-turned s nodes c d (some ts) = if same_sources c.support ts then better_of d (fitting s nodes (with_form c ts)) else d
+turned s nodes c d (some ts) = if same_sources c.support ts then better_of d (fitting s nodes (with_form c ts)) otherwise d
 
 -- ---- laws: entries that agree, or not
 

@@ -6,7 +6,7 @@ use Rattle.std.proofs.Math.Bool.{true, false}
 use mathlib.Core.List.{List, ◌∷◌, map}
 use Rattle.std.proofs.Math.Option.{Option, none, some}
 use Rattle.laws.specs.Select.{select}
-use Rattle.laws.specs.Test.{if◌then◌else◌}
+use Rattle.laws.specs.Test.{if◌then◌otherwise◌}
 use Rattle.rules.specs.declared.Settings.{Settings}
 use Rattle.rules.specs.Cone as C
 use Rattle.rules.specs.Cone.{Candidate, fits, best_from, best}
@@ -39,13 +39,13 @@ module _ (s : Settings) (nodes : List LutNode) (c : C.Cone) (d : Option Candidat
   unfolding turned select fitting better_of best_from
   taken_in ts rest = by (same_sources c.support ts)
     where
-      fit : (b : Bool) → best_from (better_of d (if b then some (ranked nodes (with_form c ts)) else none)) (map (ranked nodes) (select (fits s nodes) (map (with_form c) (select (same_sources c.support) rest))))
-          ≡ best_from d (map (ranked nodes) (if b then with_form c ts ∷ select (fits s nodes) (map (with_form c) (select (same_sources c.support) rest)) else select (fits s nodes) (map (with_form c) (select (same_sources c.support) rest))))
+      fit : (b : Bool) → best_from (better_of d (if b then some (ranked nodes (with_form c ts)) otherwise none)) (map (ranked nodes) (select (fits s nodes) (map (with_form c) (select (same_sources c.support) rest))))
+          ≡ best_from d (map (ranked nodes) (if b then with_form c ts ∷ select (fits s nodes) (map (with_form c) (select (same_sources c.support) rest)) otherwise select (fits s nodes) (map (with_form c) (select (same_sources c.support) rest))))
       fit true = refl
       fit false = refl
 
-      by : (b : Bool) → best_from (if b then better_of d (fitting s nodes (with_form c ts)) else d) (map (ranked nodes) (select (fits s nodes) (map (with_form c) (select (same_sources c.support) rest))))
-          ≡ best_from d (map (ranked nodes) (select (fits s nodes) (map (with_form c) (if b then ts ∷ select (same_sources c.support) rest else select (same_sources c.support) rest))))
+      by : (b : Bool) → best_from (if b then better_of d (fitting s nodes (with_form c ts)) otherwise d) (map (ranked nodes) (select (fits s nodes) (map (with_form c) (select (same_sources c.support) rest))))
+          ≡ best_from d (map (ranked nodes) (select (fits s nodes) (map (with_form c) (if b then ts ∷ select (same_sources c.support) rest otherwise select (same_sources c.support) rest))))
       by true = fit (fits s nodes (with_form c ts))
       by false = refl
 
@@ -90,7 +90,7 @@ module _ (s : Settings) (bytes : List ℕ) (count : ℕ) (store : IsStore bytes 
     unfolding candidate_in cone_or ranked
     cone_is = by f.found refl
       where
-        by : (b : Bool) → f.found ≡ b → cone_of f.cone ≡ cone_or (cone_of c) (if b then some (ranked (store_of bytes count) (cone_of f.cone)) else none)
+        by : (b : Bool) → f.found ≡ b → cone_of f.cone ≡ cone_or (cone_of c) (if b then some (ranked (store_of bytes count) (cone_of f.cone)) otherwise none)
         by true e = refl
         by false e = ap cone_of (w.kept.same e)
 

@@ -3,7 +3,7 @@
 
 ghost use Rattle.std.specs.Prelude.{◌≡◌, ◌≤◌, ltb, length, replicate};
 ghost use Rattle.laws.specs.Over.{over};
-ghost use Rattle.laws.specs.Test.{if◌then◌else◌};
+ghost use Rattle.laws.specs.Test.{if◌then◌otherwise◌};
 ghost use Rattle.rules.specs.Span.{least, span};
 ghost use Rattle.rules.specs.Builder.{known_entries, with_table, no_table, built, from_known, builder, builder_reply};
 
@@ -25,7 +25,7 @@ fn copy(table: &[u8], out: &mut [u8])
 fn write_table(c: u8, table: &[u8], out: &mut [u8]) -> BuilderReply
     ensures { built (builder_reply result) out.new
         ≡ (if ltb (length out.old) (length table.now) then built (no_table 34) out.old
-        else built (with_table (length table.now) c) (over table.now out.old)) }
+        otherwise built (with_table (length table.now) c) (over table.now out.old)) }
 {
     if out.len() < table.len() {
         return BuilderReply::ShortBuffer;

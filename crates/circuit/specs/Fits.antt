@@ -5,7 +5,7 @@ use Rattle.std.proofs.Common.{⊎_elim, not-suc-le-zero, le_of_suc-le-suc, arith
 use Rattle.std.proofs.lemmas.Bool.{eqb-false}
 use Rattle.std.proofs.Math.ListN.{length}
 use Rattle.laws.specs.Tabulate.{tabulate-length, tabulate-at}
-use Rattle.laws.specs.Test.{if◌then◌else◌, and_left, and_right, both_right, neither_left, neither_right, or_cases, T-is}
+use Rattle.laws.specs.Test.{if◌then◌otherwise◌, and_left, and_right, both_right, neither_left, neither_right, or_cases, T-is}
 use Rattle.rules.specs.declared.Wire.TheVariants.{Const, Node}
 use Rattle.rules.specs.Circuit as C
 use Rattle.rules.specs.CircuitText.{in_limits, no_node, any_no_node, read_circuit}
@@ -35,7 +35,7 @@ unfolding answers_in all_bits
 answer-bits gs n i f = by (eqb (get_or gs (6 * i + 1) 0) 255) refl
   where
     by : (t : Bool) → eqb (get_or gs (6 * i + 1) 0) 255 ≡ t
-        → all_bits (if t then get_or gs (6 * i + 2) 0 ∷ get_or gs (6 * i + 3) 0 ∷ [] else get_or gs (6 * i + 2) 0 ∷ get_or gs (6 * i + 3) 0 ∷ get_or gs (6 * i + 4) 0 ∷ get_or gs (6 * i + 5) 0 ∷ []) ≡ true
+        → all_bits (if t then get_or gs (6 * i + 2) 0 ∷ get_or gs (6 * i + 3) 0 ∷ [] otherwise get_or gs (6 * i + 2) 0 ∷ get_or gs (6 * i + 3) 0 ∷ get_or gs (6 * i + 4) 0 ∷ get_or gs (6 * i + 5) 0 ∷ []) ≡ true
     by true e = rw (le-leb (get_or gs (6 * i + 2) 0) 1 f.answer0, le-leb (get_or gs (6 * i + 3) 0) 1 f.answer1)
     by false e =
         let two = eqb-false (get_or gs (6 * i + 1) 0) 255 e in
@@ -74,7 +74,7 @@ wire_fits : (m n k : ℕ) → no_node n (wire_in m k) ≡ false → WireBit (wir
 unfolding wire_in no_node WireBit
 wire_fits m n k = by (ltb k m) refl
   where
-    by : (t : Bool) → ltb k m ≡ t → no_node n (if t then Node k else Const (k - m)) ≡ false → WireBit (if t then Node k else Const (k - m)) → (k ≤ m + 1) × (k < m → k < n)
+    by : (t : Bool) → ltb k m ≡ t → no_node n (if t then Node k otherwise Const (k - m)) ≡ false → WireBit (if t then Node k otherwise Const (k - m)) → (k ≤ m + 1) × (k < m → k < n)
     by true e h b = let l = ltb-true k m e in (omega arith, λ _. leb-false n k h)
     by false e h b = let l = ltb-false k m e in (omega arith, λ (u : k < m). absurd (omega arith))
 
@@ -108,8 +108,8 @@ gate-fits gs n i s = by (eqb v 255) refl s.earlier s.constants s.answers
     e : ℕ
     e = get_or gs (6 * i + 5) 0
 
-    by : (t : Bool) → eqb v 255 ≡ t → any_no_node (n + i) (if t then slot_wire u ∷ [] else slot_wire u ∷ slot_wire v ∷ []) ≡ false
-        → WireBits (if t then slot_wire u ∷ [] else slot_wire u ∷ slot_wire v ∷ []) → T (all_bits (if t then a ∷ b ∷ [] else a ∷ b ∷ d ∷ e ∷ [])) → GateFits gs n i
+    by : (t : Bool) → eqb v 255 ≡ t → any_no_node (n + i) (if t then slot_wire u ∷ [] otherwise slot_wire u ∷ slot_wire v ∷ []) ≡ false
+        → WireBits (if t then slot_wire u ∷ [] otherwise slot_wire u ∷ slot_wire v ∷ []) → T (all_bits (if t then a ∷ b ∷ [] otherwise a ∷ b ∷ d ∷ e ∷ [])) → GateFits gs n i
     by true q f w h =
         let x = wire_fits 128 (n + i) u (neither_left (no_node (n + i) (slot_wire u)) false f) w.0 in
         let y = bits_two a b [] h in

@@ -7,7 +7,7 @@ use mathlib.Core.List.{List, [], ◌∷◌}
 use native.Mathlib.Omega.{arith}
 use borrow.Author.Tests.{ne_eqb}
 use Rattle.std.proofs.Math.Seq.{paste, paste-suc}
-use Rattle.laws.specs.Test.{if◌then◌else◌, zero≢one}
+use Rattle.laws.specs.Test.{if◌then◌otherwise◌, zero≢one}
 use Rattle.rules.specs.CircuitText.{no_node}
 use Rattle.rules.specs.Form.{bits_from}
 use Rattle.theorems.specs.LineBits.{WireBit}
@@ -31,7 +31,7 @@ bit_at s i = get_or s i 0 - 48
 unfoldable pub gate_bytes : List ℕ → ℕ → Wires → List ℕ
 gate_bytes s d v =
     if eqb v.count 1 then wire_number 128 v.left ∷ 255 ∷ bit_at s d ∷ bit_at s (d + 1) ∷ 0 ∷ 0 ∷ []
-    else wire_number 128 v.left ∷ wire_number 128 v.right ∷ bit_at s d ∷ bit_at s (d + 1) ∷ bit_at s (d + 2) ∷ bit_at s (d + 3) ∷ []
+    otherwise wire_number 128 v.left ∷ wire_number 128 v.right ∷ bit_at s d ∷ bit_at s (d + 1) ∷ bit_at s (d + 2) ∷ bit_at s (d + 3) ∷ []
 
 -- As the code has them.
 module _ (s : List ℕ) (d : ℕ) (v : Wires) {l a b : ℕ} (e : l ≡ wire_number 128 v.left) (f : a ≡ bit_at s d) (g : b ≡ bit_at s (d + 1)) where
@@ -49,7 +49,7 @@ unfolding gate_bytes
 bytes-length s d v = by (eqb v.count 1)
   where
     by : (t : Bool) → length (if t then wire_number 128 v.left ∷ 255 ∷ bit_at s d ∷ bit_at s (d + 1) ∷ 0 ∷ 0 ∷ []
-        else wire_number 128 v.left ∷ wire_number 128 v.right ∷ bit_at s d ∷ bit_at s (d + 1) ∷ bit_at s (d + 2) ∷ bit_at s (d + 3) ∷ []) ≡ 6
+        otherwise wire_number 128 v.left ∷ wire_number 128 v.right ∷ bit_at s d ∷ bit_at s (d + 1) ∷ bit_at s (d + 2) ∷ bit_at s (d + 3) ∷ []) ≡ 6
     by true = refl
     by false = refl
 
@@ -96,12 +96,12 @@ module _ (gs : List ℕ) (k : ℕ) (long : length gs ≡ 576) (room : k < 96) (s
     at j i f h = byte j i f h ∙ ap (λ x. get_or x j 0) e
 
   pub put_gate : (inputs : ℕ) → GateStands (length s) d v
-      → gate_in (paste gs (6 * k) (gate_bytes s d v) 6) inputs k ≡ record { bits = bits_at s d (if eqb v.count 1 then 2 else 4); wires = two_wires v.count v.left v.right; line = inputs + k + 2 }
+      → gate_in (paste gs (6 * k) (gate_bytes s d v) 6) inputs k ≡ record { bits = bits_at s d (if eqb v.count 1 then 2 otherwise 4); wires = two_wires v.count v.left v.right; line = inputs + k + 2 }
   unfolding gate_in wires_in answers_in two_wires put gate_bytes
   put_gate inputs f = by (eqb v.count 1) refl
     where
       goal : Bool → Type 0
-      goal t = gate_in put inputs k ≡ record { bits = bits_at s d (if t then 2 else 4); wires = if t then v.left ∷ [] else v.left ∷ v.right ∷ []; line = inputs + k + 2 }
+      goal t = gate_in put inputs k ≡ record { bits = bits_at s d (if t then 2 otherwise 4); wires = if t then v.left ∷ [] otherwise v.left ∷ v.right ∷ []; line = inputs + k + 2 }
 
       by : (t : Bool) → eqb v.count 1 ≡ t → goal t
       by true e =

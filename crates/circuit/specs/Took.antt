@@ -6,7 +6,7 @@ use Rattle.std.proofs.Math.Bool.{true, false, not, or-false}
 use Rattle.std.proofs.Math.Option.{none, some}
 use borrow.Author.Tests.{ne_eqb, eqb-true, leb-false, ltb-false, not-false}
 use Rattle.laws.specs.Tabulate.{tabulate-length}
-use Rattle.laws.specs.Test.{if◌then◌else◌, is_some, is_T, T-is, and_right}
+use Rattle.laws.specs.Test.{if◌then◌otherwise◌, is_some, is_T, T-is, and_right}
 use Rattle.rules.specs.declared.Settings.{Settings}
 use Rattle.rules.specs.Builder.{table_limits}
 use Rattle.rules.specs.CircuitText.{Prefix, node_count, with_line}
@@ -46,11 +46,11 @@ pub same_prefix : {p q : Prefix} → p.settings ≡ q.settings → p.inputs ≡ 
 same_prefix a b d e = λ j. record { settings = a j; inputs = b j; gates = d j; outputs = e j }
 
 -- How many bits a gate of n wires has.
-pub shape-bits : (n m : ℕ) → shape n m ≡ true → m ≡ (if eqb n 1 then 2 else 4)
+pub shape-bits : (n m : ℕ) → shape n m ≡ true → m ≡ (if eqb n 1 then 2 otherwise 4)
 unfolding shape
 shape-bits n m = by (eqb n 1) refl
   where
-    by : (b : Bool) → eqb n 1 ≡ b → (b && eqb m 2 || eqb n 2 && eqb m 4) ≡ true → m ≡ (if b then 2 else 4)
+    by : (b : Bool) → eqb n 1 ≡ b → (b && eqb m 2 || eqb n 2 && eqb m 4) ≡ true → m ≡ (if b then 2 otherwise 4)
     by true e h = eqb-true m 2 (sym (or-false (eqb m 2)) ∙ (ap (λ x. eqb m 2 || x && eqb m 4) (sym (ne_eqb n 2 (λ (g : n ≡ 2). let f = eqb-true n 1 e in omega arith))) ∙ h))
     by false e h = eqb-true m 4 (T-is _ (and_right (eqb n 2) (eqb m 4) (is_T _ h)))
 
@@ -74,7 +74,7 @@ module _ (i : ℕ) (s gs ps : List ℕ) (c : Circuit) where
   unfolding prefix_of
   started = by (eqb i 1)
     where
-      by : (b : Bool) → is_some (if b then none else some c.settings) ≡ not b
+      by : (b : Bool) → is_some (if b then none otherwise some c.settings) ≡ not b
       by true = refl
       by false = refl
 

@@ -5,7 +5,7 @@ use Rattle.std.proofs.Common.{sym, ap, ap₂, ◌∙◌, arith, ne_eqb}
 use Rattle.std.proofs.lemmas.Bool.{not-false}
 use Rattle.std.proofs.Math.Seq.{paste}
 use Rattle.std.proofs.lemmas.List.Edits.{length-paste}
-use Rattle.laws.specs.Test.{if◌then◌else◌, if_both, neither_left, neither_right}
+use Rattle.laws.specs.Test.{if◌then◌otherwise◌, if_both, neither_left, neither_right}
 use Rattle.rules.specs.Circuit as C
 use Rattle.rules.specs.CircuitText.{with_line}
 use Rattle.rules.specs.Form.{◌when◌}
@@ -24,7 +24,7 @@ use Rattle.circuit.specs.Took.{Ready, Took, same_prefix, shape-bits, room, not-t
 module _ (i : ℕ) (s gs ps : List ℕ) (c : Circuit) where
   module _ (d e : ℕ) (v : Wires) (matched : Bool) (k : ℕ) (l : (d ≤ e) × (e ≤ length s)) (f : matched ≡ shape v.count (e - d))
       (g : k ≡ lowest ((3 when leb 96 c.gates) ∷ (4 when (not (not (eqb i 1)) || ltb 0 c.outs)) ∷ (6 when v.astray) ∷ (7 when not matched) ∷ [])) where
-    gate-shape : k ≡ 0 → e - d ≡ (if eqb v.count 1 then 2 else 4)
+    gate-shape : k ≡ 0 → e - d ≡ (if eqb v.count 1 then 2 otherwise 4)
     gate-shape h =
         let nodes = unmet _ _ (omega arith) (unmet _ _ (omega arith) (unmet _ _ (omega arith) (sym g ∙ h)).1).1 in
         shape-bits v.count (e - d) (sym f ∙ not-false matched (unmet _ _ (omega arith) nodes.1).0)

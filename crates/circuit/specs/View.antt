@@ -5,7 +5,7 @@
 use Rattle.std.specs.Prelude.{◌≡◌, List, [], ◌∷◌, ℕ, ◌+◌, ◌*◌, ◌-◌, ◌<◌, eqb, ltb, length, get_or, take, drop}
 use Rattle.std.proofs.Math.Option.{none, some}
 use Rattle.laws.specs.Tabulate.{tabulate}
-use Rattle.laws.specs.Test.{if◌then◌else◌}
+use Rattle.laws.specs.Test.{if◌then◌otherwise◌}
 use Rattle.rules.specs.declared.Wire.{Wire}
 use Rattle.rules.specs.declared.Wire.TheVariants.{Const, Node}
 use Rattle.rules.specs.Circuit as C
@@ -19,7 +19,7 @@ use Rattle.circuit.specs.declared.Reading.TheVariants.{Good, Refused}
 -- ---- Wires as numbers: a node's, or from m on a constant's.
 
 unfoldable pub wire_in : ℕ → ℕ → Wire
-wire_in m n = if ltb n m then Node n else Const (n - m)
+wire_in m n = if ltb n m then Node n otherwise Const (n - m)
 
 -- A gate's wire: 128 and 129 are the constants.
 abbrev pub slot_wire : ℕ → Wire
@@ -34,12 +34,12 @@ port_wire n = wire_in 1000 n
 unfoldable pub wires_in : List ℕ → ℕ → List Wire
 wires_in gs i =
     if eqb (get_or gs (6 * i + 1) 0) 255 then slot_wire (get_or gs (6 * i) 0) ∷ []
-    else slot_wire (get_or gs (6 * i) 0) ∷ slot_wire (get_or gs (6 * i + 1) 0) ∷ []
+    otherwise slot_wire (get_or gs (6 * i) 0) ∷ slot_wire (get_or gs (6 * i + 1) 0) ∷ []
 
 unfoldable pub answers_in : List ℕ → ℕ → List ℕ
 answers_in gs i =
     if eqb (get_or gs (6 * i + 1) 0) 255 then get_or gs (6 * i + 2) 0 ∷ get_or gs (6 * i + 3) 0 ∷ []
-    else get_or gs (6 * i + 2) 0 ∷ get_or gs (6 * i + 3) 0 ∷ get_or gs (6 * i + 4) 0 ∷ get_or gs (6 * i + 5) 0 ∷ []
+    otherwise get_or gs (6 * i + 2) 0 ∷ get_or gs (6 * i + 3) 0 ∷ get_or gs (6 * i + 4) 0 ∷ get_or gs (6 * i + 5) 0 ∷ []
 
 -- The gates' lines stand behind the `fbs` line and those of the inputs.
 unfoldable pub gate_in : List ℕ → ℕ → ℕ → C.Gate
@@ -86,7 +86,7 @@ reading_of (Refused k i) s gs ps = F.Refused k i
 unfoldable pub prefix_of : ℕ → List ℕ → List ℕ → List ℕ → Circuit → Prefix
 prefix_of i s gs ps c =
     record {
-      settings = if eqb i 1 then none else some c.settings;
+      settings = if eqb i 1 then none otherwise some c.settings;
       inputs = inputs_in s ps c.inputs;
       gates = gates_in gs c.inputs c.gates;
       outputs = outputs_in s ps c.outs;

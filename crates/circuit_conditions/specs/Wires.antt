@@ -3,7 +3,7 @@ use Rattle.std.specs.Prelude.{◌≡◌, refl, Bool, false, ◌&&◌, ◌||◌, 
 use Rattle.std.proofs.Common.{sym, ◌∙◌, ⊎_elim, arith}
 use Rattle.std.proofs.Math.Bool.{or-false, or_assoc}
 use borrow.Author.Tests.{le-leb, lt-leb, ne_eqb}
-use Rattle.laws.specs.Test.{if◌then◌else◌, if_both, lt_or_le, neither_left, neither_right}
+use Rattle.laws.specs.Test.{if◌then◌otherwise◌, if_both, lt_or_le, neither_left, neither_right}
 use Rattle.rules.specs.declared.Wire.{Wire}
 use Rattle.rules.specs.declared.Wire.TheVariants.{Const, Node}
 use Rattle.rules.specs.CircuitText.{no_node, any_no_node, matching}
@@ -19,9 +19,9 @@ no_wires = record { count = 0; left = Const 0; right = Const 0; astray = false }
 unfoldable pub with_wire : ℕ → Wires → Wire → Wires
 with_wire n v w =
     record {
-      count = if eqb v.count 0 then 1 else if eqb v.count 1 then 2 else 3;
-      left = if eqb v.count 0 then w else v.left;
-      right = if eqb v.count 1 then w else v.right;
+      count = if eqb v.count 0 then 1 otherwise if eqb v.count 1 then 2 otherwise 3;
+      left = if eqb v.count 0 then w otherwise v.left;
+      right = if eqb v.count 1 then w otherwise v.right;
       astray = v.astray || no_node n w;
     }
 

@@ -6,7 +6,7 @@ use Rattle.std.proofs.lemmas.Bool.{lt-leb}
 use Rattle.std.proofs.lemmas.List.{length-replicate, set_at}
 use Rattle.laws.specs.Lists.{zeros_at}
 use Rattle.laws.specs.Over.{over}
-use Rattle.laws.specs.Test.{if◌then◌else◌, is_T, T-is, and_left, and_right, and_both}
+use Rattle.laws.specs.Test.{if◌then◌otherwise◌, is_T, T-is, and_left, and_right, and_both}
 use Rattle.rules.specs.declared.Wire.{Wire}
 use Rattle.rules.specs.declared.Wire.TheVariants.{Const, Node}
 use Rattle.rules.specs.Circuit as C
@@ -36,7 +36,7 @@ pub slot-node : (m k : ℕ) → no_node m (wire_in m k) ≡ false
 unfolding wire_in no_node
 slot-node m k = by (ltb k m) refl
   where
-    by : (t : Bool) → ltb k m ≡ t → no_node m (if t then Node k else Const (k - m)) ≡ false
+    by : (t : Bool) → ltb k m ≡ t → no_node m (if t then Node k otherwise Const (k - m)) ≡ false
     by true e = lt-leb m k (ltb-true k m e)
     by false e = refl
 
@@ -44,7 +44,7 @@ pub slot-bit : (m k : ℕ) → k ≤ m + 1 → WireBit (wire_in m k)
 unfolding wire_in WireBit
 slot-bit m k h = by (ltb k m)
   where
-    by : (t : Bool) → WireBit (if t then Node k else Const (k - m))
+    by : (t : Bool) → WireBit (if t then Node k otherwise Const (k - m))
     by true = tt
     by false = omega arith
 
@@ -56,7 +56,7 @@ pub port_node : (k : ℕ) → GoodPort k → no_node 128 (port_wire k) ≡ false
 unfolding wire_in no_node
 port_node k h = by (ltb k 1000) refl
   where
-    by : (t : Bool) → ltb k 1000 ≡ t → no_node 128 (if t then Node k else Const (k - 1000)) ≡ false
+    by : (t : Bool) → ltb k 1000 ≡ t → no_node 128 (if t then Node k otherwise Const (k - 1000)) ≡ false
     by true e = lt-leb 128 k (h.1 (ltb-true k 1000 e))
     by false e = refl
 

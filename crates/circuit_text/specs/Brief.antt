@@ -2,7 +2,7 @@
 use Rattle.std.specs.Prelude.{◌≡◌, refl, true, false, ◌&&◌, ◌||◌, not, List, [], ◌∷◌, ℕ, suc, ◌*◌, ◌≤◌, leb, ltb, eqb, length}
 use Rattle.std.proofs.Common.{sym, ap, ap₂, ◌∙◌, true≢false, arith, lt-ltb, leb-false, leb→le}
 use Rattle.std.proofs.lemmas.Bool.{not-false}
-use Rattle.laws.specs.Test.{if◌then◌else◌, is_some, neither_left, neither_right, is_T, and_left, and_right}
+use Rattle.laws.specs.Test.{if◌then◌otherwise◌, is_some, neither_left, neither_right, is_T, and_left, and_right}
 use Rattle.rules.specs.declared.Settings.{Settings}
 use Rattle.rules.specs.declared.Wire.{Wire}
 use Rattle.rules.specs.declared.Wire.TheVariants.{Const, Node}
@@ -71,7 +71,7 @@ brief_conditions_lem c (OutLine o) h = ap (λ t. (3 when leb 32 (length c.output
 
 -- The wires of a gate of n, one or two.
 unfoldable pub two_wires : ℕ → Wire → Wire → List Wire
-two_wires n u v = if eqb n 1 then u ∷ [] else u ∷ v ∷ []
+two_wires n u v = if eqb n 1 then u ∷ [] otherwise u ∷ v ∷ []
 
 unfoldable pub told : Brief → CircuitLine
 told (FbsBrief s) = FbsLine s

@@ -2,7 +2,7 @@
 use Rattle.std.specs.Prelude.{◌≡◌, refl, Bool, true, false, List, ℕ, ◌-◌, ◌≤◌, length, take, drop}
 use Rattle.std.proofs.Common.{sym, ap, subst, ◌∙◌, arith, leb→le, length-take}
 use Rattle.std.proofs.Math.Option.{Option, none, some, some-injective, none-ne-some}
-use Rattle.laws.specs.Test.{if◌then◌else◌, is_T}
+use Rattle.laws.specs.Test.{if◌then◌otherwise◌, is_T}
 use Rattle.rules.specs.declared.Wire.{Wire}
 use Rattle.rules.specs.CircuitText.{CircuitLine, GateLine}
 use Rattle.rules.specs.Form.{Piece, give, onward, run, run_of, bits, is_bits, is_bit_byte, bits_from}
@@ -62,7 +62,7 @@ some_bits : (l w x : List ℕ) → bits l ≡ some (record { value = w; rest = x
 unfolding bits run_of is_bits onward
 some_bits l w x = by (run is_bit_byte l) (is_bits (run is_bit_byte l)) refl
   where
-    by : (v : List ℕ) (t : Bool) → is_bits v ≡ t → onward (if t then give v (drop (length v) l) else none) (λ u. give (bits_from u)) ≡ some (record { value = w; rest = x }) → 1 ≤ length w
+    by : (v : List ℕ) (t : Bool) → is_bits v ≡ t → onward (if t then give v (drop (length v) l) otherwise none) (λ u. give (bits_from u)) ≡ some (record { value = w; rest = x }) → 1 ≤ length w
     by v true g e = subst (λ p. 1 ≤ length p.value) (some-injective _ _ e) (rw from_length (leb→le 1 (length v) (is_T _ g)))
     by v false g e = absurd (none-ne-some _ e)
 

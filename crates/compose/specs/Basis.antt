@@ -4,7 +4,7 @@ use mathlib.Core.List.{List, [], ◌∷◌, map, zip_with}
 use Rattle.std.proofs.Common.{⊎_elim, zero-le, arith, eq-eqb, ne_eqb}
 use Rattle.std.proofs.lemmas.Bool.{not-true}
 use Rattle.laws.specs.Over.{over}
-use Rattle.laws.specs.Test.{if◌then◌else◌, if_both, eq-or-ne, neither_left, neither_right, both_left, both_right}
+use Rattle.laws.specs.Test.{if◌then◌otherwise◌, if_both, eq-or-ne, neither_left, neither_right, both_left, both_right}
 use Rattle.rules.specs.Cone.{Cone, linear_table, terms}
 use Rattle.rules.specs.Network.{member}
 use Rattle.rules.specs.NetworkText.{all_different}
@@ -61,13 +61,13 @@ unfolding total
 zeros_total [] = refl
 zeros_total (u ∷ U) = let r = zeros_total U in omega arith
 
-absent : (c : ℤ) (m : ℕ) (g : ℕ → ℤ) (U : List ℕ) → member m U ≡ false → map (λ (n : ℕ). if eqb m n then c else g n) U ≡ map g U
+absent : (c : ℤ) (m : ℕ) (g : ℕ → ℤ) (U : List ℕ) → member m U ≡ false → map (λ (n : ℕ). if eqb m n then c otherwise g n) U ≡ map g U
 unfolding member
 absent c m g [] h = refl
 absent c m g (u ∷ U) h = rw (neither_left (eqb m u) (member m U) h, absent c m g U (neither_right (eqb m u) (member m U) h))
 
 one_more : (c : ℤ) (m : ℕ) (g : ℕ → ℤ) (U : List ℕ) → all_different U ≡ true
-    → total (map (λ (n : ℕ). if eqb m n then c else g n) U) ≤ nat_abs c + total (map g U)
+    → total (map (λ (n : ℕ). if eqb m n then c otherwise g n) U) ≤ nat_abs c + total (map g U)
 unfolding total all_different
 one_more c m g [] d = zero-le
 one_more c m g (u ∷ U) d =

@@ -8,7 +8,7 @@ use borrow.Author.Tests.{ne_eqb}
 use Rattle.std.proofs.Math.ListN.{get_or}
 use Rattle.std.proofs.Math.Seq.{drop-cons}
 use Rattle.laws.specs.Select.{select}
-use Rattle.laws.specs.Test.{if◌then◌else◌}
+use Rattle.laws.specs.Test.{if◌then◌otherwise◌}
 use Rattle.rules.specs.Cone.{Cone, cone_bit, terms}
 use Rattle.rules.specs.Network.{Term}
 use Rattle.rules.specs.NetworkText.{sources, all_different}
@@ -61,7 +61,7 @@ module _ (f : Term → Bool) where
   near_sources k h [] near i = h
   near_sources k h (t ∷ ts) near i = by (f t) (near_sources k h ts (λ j. near (suc j))) i
     where
-      by : (u : Bool) → ((i : ℕ) → get_or (sources (select f ts)) i 0 < k) → (i : ℕ) → get_or (sources (if u then t ∷ select f ts else select f ts)) i 0 < k
+      by : (u : Bool) → ((i : ℕ) → get_or (sources (select f ts)) i 0 < k) → (i : ℕ) → get_or (sources (if u then t ∷ select f ts otherwise select f ts)) i 0 < k
       by true r zero = near 0
       by true r (suc i) = r i
       by false r i = r i

@@ -2,7 +2,7 @@
 use Rattle.std.specs.Prelude.{◌≡◌, refl, List, [], ◌∷◌, ◌++◌, ℕ, suc, ◌+◌, ◌*◌, ◌-◌, ◌≤◌, ◌<◌, length, get_or, set, drop}
 use Rattle.std.proofs.Common.{sym, ap, subst, ◌∙◌, append_assoc, append-nil, inl, inr, arith, drop_of_length-le, drop-cons, lt-ltb, le-ltb, eq-eqb}
 use Rattle.laws.specs.Tabulate.{tabulate, tabulate-length, tabulate-at}
-use Rattle.laws.specs.Test.{if◌then◌else◌}
+use Rattle.laws.specs.Test.{if◌then◌otherwise◌}
 use Rattle.rules.specs.Circuit.{Output}
 use Rattle.rules.specs.Network.{member}
 use Rattle.rules.specs.Store.{wire_needs, output_needs, wanted_below, renumbered, live}
@@ -15,7 +15,7 @@ use Rattle.outputs.specs.OutputsWalk.{port_more}
 -- Each node below the count that is kept has its new number + 1, and the others have 0.
 pub record Keeps (kept : List ℕ) (count : ℕ) (numbers : List ℕ) : Type 0 where
   pub long : length numbers ≡ 672
-  pub at : (i : ℕ) → i < count → get_or numbers i 0 ≡ (if member i kept then renumbered kept i + 1 else 0)
+  pub at : (i : ℕ) → i < count → get_or numbers i 0 ≡ (if member i kept then renumbered kept i + 1 otherwise 0)
 
 -- ---- laws: one output
 
@@ -95,7 +95,7 @@ pub keeps : (bytes : List ℕ) (count : ℕ) (outputs : List Output) (before mar
     → Keeps (live (store_of bytes count) outputs) count after
 unfolding live adding
 keeps bytes count outputs before marks after none m n =
-    record { long = n.long; at = λ i l. subst (λ k. get_or after i 0 ≡ (if member i k then renumbered k i + 1 else 0)) same (n.at (output_needs outputs) marked i l) }
+    record { long = n.long; at = λ i l. subst (λ k. get_or after i 0 ≡ (if member i k then renumbered k i + 1 otherwise 0)) same (n.at (output_needs outputs) marked i l) }
   where
     marked : Marks (output_needs outputs) marks
     marked = subst (λ l. Marks l marks) (append-nil (output_needs outputs)) (m.marks [] (marks_nothing before none))

@@ -5,7 +5,7 @@ use Rattle.std.proofs.Common.{ap₂, ◌∙◌, drop_of_length-le, eq-eqb, ne_eq
 use Rattle.std.proofs.Math.Bool.{true, false}
 use Prim.Native.Nat.{ℕ, ◌+◌, ◌-◌, ◌≤◌, ◌<◌, max}
 use native.Mathlib.Omega.{arith}
-use Rattle.laws.specs.Test.{if◌then◌else◌}
+use Rattle.laws.specs.Test.{if◌then◌otherwise◌}
 use Rattle.rules.specs.Network.{LutNode, member, node_norm, largest}
 use Rattle.rules.specs.Store.{needs, renumbered, renumbered_node, kept_from}
 use Rattle.theorems.specs.Members.{among_of}
@@ -23,7 +23,7 @@ largest_norm nodes = largest (node_norm nodes) nodes
 
 -- The larger one of node i's norm and the norm so far, if the node is kept.
 unfoldable pub larger_kept : List ℕ → ℕ → ℕ → ℕ → ℕ
-larger_kept live i own norm = if eqb (get_or live i 0) 0 then norm else max own norm
+larger_kept live i own norm = if eqb (get_or live i 0) 0 then norm otherwise max own norm
 
 -- ---- laws: the nodes
 
@@ -63,12 +63,12 @@ module _ (bytes : List ℕ) (count : ℕ) (kept : List ℕ) where
   largest_none = rw (drop_of_length-le (store_of bytes count) {i = count} (rw (store_length bytes count) (omega arith))) refl
 
   largest_next : (i : ℕ) → i < count
-      → largest_from i ≡ (if member i kept then max (node_norm all (renumbered_node kept (node_of bytes i))) (largest_from (i + 1)) else largest_from (i + 1))
+      → largest_from i ≡ (if member i kept then max (node_norm all (renumbered_node kept (node_of bytes i))) (largest_from (i + 1)) otherwise largest_from (i + 1))
   unfolding largest_from kept_from
   largest_next i h = ap (λ l. largest (node_norm all) (kept_from kept i l)) (store_from bytes count i h) ∙ by (member i kept)
     where
-      by : (b : Bool) → largest (node_norm all) (if b then renumbered_node kept (node_of bytes i) ∷ kept_from kept (i + 1) (drop (i + 1) (store_of bytes count)) else kept_from kept (i + 1) (drop (i + 1) (store_of bytes count)))
-          ≡ (if b then max (node_norm all (renumbered_node kept (node_of bytes i))) (largest (node_norm all) (kept_from kept (i + 1) (drop (i + 1) (store_of bytes count)))) else largest (node_norm all) (kept_from kept (i + 1) (drop (i + 1) (store_of bytes count))))
+      by : (b : Bool) → largest (node_norm all) (if b then renumbered_node kept (node_of bytes i) ∷ kept_from kept (i + 1) (drop (i + 1) (store_of bytes count)) otherwise kept_from kept (i + 1) (drop (i + 1) (store_of bytes count)))
+          ≡ (if b then max (node_norm all (renumbered_node kept (node_of bytes i))) (largest (node_norm all) (kept_from kept (i + 1) (drop (i + 1) (store_of bytes count)))) otherwise largest (node_norm all) (kept_from kept (i + 1) (drop (i + 1) (store_of bytes count))))
       by true = unfold largest in refl
       by false = refl
 
@@ -78,16 +78,16 @@ module _ (bytes : List ℕ) (count : ℕ) (kept : List ℕ) where
   largest_step live i r x p h s c keeps e q =
       let t : i - 1 + 1 ≡ i = omega arith in
       q ∙ by (member (i - 1) kept) (keeps.at (i - 1) (omega arith)) (λ m. norm-kept s c (i - 1) (omega arith) m)
-      ∙ ap (λ j. if member (i - 1) kept then max (node_norm all (renumbered_node kept (node_of bytes (i - 1)))) (largest_from j) else largest_from j) (sym t)
+      ∙ ap (λ j. if member (i - 1) kept then max (node_norm all (renumbered_node kept (node_of bytes (i - 1)))) (largest_from j) otherwise largest_from j) (sym t)
       ∙ sym (largest_next (i - 1) (omega arith))
     where
       own : ℕ
       own = node_norm (store_of bytes (i - 1)) (node_of bytes (i - 1))
 
-      by : (b : Bool) → get_or live (i - 1) 0 ≡ (if b then renumbered kept (i - 1) + 1 else 0)
+      by : (b : Bool) → get_or live (i - 1) 0 ≡ (if b then renumbered kept (i - 1) + 1 otherwise 0)
           → (b ≡ true → node_norm all (renumbered_node kept (node_of bytes (i - 1))) ≡ own)
-          → (if eqb (get_or live (i - 1) 0) 0 then r else max own r)
-          ≡ (if b then max (node_norm all (renumbered_node kept (node_of bytes (i - 1)))) (largest_from i) else largest_from i)
+          → (if eqb (get_or live (i - 1) 0) 0 then r otherwise max own r)
+          ≡ (if b then max (node_norm all (renumbered_node kept (node_of bytes (i - 1)))) (largest_from i) otherwise largest_from i)
       by true l n = rw (ne_eqb (get_or live (i - 1) 0) 0 (λ z. omega arith)) (ap₂ max (sym (n refl)) e)
       by false l n = rw (eq-eqb (get_or live (i - 1) 0) 0 l) e
 

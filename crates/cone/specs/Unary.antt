@@ -5,7 +5,7 @@ use Rattle.std.proofs.Common.{◌∙◌, arith, eq-eqb, pow_pos, ext_get_or}
 use Rattle.std.proofs.Math.Logic.{⊎_elim}
 use Rattle.std.proofs.Math.ListN.{length, get_or}
 use Rattle.std.proofs.lemmas.List.{length-map}
-use Rattle.laws.specs.Test.{if◌then◌else◌, decide}
+use Rattle.laws.specs.Test.{if◌then◌otherwise◌, decide}
 use Rattle.rules.specs.Composition.{all_equal}
 use Rattle.rules.specs.Cone as rules
 use Rattle.rules.specs.Span.{least}
@@ -20,7 +20,7 @@ use Rattle.cone.specs.View.{cone_of, IsCone, is_cone, truth-length, truth_entry,
 
 -- A known entry behind the gate: its answer for 0 or for 1; what is unknown stays so.
 unfoldable pub answered : ℕ → ℕ → ℕ → ℕ
-answered a b x = if eqb x 2 then x else if eqb x 0 then a else b
+answered a b x = if eqb x 2 then x otherwise if eqb x 0 then a otherwise b
 
 answered-bit : (a b x : ℕ) → x ≤ 1 → answered a b x ≡ get_or (a ∷ b ∷ []) x 0
 unfolding answered

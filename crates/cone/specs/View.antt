@@ -7,7 +7,7 @@ use Rattle.std.proofs.lemmas.List.{length-map}
 use Rattle.std.proofs.Math.ListN.{get_or-eq_default}
 use Rattle.std.proofs.Math.Seq.{length-take-le}
 use Rattle.laws.specs.Integer.{ints, plus, minus, plus_neg, minus_neg, abs_parts}
-use Rattle.laws.specs.Test.{if◌then◌else◌, lt_or_le}
+use Rattle.laws.specs.Test.{if◌then◌otherwise◌, lt_or_le}
 use Rattle.rules.specs.Builder.{Entries, known_entries}
 use Rattle.rules.specs.Cone as rules
 use Rattle.rules.specs.Cone.{linear_table}
@@ -40,7 +40,7 @@ cone_of c =
 
 -- constant_value
 unfoldable pub constant_of : rules.Cone → Constant
-constant_of c = if is_constant c then Bit (constant_value c) else No
+constant_of c = if is_constant c then Bit (constant_value c) otherwise No
 
 -- What holds of every cone within the limits: at most 11 sources, all different nodes of a store; a span of at most 32;
 -- and the entries within the span are those that its rows make known: 0 or 1 at the value of a row, 2 elsewhere.

@@ -5,7 +5,7 @@ use Rattle.std.specs.Prelude.{Bool, List, ℕ, ◌-◌, eqb, length, take, drop}
 use Rattle.std.proofs.Math.Bool.{true, false, not}
 use Rattle.std.proofs.Math.Logic.{⊎_elim}
 use Rattle.std.proofs.Math.Option.{Option, none, some}
-use Rattle.laws.specs.Test.{if◌then◌else◌, eq-or-ne}
+use Rattle.laws.specs.Test.{if◌then◌otherwise◌, eq-or-ne}
 use Rattle.rules.specs.declared.Limit.{Limit}
 use Rattle.rules.specs.Builder.{table_limits}
 use Rattle.rules.specs.Edition2.{Line2, Plain, Many, line2, text_conditions2, safety_conditions2, conditions2, with_line2}
@@ -70,11 +70,11 @@ module _ {text nodes ports : List ℕ} {h : Header} (k : Holds text nodes ports 
     net_read : (line2 (take (end - at) (drop at text)) ≡ some (Plain (NetLine (record { p = p; m = m; norm = n })))) × (table_limits p m ≡ true)
     net_read = subst (LineRead (take (end - at) (drop at text))) q r
 
-    net-number : refusal2 (prefix_of text nodes ports h) (line2 (take (end - at) (drop at text))) ≡ (if eqb h.p 0 then 0 else 21)
+    net-number : refusal2 (prefix_of text nodes ports h) (line2 (take (end - at) (drop at text))) ≡ (if eqb h.p 0 then 0 otherwise 21)
     unfolding refusal2 conditions2 text_conditions2 safety_conditions2 text_conditions safety_conditions lowest
     net-number = rw (net_read.0, net_read.1, (holds_says k).unstarted) (by (started (prefix_of text nodes ports h)))
       where
-        by : (b : Bool) → ◌≡◌ {A = ℕ} (if b then 21 else 0) (if not b then 0 else 21)
+        by : (b : Bool) → ◌≡◌ {A = ℕ} (if b then 21 otherwise 0) (if not b then 0 otherwise 21)
         by true = refl
         by false = refl
 

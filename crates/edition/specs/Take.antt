@@ -8,7 +8,7 @@ use Rattle.std.proofs.Math.Option.{some}
 use borrow.Author.Tests.{eq-eqb, ne_eqb, leb-false, ltb-false}
 use Rattle.std.proofs.Math.ListN.{length}
 use Rattle.laws.specs.Select.{any}
-use Rattle.laws.specs.Test.{if◌then◌else◌, eq-or-ne}
+use Rattle.laws.specs.Test.{if◌then◌otherwise◌, eq-or-ne}
 use Rattle.rules.specs.declared.Limit.{Limit}
 use Rattle.rules.specs.Edition2.{Table, Many, line2, not_fitting, not_turning, other_centre, text_conditions2, safety_conditions2, conditions2}
 use Rattle.rules.specs.Form.{Condition, ◌when◌}
@@ -29,7 +29,7 @@ use Rattle.edition.specs.Put.{TablesReady, TablesPut}
 
 -- A second `net2` line is refused.
 unfoldable pub net_step : Header → ℕ → ℕ → Limit → Step
-net_step h p m n = if eqb h.p 0 then record { number = 0; header = with_net h p m n } else record { number = 21; header = h }
+net_step h p m n = if eqb h.p 0 then record { number = 0; header = with_net h p m n } otherwise record { number = 21; header = h }
 
 pub record ManyTaken (h : Header) (nodes l : List ℕ) (i at : ℕ) (r : Step) (nodes₁ : List ℕ) : Type 0 where
   pub number : r.number ≡ lowest (many_conditions h (store_of nodes h.count) i (tables_from l at))

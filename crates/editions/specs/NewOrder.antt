@@ -11,7 +11,7 @@ use Rattle.std.proofs.lemmas.Bool.{not-false}
 use Rattle.std.proofs.Math.ListN.{length-append}
 use Rattle.laws.specs.Select.{any}
 use Rattle.laws.specs.Tabulate.{tabulate}
-use Rattle.laws.specs.Test.{if◌then◌else◌, decide, lt_or_le, not_both}
+use Rattle.laws.specs.Test.{if◌then◌otherwise◌, decide, lt_or_le, not_both}
 use Rattle.rules.specs.Network.{LutNode, Input, Linear, Bootstrap, is_input, count, member, node_at}
 use Rattle.rules.specs.NetworkText.{Net, NodeLine, all_inputs, ending, text_conditions, admission_conditions}
 use Rattle.rules.specs.Regroup.{same_group, behind, order_up_to, order}
@@ -50,7 +50,7 @@ unfolding count node_at
 all_counted f [] e j l = absurd (omega arith)
 all_counted f (x ∷ xs) e j l = by (f x) refl e j l (all_counted f xs)
   where
-    by : (b : Bool) → f x ≡ b → (if b then 1 else 0) + count f xs ≡ suc (length xs) → (j : ℕ) → j < suc (length xs)
+    by : (b : Bool) → f x ≡ b → (if b then 1 otherwise 0) + count f xs ≡ suc (length xs) → (j : ℕ) → j < suc (length xs)
         → (count f xs ≡ length xs → (j : ℕ) → j < length xs → f (node_at xs j) ≡ true) → f (node_at (x ∷ xs) j) ≡ true
     by false g e j l r = absurd (omega (arith, count_most f xs))
     by true g e zero l r = g

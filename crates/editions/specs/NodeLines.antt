@@ -8,7 +8,7 @@ use borrow.Author.Tests.{leb-false, eqb-true, eq-eqb, ne_eqb}
 use Rattle.std.proofs.Math.Dec.{eqb, eqb-suc-zero}
 use Rattle.std.proofs.Math.ListN.{length-append}
 use Rattle.laws.specs.Select.{any}
-use Rattle.laws.specs.Test.{if◌then◌else◌, decide, not_both}
+use Rattle.laws.specs.Test.{if◌then◌otherwise◌, decide, not_both}
 use Rattle.rules.specs.Circuit.{Given}
 use Rattle.rules.specs.Converter.{join_table, node_lines}
 use Rattle.rules.specs.Edition2.{Table, Line2, Plain, Many, table_node, too_long, not_fitting, not_turning, other_centre}
@@ -36,7 +36,7 @@ expand_join i t [] = refl
 expand_join i t (Plain l ∷ ls) = refl
 expand_join i t (Many j ts ∷ ls) = by (eqb i j) refl
   where
-    by : (b : Bool) → eqb i j ≡ b → expand (if b then Many i (t ∷ ts) ∷ ls else Many i (t ∷ []) ∷ Many j ts ∷ ls) ≡ table_node i t ∷ (map (table_node j) ts ++ expand ls)
+    by : (b : Bool) → eqb i j ≡ b → expand (if b then Many i (t ∷ ts) ∷ ls otherwise Many i (t ∷ []) ∷ Many j ts ∷ ls) ≡ table_node i t ∷ (map (table_node j) ts ++ expand ls)
     by true e = ap {B = List LutNode} (λ k. table_node i t ∷ (map (table_node k) ts ++ expand ls)) (eqb-true i j e)
     by false e = refl
 
@@ -105,7 +105,7 @@ module _ (n : Net) (before : List LutNode) (i : ℕ) (b : List ℕ) (p : Passes 
   join_good (Plain l ∷ ls) g = (one_good, g)
   join_good (Many j ts ∷ ls) g = by (eqb i j) refl
     where
-      by : (c : Bool) → eqb i j ≡ c → LinesGood n before (if c then Many i (table_of n.p b ∷ ts) ∷ ls else Many i (table_of n.p b ∷ []) ∷ Many j ts ∷ ls)
+      by : (c : Bool) → eqb i j ≡ c → LinesGood n before (if c then Many i (table_of n.p b ∷ ts) ∷ ls otherwise Many i (table_of n.p b ∷ []) ∷ Many j ts ∷ ls)
       by true e =
           let q : j ≡ i = sym (eqb-true i j e) in (
             more_good ts (subst (λ k. ManyGood n after k ts) q g.0),
@@ -181,7 +181,7 @@ module _ (last : LutNode) (before : List LutNode) (i : ℕ) (t : Table) (opens :
   join_fresh (Plain l ∷ ls) f = (opens, (tt, f.1))
   join_fresh (Many j ts ∷ ls) f = by (eqb i j) refl
     where
-      by : (c : Bool) → eqb i j ≡ c → FreshAfter last before (if c then Many i (t ∷ ts) ∷ ls else Many i (t ∷ []) ∷ Many j ts ∷ ls)
+      by : (c : Bool) → eqb i j ≡ c → FreshAfter last before (if c then Many i (t ∷ ts) ∷ ls otherwise Many i (t ∷ []) ∷ Many j ts ∷ ls)
       by true e =
           let q : j ≡ i = sym (eqb-true i j e) in
           (opens, subst (λ ms. Fresh ms ls) (append_assoc before (table_node i t ∷ []) (map (table_node i) ts)) (subst (λ k. Fresh ((before ++ (table_node i t ∷ [])) ++ map (table_node k) ts) ls) q f.1))

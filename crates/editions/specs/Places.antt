@@ -6,7 +6,7 @@ use Rattle.std.proofs.Math.Bool.{true, false}
 use mathlib.Core.List.{List, [], ◌∷◌, ◌++◌}
 use Rattle.laws.specs.Select.{any, any-right}
 use Rattle.laws.specs.Tabulate.{tabulate, tabulate-length, tabulate-at, tabulate_snoc}
-use Rattle.laws.specs.Test.{if◌then◌else◌, decide, neither_left, neither_right, eq-or-ne, lt_or_le}
+use Rattle.laws.specs.Test.{if◌then◌otherwise◌, decide, neither_left, neither_right, eq-or-ne, lt_or_le}
 use Rattle.rules.specs.Network.{member}
 use Rattle.rules.specs.Regroup.{behind, place_in}
 use Rattle.theorems.specs.Members.{member_head, member_cons, member-left, member_right, member-either, member-one}
@@ -103,7 +103,7 @@ module _ {A : Type 0} (f : A → Bool) (x : A) where
   unfolding behind
   behind_later y l e = rw e (by (f y))
     where
-      by : (b : Bool) → (if b && false then y ∷ x ∷ l else y ∷ behind f x l) ≡ y ∷ behind f x l
+      by : (b : Bool) → (if b && false then y ∷ x ∷ l otherwise y ∷ behind f x l) ≡ y ∷ behind f x l
       by true = refl
       by false = refl
 

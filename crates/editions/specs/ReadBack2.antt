@@ -1,6 +1,6 @@
 -- A network whose tables on each node stand together, written in edition 2 and read by admission, is admitted and says the network (document 02, S-11).
 use Rattle.std.specs.Prelude.{◌≡◌, List, [], ◌∷◌, ◌++◌, map, Bool, true, false, ℕ, eqb}
-use Rattle.laws.specs.Test.{if◌then◌else◌}
+use Rattle.laws.specs.Test.{if◌then◌otherwise◌}
 use Rattle.rules.specs.Circuit.{Output}
 use Rattle.rules.specs.Converter.{join_table, node_lines, lines_of, network_text2}
 use Rattle.rules.specs.Edition2.{Table, Line2, Plain, Many, read_admitted2}
@@ -25,7 +25,7 @@ join_reads i t [] r s = ((r, tt), tt)
 join_reads i t (Plain l ∷ ls) r s = ((r, tt), s)
 join_reads i t (Many j ts ∷ ls) r s = by (eqb i j)
   where
-    by : (b : Bool) → LinesRead (if b then Many i (t ∷ ts) ∷ ls else Many i (t ∷ []) ∷ Many j ts ∷ ls)
+    by : (b : Bool) → LinesRead (if b then Many i (t ∷ ts) ∷ ls otherwise Many i (t ∷ []) ∷ Many j ts ∷ ls)
     by true = ((r, s.0), s.1)
     by false = ((r, tt), s)
 

@@ -5,7 +5,7 @@ use Rattle.std.proofs.Common.{◌∙◌, true≢false}
 use mathlib.Core.List.{List, [], ◌∷◌, ◌++◌, map, append_assoc, append-nil}
 use borrow.Author.Tests.{eqb-true, eq-eqb, ne_eqb, not-false}
 use Rattle.laws.specs.Select.{any}
-use Rattle.laws.specs.Test.{if◌then◌else◌, not_both}
+use Rattle.laws.specs.Test.{if◌then◌otherwise◌, not_both}
 use Rattle.rules.specs.Circuit.{Name, Output, Given}
 use Rattle.rules.specs.Converter.{join_table, node_lines, lines_of, lines2_text, network_text2}
 use Rattle.rules.specs.Edition2.{Table, Line2, Plain, Many, table_node, other_centre, read_admitted2}
@@ -46,7 +46,7 @@ unfolding lines join_lines
 lines_joined [] = refl
 lines_joined (b ∷ s) = by (eqb b 10) (lines_joined s)
   where
-    by : (c : Bool) → join_lines (lines s) ≡ s → join_lines (if c then (b ∷ []) ∷ lines s else before b (lines s)) ≡ b ∷ s
+    by : (c : Bool) → join_lines (lines s) ≡ s → join_lines (if c then (b ∷ []) ∷ lines s otherwise before b (lines s)) ≡ b ∷ s
     by true e = ap {B = List ℕ} (λ l. b ∷ l) e
     by false e = before_joined b (lines s) ∙ ap {B = List ℕ} (λ l. b ∷ l) e
 

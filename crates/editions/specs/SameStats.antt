@@ -10,7 +10,7 @@ use Rattle.std.proofs.lemmas.List.{length-map}
 use Rattle.std.proofs.Math.Seq.{take-length}
 use Rattle.laws.specs.Select.{any}
 use Rattle.laws.specs.Tabulate.{tabulate, map-tabulate}
-use Rattle.laws.specs.Test.{if◌then◌else◌, decide, eq-or-ne, or_swap}
+use Rattle.laws.specs.Test.{if◌then◌otherwise◌, decide, eq-or-ne, or_swap}
 use Rattle.laws.specs.Permuted.{Perm, same, one, two, then_perm, perm_put, perm_back, perm_map}
 use Rattle.rules.specs.Network.{LutNode, Input, Linear, Bootstrap, Network, is_input, is_linear, is_bootstrap, table_length, node_norm, count, largest, boot_sources, member, different, stats, node_at, weight_of, depths, depth, largest_depth, node_centre, has_centre}
 use Rattle.rules.specs.Regroup.{behind, order_up_to, order, place_in, moved_node, moved_output, reordered, regrouped}
@@ -32,7 +32,7 @@ use Rattle.editions.specs.Statements.{shares}
 count_perm : (f : LutNode → Bool) {a b : List LutNode} → Perm a b → count f a ≡ count f b
 unfolding count
 count_perm f same = refl
-count_perm f (one x p) = ap (λ k. (if f x then 1 else 0) + k) (count_perm f p)
+count_perm f (one x p) = ap (λ k. (if f x then 1 otherwise 0) + k) (count_perm f p)
 count_perm f (two {l = l} x y) = omega arith
 count_perm f (then_perm p q) = count_perm f p ∙ count_perm f q
 
@@ -61,7 +61,7 @@ member_there i j l n = rw (ne_eqb i j n)
 different_perm : {a b : List ℕ} → Perm a b → different a ≡ different b
 unfolding different
 different_perm same = refl
-different_perm (one x p) = ap₂ (λ (m : Bool) k. (if m then 0 else 1) + k) (member_perm x p) (different_perm p)
+different_perm (one x p) = ap₂ (λ (m : Bool) k. (if m then 0 otherwise 1) + k) (member_perm x p) (different_perm p)
 different_perm (two {l = l} x y) =
     ⊎_elim (λ (e : x ≡ y). rw (member_here x y l e, member_here y x l (sym e), e) refl) (λ (n : x ≡ y → ⊥). rw (member_there x y l n, member_there y x l (λ e. n (sym e))) (omega arith))
     (eq-or-ne x y)
@@ -129,7 +129,7 @@ module _ (to : ℕ → ℕ) where
   count_moved : (f : LutNode → Bool) → ((x : LutNode) → f (moved_node to x) ≡ f x) → (xs : List LutNode) → count f (map (moved_node to) xs) ≡ count f xs
   unfolding count
   count_moved f h [] = refl
-  count_moved f h (x ∷ xs) = ap₂ (λ (b : Bool) k. (if b then 1 else 0) + k) (h x) (count_moved f h xs)
+  count_moved f h (x ∷ xs) = ap₂ (λ (b : Bool) k. (if b then 1 otherwise 0) + k) (h x) (count_moved f h xs)
 
   largest_moved : (f : LutNode → ℕ) → ((x : LutNode) → f (moved_node to x) ≡ f x) → (xs : List LutNode) → largest f (map (moved_node to) xs) ≡ largest f xs
   unfolding largest
@@ -175,7 +175,7 @@ module _ (to : ℕ → ℕ) where
     different_moved [] w = refl
     different_moved (i ∷ l) w =
         let later : (j : ℕ) → member j l ≡ true → known j = λ k m. w k (member-tail k i l m) in
-        ap₂ (λ (b : Bool) k. (if b then 0 else 1) + k) (member_moved i l (w i (member_head i l)) later) (different_moved l later)
+        ap₂ (λ (b : Bool) k. (if b then 0 otherwise 1) + k) (member_moved i l (w i (member_head i l)) later) (different_moved l later)
 
 -- ---- Norms, by the sources with their new numbers.
 

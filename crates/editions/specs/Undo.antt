@@ -9,7 +9,7 @@ use Rattle.std.proofs.Math.Option.{Option, none, some, none-ne-some, some-inject
 use Prim.Native.Nat.{ℕ, zero, suc, ◌+◌, ◌-◌, ◌<◌, ◌≤◌}
 use native.Mathlib.Omega.{arith}
 use Rattle.std.proofs.Math.Dec.{eqb, eqb-suc-zero}
-use Rattle.laws.specs.Test.{if◌then◌else◌, is_T, and_both, zero≢one, both_left, both_right}
+use Rattle.laws.specs.Test.{if◌then◌otherwise◌, is_T, and_both, zero≢one, both_left, both_right}
 use Rattle.laws.specs.Lists.{Each}
 use Rattle.rules.specs.declared.Limit.{Limit}
 use Rattle.rules.specs.declared.Limit.TheVariants.{Unlimited, AtMost}
@@ -46,7 +46,7 @@ module _ {A : Type 0} where
   only-back none v e = absurd (zero≢one (cc))
   only-back (some p) v e = by p.rest refl e
     where
-      by : (l : List ℕ) → p.rest ≡ l → (if eqb (length l) 0 then some p.value else none) ≡ some v → some p ≡ some (record { value = v; rest = [] })
+      by : (l : List ℕ) → p.rest ≡ l → (if eqb (length l) 0 then some p.value otherwise none) ≡ some v → some p ≡ some (record { value = v; rest = [] })
       by [] f e = ap₂ {C = Option (Piece A)} (λ x l. some (record { value = x; rest = l })) (some-injective p.value v e) f
       by (b ∷ l) f e = absurd (none-ne-some v (rw (eqb-suc-zero (length l)) at e))
 
@@ -73,7 +73,7 @@ unfolding run AllOf
 run-all f [] = tt
 run-all f (b ∷ s) = by (f b) refl (run-all f s)
   where
-    by : (c : Bool) → f b ≡ c → AllOf f (run f s) → AllOf f (if c then b ∷ run f s else [])
+    by : (c : Bool) → f b ≡ c → AllOf f (run f s) → AllOf f (if c then b ∷ run f s otherwise [])
     by true e r = (e, r)
     by false e r = tt
 
@@ -83,7 +83,7 @@ run_drop f [] = refl
 run_drop f (b ∷ s) = by (f b) (run_drop f s)
   where
     by : (c : Bool) → s ≡ run f s ++ drop (length (run f s)) s
-        → b ∷ s ≡ (if c then b ∷ run f s else []) ++ drop (length (if c then b ∷ run f s else [])) (b ∷ s)
+        → b ∷ s ≡ (if c then b ∷ run f s otherwise []) ++ drop (length (if c then b ∷ run f s otherwise [])) (b ∷ s)
     by true r = ap {B = List ℕ} (λ l. b ∷ l) r
     by false r = refl
 
@@ -92,7 +92,7 @@ run_of_back : (f : ℕ → Bool) (good : List ℕ → Bool) (s : List ℕ) (p : 
 unfolding run_of
 run_of_back f good s p e = by (good (run f s)) refl e
   where
-    by : (c : Bool) → good (run f s) ≡ c → (if c then some (record { value = run f s; rest = drop (length (run f s)) s }) else none) ≡ some p
+    by : (c : Bool) → good (run f s) ≡ c → (if c then some (record { value = run f s; rest = drop (length (run f s)) s }) otherwise none) ≡ some p
         → (s ≡ p.value ++ p.rest) × AllOf f p.value × (good p.value ≡ true)
     by true g e =
         subst (λ (q : Piece (List ℕ)). (s ≡ q.value ++ q.rest) × AllOf f q.value × (good q.value ≡ true)) (some-injective _ p e) (run_drop f s, run-all f s, g)
@@ -134,7 +134,7 @@ from2_back : (n : ℕ) (s : List ℕ) (p : Piece ℕ) → from2_to64 n s ≡ som
 unfolding from2_to64
 from2_back n s p e = by (leb 2 n && leb n 64) refl e
   where
-    by : (b : Bool) → (leb 2 n && leb n 64) ≡ b → (if b then give n else (λ t. none)) s ≡ some p → ((bytes " " ++ digits n) ++ s ≡ weight_text p.value ++ p.rest) × GoodWeight p.value
+    by : (b : Bool) → (leb 2 n && leb n 64) ≡ b → (if b then give n otherwise (λ t. none)) s ≡ some p → ((bytes " " ++ digits n) ++ s ≡ weight_text p.value ++ p.rest) × GoodWeight p.value
     by true f e =
         let l = leb-true 2 n (both_left (leb 2 n) (leb n 64) f) in
         let m = leb-true n 64 (both_right (leb 2 n) (leb n 64) f) in
@@ -183,7 +183,7 @@ limit_back : (n : ℕ) (s : List ℕ) (p : Piece Limit) → up_to4096 n s ≡ so
 unfolding up_to4096
 limit_back n s p e = by (leb n 4096) refl e
   where
-    by : (b : Bool) → leb n 4096 ≡ b → (if b then give (AtMost n) else (λ t. none)) s ≡ some p → (digits n ++ s ≡ limit_text p.value ++ p.rest) × SmallLimit p.value
+    by : (b : Bool) → leb n 4096 ≡ b → (if b then give (AtMost n) otherwise (λ t. none)) s ≡ some p → (digits n ++ s ≡ limit_text p.value ++ p.rest) × SmallLimit p.value
     by true f e =
         give_back (λ (q : Piece Limit). (digits n ++ s ≡ limit_text q.value ++ q.rest) × SmallLimit q.value) (AtMost n) s p e
         (unfold limit_text in refl, unfold SmallLimit in (leb→le n 4096 (is_T _ f)))

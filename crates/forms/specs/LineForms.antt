@@ -1,7 +1,7 @@
 -- The pieces stand within a line, and the lines that both texts have are whole lines.
 use Rattle.std.specs.Prelude.{refl, Bool, true, false, ◌&&◌, [], ◌∷◌, leb}
 use Rattle.std.proofs.Math.Option.{none}
-use Rattle.laws.specs.Test.{if◌then◌else◌}
+use Rattle.laws.specs.Test.{if◌then◌otherwise◌}
 use Rattle.rules.specs.declared.Limit.TheVariants.{AtMost}
 use Rattle.rules.specs.Form.{give, name, is_name_byte, is_name, number, is_digit, is_number, bits, is_bit_byte, is_bits, wire, norm, up_to4096, from2_to64, weight, in_line, out_line_lem}
 use Rattle.text.specs.FirstLine.{Inner, Closes, no_newline, inner_give, inner_or, inner_then, inner_word, inner_run, closes_then, closes_give, closes_word}
@@ -25,7 +25,7 @@ inner_wire =
     (inner_or (inner_then (inner_word _ refl) (λ _. inner_give _)) (inner_then (inner_word _ refl) (λ _. inner_give _)))
 
 -- a value if a test holds, and nothing else
-inner_if : {A : Type 0} (t : Bool) (a : A) → Inner (if t then give a else (λ s. none))
+inner_if : {A : Type 0} (t : Bool) (a : A) → Inner (if t then give a otherwise (λ s. none))
 inner_if true a = inner_give a
 inner_if false a = record { inside = λ l. refl }
 

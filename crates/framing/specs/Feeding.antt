@@ -3,7 +3,7 @@ use Rattle.std.specs.Prelude.{◌≡◌, ℕ, ltb, take}
 use Rattle.std.proofs.Math.Path.{refl, sym, ap}
 use Rattle.std.proofs.Common.{◌∙◌}
 use mathlib.Core.List.{List, [], ◌∷◌, ◌++◌, append_assoc, flatten}
-use Rattle.laws.specs.Test.{if◌then◌else◌}
+use Rattle.laws.specs.Test.{if◌then◌otherwise◌}
 use Rattle.rules.specs.Service.{end_line, refusal_text}
 use Rattle.framing.specs.Step.{next, Fed, fed}
 use Rattle.framing.specs.declared.Event.{Event}
@@ -32,7 +32,7 @@ fed_all_step a b s r e = rw e
 
 -- The input's end.
 unfoldable pub closing : Feed → List ℕ
-closing f = if ltb 0 f.count then refusal_text 1 0 ++ end_line else []
+closing f = if ltb 0 f.count then refusal_text 1 0 ++ end_line otherwise []
 
 fed_all_append : (a : State) (s t : List ℕ) → fed_all a (s ++ t) ≡ fed_all (fed_all a s) t
 unfolding fed_all

@@ -4,18 +4,18 @@ use Rattle.std.proofs.Math.Path.{refl}
 use Rattle.std.proofs.Common.{sym}
 use Rattle.std.proofs.Math.Bool.{true, false}
 use mathlib.Core.List.{List, [], ◌∷◌, ◌++◌, append_assoc}
-use Rattle.laws.specs.Test.{if◌then◌else◌}
+use Rattle.laws.specs.Test.{if◌then◌otherwise◌}
 use Rattle.rules.specs.Form.{lines}
 use Rattle.rules.specs.Service.{is_end, last_answer, reply, served, service_with}
 
 -- The jobs that these lines close; `job` is what came before them of the first one.
 unfoldable pub jobs : List ℕ → List (List ℕ) → List (List ℕ)
 jobs job [] = []
-jobs job (l ∷ ls) = if is_end l then job ∷ jobs [] ls else jobs (job ++ l) ls
+jobs job (l ∷ ls) = if is_end l then job ∷ jobs [] ls otherwise jobs (job ++ l) ls
 
 unfoldable pub rest : List ℕ → List (List ℕ) → List ℕ
 rest job [] = job
-rest job (l ∷ ls) = if is_end l then rest [] ls else rest (job ++ l) ls
+rest job (l ∷ ls) = if is_end l then rest [] ls otherwise rest (job ++ l) ls
 
 module _ (answer : List ℕ → List ℕ) where
   unfoldable pub replies : List (List ℕ) → List ℕ
@@ -29,8 +29,8 @@ module _ (answer : List ℕ → List ℕ) where
     where
       by : (t : Bool) → served answer [] ls ≡ replies (jobs [] ls) ++ last_answer (rest [] ls)
           → served answer (job ++ l) ls ≡ replies (jobs (job ++ l) ls) ++ last_answer (rest (job ++ l) ls)
-          → (if t then reply answer job ++ served answer [] ls else served answer (job ++ l) ls)
-          ≡ replies (if t then job ∷ jobs [] ls else jobs (job ++ l) ls) ++ last_answer (if t then rest [] ls else rest (job ++ l) ls)
+          → (if t then reply answer job ++ served answer [] ls otherwise served answer (job ++ l) ls)
+          ≡ replies (if t then job ∷ jobs [] ls otherwise jobs (job ++ l) ls) ++ last_answer (if t then rest [] ls otherwise rest (job ++ l) ls)
       by true e f = rw e (sym (append_assoc (reply answer job) (replies (jobs [] ls)) (last_answer (rest [] ls))))
       by false e f = f
 

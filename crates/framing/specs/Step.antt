@@ -2,7 +2,7 @@
 use Rattle.std.specs.Prelude.{◌≡◌, ◌&&◌, List, ℕ, ◌+◌, ◌<◌, ◌≤◌, min, leb, ltb, eqb, get_or, set}
 use Rattle.std.proofs.Common.{sym}
 use borrow.Author.Tests.{lt-ltb, le-ltb, eq-eqb, ne_eqb}
-use Rattle.laws.specs.Test.{if◌then◌else◌}
+use Rattle.laws.specs.Test.{if◌then◌otherwise◌}
 use Rattle.rules.specs.Form.{bytes}
 use Rattle.framing.specs.declared.Event.{Event}
 use Rattle.framing.specs.declared.Event.TheVariants.{More, Job, Long}
@@ -22,11 +22,11 @@ next Long = start
 
 -- How many bytes of a line agree with `(end)`, with a byte more that is no newline; 6 where one of them does not.
 unfoldable pub next_match : ℕ → ℕ → ℕ
-next_match m b = if ltb m 5 && eqb b (get_or end_word m 0) then m + 1 else 6
+next_match m b = if ltb m 5 && eqb b (get_or end_word m 0) then m + 1 otherwise 6
 
 -- A job of n bytes is closed.
 abbrev pub closed_by : ℕ → Event
-closed_by n = if leb n 32768 then Job n else Long
+closed_by n = if leb n 32768 then Job n otherwise Long
 
 -- The bytes of a closed job are within the limit.
 abbrev pub Within : Event → Type 0
@@ -54,8 +54,8 @@ fed_to e room = record { event = e; room = room }
 unfoldable pub fed : Feed → ℕ → List ℕ → Fed
 fed f b room =
     if eqb b 10
-    then (if eqb f.matched 5 then fed_to (closed_by f.line) room else fed_to (More (line_ended f)) (set room f.count b))
-    else fed_to (More (line_on f b)) (set room f.count b)
+    then (if eqb f.matched 5 then fed_to (closed_by f.line) room otherwise fed_to (More (line_ended f)) (set room f.count b))
+    otherwise fed_to (More (line_on f b)) (set room f.count b)
 
 -- ---- The same by cases.
 

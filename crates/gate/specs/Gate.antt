@@ -6,7 +6,7 @@ use native.Mathlib.Omega.{arith}
 use Rattle.std.proofs.Common.{le-leb}
 use Rattle.std.proofs.lemmas.Bool.{lt-leb}
 use Rattle.std.proofs.Math.ListN.{length}
-use Rattle.laws.specs.Test.{if◌then◌else◌, if_both}
+use Rattle.laws.specs.Test.{if◌then◌otherwise◌, if_both}
 use Rattle.rules.specs.Cone as C
 use Rattle.rules.specs.Cone.{identity}
 use Rattle.rules.specs.Mapper as M
@@ -28,7 +28,7 @@ use Rattle.gate.specs.View.{StandsBoth, limited_of}
 -- ---- Room: a bootstrap may add a sum and a table; a cone of no source or one source stays as it was.
 
 unfoldable pub room : C.Cone → ℕ
-room c = if leb (length c.support) 1 then 0 else 2
+room c = if leb (length c.support) 1 then 0 otherwise 2
 
 unfoldable pub room_of : Sides → ℕ
 room_of w = room (cone_of w.left.cone) + room (cone_of w.right.cone)

@@ -5,7 +5,7 @@ use Rattle.std.proofs.Common.{sym, ◌∙◌, add-one, ne_eqb}
 use Rattle.std.proofs.Math.Bool.{true, false}
 use native.Mathlib.Omega.{arith}
 use Rattle.std.proofs.Math.ListN.{get_or, take}
-use Rattle.laws.specs.Test.{if◌then◌else◌, zero≢one, T-is, is_T}
+use Rattle.laws.specs.Test.{if◌then◌otherwise◌, zero≢one, T-is, is_T}
 use Rattle.rules.specs.Cone as C
 use Rattle.rules.specs.Composition.{all_equal}
 use Rattle.rules.specs.Cone.{Result, ok, err, ◌>>=◌}
@@ -237,7 +237,7 @@ pub bit_of : (c : C.Cone) (v : ℕ) → Bit v ≡ constant_of c → (M.is_consta
 unfolding constant_of
 bit_of c v e = by (M.is_constant c) refl e
   where
-    by : (t : Bool) → M.is_constant c ≡ t → Bit v ≡ (if t then Bit (M.constant_value c) else No) → (M.is_constant c ≡ true) × (v ≡ M.constant_value c)
+    by : (t : Bool) → M.is_constant c ≡ t → Bit v ≡ (if t then Bit (M.constant_value c) otherwise No) → (M.is_constant c ≡ true) × (v ≡ M.constant_value c)
     by true f g = (f, cc)
     by false f g = absurd (zero≢one (cc))
 
@@ -245,7 +245,7 @@ pub no_of : (c : C.Cone) → No ≡ constant_of c → M.is_constant c ≡ false
 unfolding constant_of
 no_of c e = by (M.is_constant c) refl e
   where
-    by : (t : Bool) → M.is_constant c ≡ t → No ≡ (if t then Bit (M.constant_value c) else No) → M.is_constant c ≡ false
+    by : (t : Bool) → M.is_constant c ≡ t → No ≡ (if t then Bit (M.constant_value c) otherwise No) → M.is_constant c ≡ false
     by true f g = absurd (zero≢one (cc))
     by false f g = f
 

@@ -1,6 +1,6 @@
 -- What the structs of a gate stand for, and what holds of them on the way.
 use Rattle.std.specs.Prelude.{◌≡◌, List, ℕ, eqb}
-use Rattle.laws.specs.Test.{if◌then◌else◌}
+use Rattle.laws.specs.Test.{if◌then◌otherwise◌}
 use Rattle.rules.specs.Cone.{Result, ok, err}
 use Rattle.rules.specs.Mapper as M
 use Rattle.cone.specs.declared.order.Sides.{Sides}
@@ -33,7 +33,7 @@ mapped_of bytes m =
       first = M.update (side_of m.first);
       second = M.update (side_of m.second);
     })
-    else err m.number
+    otherwise err m.number
 
 pub record Maps (p : ℕ) (old : List ℕ) (before more : ℕ) (bytes : List ℕ) (m : Mapped) : Type 0 where
   pub grown : m.number ≡ 0 → Grown p old before more bytes m.count

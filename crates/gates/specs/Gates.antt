@@ -11,7 +11,7 @@ use Rattle.std.proofs.Math.ListN.{get_or}
 use borrow.Author.Tests.{lt-ltb, le-ltb, eq-eqb, ne_eqb, leb-true}
 use Rattle.laws.specs.Select.{any}
 use Rattle.laws.specs.Tabulate.{tabulate, tabulate-length, tabulate-at}
-use Rattle.laws.specs.Test.{if◌then◌else◌, lt_or_le, eq-or-ne, both_left, both_right, or_by_right, neither}
+use Rattle.laws.specs.Test.{if◌then◌otherwise◌, lt_or_le, eq-or-ne, both_left, both_right, or_by_right, neither}
 use Rattle.rules.specs.declared.Settings.{Settings}
 use Rattle.rules.specs.Circuit.{Gate, Output}
 use Rattle.rules.specs.Cone as C
@@ -60,7 +60,7 @@ four_of gs i = get_or gs (6 * i + 2) 0 ∷ get_or gs (6 * i + 3) 0 ∷ get_or gs
 -- ---- What the results stand for.
 
 unfoldable pub state_read : List ℕ → List ℕ → ℕ → Work → Reading State
-state_read nodes wires n w = if eqb w.number 0 then Good (state_of nodes w.count wires n) else Refused w.number w.line
+state_read nodes wires n w = if eqb w.number 0 then Good (state_of nodes w.count wires n) otherwise Refused w.number w.line
 
 pub record Works (p : ℕ) (old : List ℕ) (before more : ℕ) (nodes wires : List ℕ) (n : ℕ) (w : Work) : Type 0 where
   pub wired : w.number ≡ 0 → Wired nodes w.count wires n
@@ -73,7 +73,7 @@ unfoldable pub named : ℕ → List Output → Bool
 named i outputs = any (λ (o : Output). leads_to i o.wire) outputs
 
 unfoldable pub forced_cone : Bool → Settings → List LutNode → C.Cone → Stored
-forced_cone f s nodes c = if f then bootstrap_cone s nodes c else record { nodes = nodes; cone = c }
+forced_cone f s nodes c = if f then bootstrap_cone s nodes c otherwise record { nodes = nodes; cone = c }
 
 -- ---- laws: an output names the node
 

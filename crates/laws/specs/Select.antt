@@ -10,12 +10,12 @@ use Rattle.std.proofs.Math.Option.{Option, none, some}
 use Prim.Native.Nat.{ℕ, zero, suc, ◌+◌, ◌≤◌, ◌<◌, zero-le}
 use native.Mathlib.Omega.{arith}
 use Rattle.std.proofs.Math.ListN.{length}
-use Rattle.laws.specs.Test.{if◌then◌else◌, both, both_left, both_right, or_by_right, or_cases}
+use Rattle.laws.specs.Test.{if◌then◌otherwise◌, both, both_left, both_right, or_by_right, or_cases}
 
 module _ {ℓ} {A : Type ℓ} where
   unfoldable pub select : (A → Bool) → List A → List A
   select f [] = []
-  select f (x ∷ l) = let r = select f l in if f x then x ∷ r else r
+  select f (x ∷ l) = let r = select f l in if f x then x ∷ r otherwise r
 
   -- at one of them, at all of them
   unfoldable pub any : (A → Bool) → List A → Bool
@@ -29,7 +29,7 @@ module _ {ℓ} {A : Type ℓ} where
   -- the first of them
   unfoldable pub first_of : (A → Bool) → List A → Option A
   first_of f [] = none
-  first_of f (x ∷ l) = let r = first_of f l in if f x then some x else r
+  first_of f (x ∷ l) = let r = first_of f l in if f x then some x otherwise r
 
 module _ {A : Type 0} where
   pub all-at : (f : A → Bool) (l : List A) (d : A) → all f l ≡ true → (i : ℕ) → i < length l → f (get_or l i d) ≡ true
@@ -48,9 +48,9 @@ module _ {A : Type 0} where
   selected_holds f d [] i h = absurd (not-suc-le-zero h)
   selected_holds f d (x ∷ l) i h = by (f x) refl i h (selected_holds f d l)
     where
-      by : (b : Bool) → f x ≡ b → (i : ℕ) → i < length (if b then x ∷ select f l else select f l)
+      by : (b : Bool) → f x ≡ b → (i : ℕ) → i < length (if b then x ∷ select f l otherwise select f l)
           → ((j : ℕ) → j < length (select f l) → f (get_or (select f l) j d) ≡ true)
-          → f (get_or (if b then x ∷ select f l else select f l) i d) ≡ true
+          → f (get_or (if b then x ∷ select f l otherwise select f l) i d) ≡ true
       by true q zero h r = q
       by true q (suc i) h r = r i (le_of_suc-le-suc h)
       by false q i h r = r i h
@@ -60,7 +60,7 @@ module _ {A : Type 0} where
   select_le f [] = zero-le
   select_le f (x ∷ l) = by (f x) (select_le f l)
     where
-      by : (t : Bool) → length (select f l) ≤ length l → length (if t then x ∷ select f l else select f l) ≤ suc (length l)
+      by : (t : Bool) → length (select f l) ≤ length l → length (if t then x ∷ select f l otherwise select f l) ≤ suc (length l)
       by true r = omega arith
       by false r = omega arith
 
@@ -70,7 +70,7 @@ module _ {A : Type 0} where
   select_split f (x ∷ l) = by (f x) (select_split f l)
     where
       by : (a : Bool) → length l ≡ length (select f l) + length (select (λ x. not (f x)) l)
-          → suc (length l) ≡ length (if a then x ∷ select f l else select f l) + length (if not a then x ∷ select (λ x. not (f x)) l else select (λ x. not (f x)) l)
+          → suc (length l) ≡ length (if a then x ∷ select f l otherwise select f l) + length (if not a then x ∷ select (λ x. not (f x)) l otherwise select (λ x. not (f x)) l)
       by true r = omega arith
       by false r = omega arith
 
@@ -81,8 +81,8 @@ module _ {A : Type 0} (f g : A → Bool) where
   select_or (x ∷ l) = by (f x) (g x) (select_or l)
     where
       by : (a b : Bool) → length (select (λ x. f x || g x) l) ≤ length (select f l) + length (select g l)
-          → length (if a || b then x ∷ select (λ x. f x || g x) l else select (λ x. f x || g x) l)
-          ≤ length (if a then x ∷ select f l else select f l) + length (if b then x ∷ select g l else select g l)
+          → length (if a || b then x ∷ select (λ x. f x || g x) l otherwise select (λ x. f x || g x) l)
+          ≤ length (if a then x ∷ select f l otherwise select f l) + length (if b then x ∷ select g l otherwise select g l)
       by true true r = omega arith
       by true false r = omega arith
       by false true r = omega arith
@@ -100,7 +100,7 @@ first-append f [] t = refl
 first-append f (x ∷ s) t = by (f x) (first-append f s t)
   where
     by : (b : Bool) → first_of f (s ++ t) ≡ or_else (first_of f s) (first_of f t)
-        → (if b then some x else first_of f (s ++ t)) ≡ or_else (if b then some x else first_of f s) (first_of f t)
+        → (if b then some x otherwise first_of f (s ++ t)) ≡ or_else (if b then some x otherwise first_of f s) (first_of f t)
     by true e = refl
     by false e = e
 
@@ -110,7 +110,7 @@ first-map f g [] = refl
 first-map f g (x ∷ l) = by (f (g x)) (first-map f g l)
   where
     by : (b : Bool) → first_of f (map g l) ≡ Option.map g (first_of (λ x. f (g x)) l)
-        → (if b then some (g x) else first_of f (map g l)) ≡ Option.map g (if b then some x else first_of (λ x. f (g x)) l)
+        → (if b then some (g x) otherwise first_of f (map g l)) ≡ Option.map g (if b then some x otherwise first_of (λ x. f (g x)) l)
     by true e = refl
     by false e = e
 

@@ -4,11 +4,11 @@ use Rattle.std.proofs.Common.{sym, subst, ◌∙◌, true≢false, inl, inr, ⊎
 use Rattle.std.proofs.Math.Option.{Option, none, some}
 use Rattle.std.proofs.Math.Dec.{eqb_refl}
 
-infixr 1 if◌then◌else◌
+infixr 1 if◌then◌otherwise◌
 -- one of two, by a test
-abbrev pub if◌then◌else◌ {ℓ} : {A : Type ℓ} → Bool → A → A → A
-if true then a else b = a
-if false then a else b = b
+abbrev pub if◌then◌otherwise◌ {ℓ} : {A : Type ℓ} → Bool → A → A → A
+if true then a otherwise b = a
+if false then a otherwise b = b
 
 -- whether there is one
 abbrev pub is_some {ℓ} : {A : Type ℓ} → Option A → Bool
@@ -32,7 +32,7 @@ pub zero≢one : ◌≡◌ {A = ℕ} 0 1 → ⊥
 zero≢one e = omega arith
 
 -- whichever test holds
-pub same_of_four : (a b c : Bool) (x : ℕ) → (if a then x else if b then x else if c then x else x) ≡ x
+pub same_of_four : (a b c : Bool) (x : ℕ) → (if a then x otherwise if b then x otherwise if c then x otherwise x) ≡ x
 same_of_four true b c x = refl
 same_of_four false true c x = refl
 same_of_four false false true x = refl
@@ -97,7 +97,7 @@ get_d_any (x ∷ l) zero a b h = refl
 get_d_any (x ∷ l) (suc i) a b h = get_d_any l i a b (le_of_suc-le-suc h)
 
 -- what holds of both holds of the one chosen
-pub if_both {ℓ} : {A : Type ℓ} (Q : A → Type 0) (b : Bool) {x y : A} → Q x → Q y → Q (if b then x else y)
+pub if_both {ℓ} : {A : Type ℓ} (Q : A → Type 0) (b : Bool) {x y : A} → Q x → Q y → Q (if b then x otherwise y)
 if_both Q true f g = f
 if_both Q false f g = g
 

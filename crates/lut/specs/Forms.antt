@@ -8,7 +8,7 @@ use Rattle.std.proofs.Math.ListN.{get_or-map}
 use Rattle.std.proofs.Math.Seq.{drop-cons}
 use Rattle.laws.specs.Front.{taken_step, taken-all}
 use Rattle.laws.specs.Select.{all}
-use Rattle.laws.specs.Test.{if◌then◌else◌, if_both, eq-or-ne}
+use Rattle.laws.specs.Test.{if◌then◌otherwise◌, if_both, eq-or-ne}
 use Rattle.rules.specs.Network.{Term, LutNode, Input, Linear, Bootstrap, member}
 use Rattle.rules.specs.NetworkText.{sources}
 use Rattle.rules.specs.Store.{needs, terms_of, coefficient_of, same_sources}
@@ -19,7 +19,7 @@ use Rattle.nodes.specs.View.{term, node_of, IsNode}
 -- the number of the first term of this source; as many as there are where it has none
 unfoldable pub place_of : List Term → ℕ → ℕ
 place_of [] n = 0
-place_of (t ∷ ts) n = let r = suc (place_of ts n) in if eqb t.node n then 0 else r
+place_of (t ∷ ts) n = let r = suc (place_of ts n) in if eqb t.node n then 0 otherwise r
 
 pub record AlignedTo (support : List ℕ) (ts : List Term) (a : Aligned) : Type 0 where
   pub same : a.ok ≡ same_sources support ts

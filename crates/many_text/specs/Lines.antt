@@ -6,7 +6,7 @@ use Rattle.std.proofs.Math.Bool.{true, false, or-true}
 use Rattle.std.proofs.Math.Option.{Option, none, some}
 use Rattle.std.proofs.Math.ListN.{length}
 use Rattle.laws.specs.Select.{any}
-use Rattle.laws.specs.Test.{if◌then◌else◌, is_some, same_of_four}
+use Rattle.laws.specs.Test.{if◌then◌otherwise◌, is_some, same_of_four}
 use Rattle.rules.specs.declared.Limit.{Limit}
 use Rattle.rules.specs.Builder.{table_limits}
 use Rattle.rules.specs.Circuit.{Given, Output}
@@ -87,7 +87,7 @@ module _ {l : List ℕ} {p m : ℕ} {n : Limit} {end : ℕ} (h : Net2Is l p m n 
   net : (w : Net) × (net2_line l ≡ some (record { value = w; rest = drop end l })) × (record { p = p; m = m; norm = n } ≡ cap_net w)
   net = exact_some cap_net (net2_line l) h.piece
 
-  net-line : line2 l ≡ (if eqb (length (drop end l)) 0 then some (Plain (NetLine net.0)) else none)
+  net-line : line2 l ≡ (if eqb (length (drop end l)) 0 then some (Plain (NetLine net.0)) otherwise none)
   unfolding line2 only
   net-line = ap only (first _ (step _ net.1 refl))
 
@@ -129,15 +129,15 @@ pub record ManyIs (l : List ℕ) (at : ℕ) : Type 0 where
   pub line : line2 l ≡ only (many_rest (drop at l))
   pub inside : at ≤ length l
 
-closed_is : (x : Line2) (y : List ℕ) → only (onward (exactly (bytes ")\n") y) (λ _. give x)) ≡ (if closed y then some x else none)
+closed_is : (x : Line2) (y : List ℕ) → only (onward (exactly (bytes ")\n") y) (λ _. give x)) ≡ (if closed y then some x otherwise none)
 unfolding closed only onward
 closed_is x y = by (exactly (bytes ")\n") y)
   where
-    last : (b : Bool) → (if b then some x else none) ≡ (if is_some {A = Unit {0}} (if b then some tt else none) then some x else none)
+    last : (b : Bool) → (if b then some x otherwise none) ≡ (if is_some {A = Unit {0}} (if b then some tt otherwise none) then some x otherwise none)
     last true = refl
     last false = refl
 
-    by : (o : Option (Piece (Unit {0}))) → only (onward o (λ _. give x)) ≡ (if is_some (only o) then some x else none)
+    by : (o : Option (Piece (Unit {0}))) → only (onward o (λ _. give x)) ≡ (if is_some (only o) then some x otherwise none)
     by none = refl
     by (some q) = last (eqb (length q.rest) 0)
 
@@ -150,7 +150,7 @@ module _ {l : List ℕ} {at : ℕ} (h : ManyIs l at) {v : Number} (R : ReadsNumb
     pub many_from : from ≤ length l
     many_from = ends number_end R.reads q
 
-    many_whole : line2 l ≡ (if closed (rest_from l from) then some (Many (digits_value l at from) (tables_from l from)) else none)
+    many_whole : line2 l ≡ (if closed (rest_from l from) then some (Many (digits_value l at from) (tables_from l from)) otherwise none)
     unfolding many_rest
     many_whole =
         h.line ∙ ap only (step _ (found (number_taken l at) R.reads q) (step _ (tables_are l from) refl))
@@ -161,7 +161,7 @@ module _ {l : List ℕ} {at : ℕ} (h : ManyIs l at) {v : Number} (R : ReadsNumb
     unfolding refusal2 conditions2 text_conditions2 lowest
     spoilt e w = ap (refusal2 w) many_whole ∙ by (closed (rest_from l from))
       where
-        by : (b : Bool) → refusal2 w (if b then some (Many (digits_value l at from) (tables_from l from)) else none) ≡ 21
+        by : (b : Bool) → refusal2 w (if b then some (Many (digits_value l at from) (tables_from l from)) otherwise none) ≡ 21
         by true = rw e (same_of_four (not (started w)) (ending w) (ltb 672 (length w.nodes + length (tables_from l from))) 21)
         by false = refl
 
@@ -245,7 +245,7 @@ module _ (l : List ℕ) (no-net2 : net2_line l ≡ none) where
   unfolding line2 network_line many_line net_line boot_line onward either plain_of only
   plain-line a b c = rw (no-net2, a, b, c) (by (in_line l) (lin_line l) (out_line_lem l))
     where
-      last : (v : NetworkLine) (b : Bool) → (if b then some (Plain v) else none) ≡ plain_of (if b then some v else none)
+      last : (v : NetworkLine) (b : Bool) → (if b then some (Plain v) otherwise none) ≡ plain_of (if b then some v otherwise none)
       last v true = refl
       last v false = refl
 

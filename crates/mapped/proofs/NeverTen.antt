@@ -9,7 +9,7 @@ use Prim.Native.Nat.{ℕ, zero, suc, ◌+◌, ◌*◌, ◌≤◌}
 use Rattle.std.proofs.Common.{arith, ltb-false}
 use Rattle.std.proofs.Math.ListN.{get_or}
 use Rattle.laws.specs.Tabulate.{tabulate}
-use Rattle.laws.specs.Test.{if◌then◌else◌, if_both, zero≢one}
+use Rattle.laws.specs.Test.{if◌then◌otherwise◌, if_both, zero≢one}
 use Rattle.laws.specs.Lists.{Each}
 use Rattle.rules.specs.declared.Settings.{Settings}
 use Rattle.rules.specs.declared.Wire.{Wire}
@@ -104,7 +104,7 @@ module _ (s : Settings) where
       merged (some d) f few e = subst (Built s) (some-injective (merge_cones d) c e) (by_merge nodes left right gate d l r (record { bits = b; few = few; finds = f }))
 
       by : (a t : Bool) → ltb (s.t + 1) (length U) ≡ a
-          → (if a then none else if t then some (constant (get_or truth 0 0)) else Option.map merge_cones (find_candidate s nodes U left right truth)) ≡ some c → Built s c
+          → (if a then none otherwise if t then some (constant (get_or truth 0 0)) otherwise Option.map merge_cones (find_candidate s nodes U left right truth)) ≡ some c → Built s c
       by true t f e = absurd (zero≢one (cc))
       by false true f e = subst (Built s) (some-injective (constant (get_or truth 0 0)) c e) (from_constant (get_or truth 0 0) (bit_at truth 0 (gate_truth-bits left right gate U b)))
       by false false f e = merged (find_candidate s nodes U left right truth) refl (ltb-false (s.t + 1) (length U) f) e
@@ -116,7 +116,7 @@ module _ (s : Settings) where
   mapped_gives : (w : Sides) (c : Cone) → Way s w → Built s c → Gives s (mapped w c)
   unfolding mapped
   mapped_gives w c h k =
-      let either : (b : Bool) (x y : Side) → Built s x.cone → Built s y.cone → OfSome (Built s) (update (if b then x else y)) =
+      let either : (b : Bool) (x y : Side) → Built s x.cone → Built s y.cone → OfSome (Built s) (update (if b then x otherwise y)) =
       λ b x y p q. if_both (λ z. OfSome (Built s) (update z)) b (side_gives x p) (side_gives y q) in
       record { own = k; first = either w.switched w.right w.left h.both.right h.both.left; second = either w.switched w.left w.right h.both.left h.both.right }
 
@@ -153,7 +153,7 @@ module _ (s : Settings) where
   unfolding map_unary_gate through_gate
   unary_gives nodes c gate m h b e = by (all_equal (through_gate c gate).truth) e
     where
-      by : (a : Bool) → (if a then unchanged nodes (constant (get_or (through_gate c gate).truth 0 0)) else (validate_cone s nodes (through_gate c gate) >>= unchanged nodes)) ≡ ok m → Gives s m
+      by : (a : Bool) → (if a then unchanged nodes (constant (get_or (through_gate c gate).truth 0 0)) otherwise (validate_cone s nodes (through_gate c gate) >>= unchanged nodes)) ≡ ok m → Gives s m
       by true e =
           unchanged_gives nodes _ m (from_constant _ (bit_at (through_gate c gate).truth 0 (map-bits (λ i. get_or gate i 0) (λ i. bit_at gate i b) c.truth))) e
       by false e =
@@ -192,8 +192,8 @@ module _ (s : Settings) (limits : in_limits s ≡ true) where
   two_give nodes left right gate m l r four b = by (is_constant left) (is_constant right)
     where
       by : (t u : Bool) → (if t then map_unary_gate s nodes right (take 2 (drop (2 * constant_value left) gate))
-          else if u then map_unary_gate s nodes left (get_or gate (constant_value right) 0 ∷ get_or gate (2 + constant_value right) 0 ∷ [])
-          else map_binary_gate s nodes left right gate) ≡ ok m → Gives s m
+          otherwise if u then map_unary_gate s nodes left (get_or gate (constant_value right) 0 ∷ get_or gate (2 + constant_value right) 0 ∷ [])
+          otherwise map_binary_gate s nodes left right gate) ≡ ok m → Gives s m
       by true u e = unary_gives s nodes right _ m r (left-bits gate four b (constant_value left) (value_bit left l)) e
       by false true e = unary_gives s nodes left _ m l (right-bits gate four b (constant_value right) (value_bit right r)) e
       by false false e = binary_gives s nodes left right gate m l r b e

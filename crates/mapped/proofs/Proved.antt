@@ -3,7 +3,7 @@ use Rattle.std.specs.Prelude.{◌≡◌, refl, Bool, true, false, List, ℕ, ◌
 use Rattle.std.proofs.Common.{sym, ap, subst, ◌∙◌, arith, eq-eqb, lt-ltb, le-ltb}
 use Rattle.std.proofs.lemmas.List.{length-replicate}
 use Rattle.laws.specs.Over.{over, take-over, drop-over}
-use Rattle.laws.specs.Test.{if◌then◌else◌}
+use Rattle.laws.specs.Test.{if◌then◌otherwise◌}
 use Rattle.rules.specs.declared.Policy.TheVariants.{Basic}
 use Rattle.rules.specs.declared.Settings.{Settings}
 use Rattle.rules.specs.Form.{Reading, Good, Refused}
@@ -195,7 +195,7 @@ same_answer buffer other same (Good w) = rw same (by (ltb (length other) (length
     text = network_text w
 
     on : List ℕ → Bool → Outcome
-    on b t = if t then outcome (refused 11 0) b else outcome (written (length text)) (over text b)
+    on b t = if t then outcome (refused 11 0) b otherwise outcome (written (length text)) (over text b)
 
     by : (t : Bool) → ((on buffer t).answer ≡ (on other t).answer) × (take (count (on buffer t)) (on buffer t).buffer ≡ take (count (on buffer t)) (on other t).buffer)
     by true = (refl, refl)

@@ -1,7 +1,7 @@
 -- A gate that `two-sources-refused` speaks of: an AND of two inputs, under Basic with M = P = 16.
 use Rattle.std.specs.Prelude.{◌≡◌, refl, false, List, [], ◌∷◌, ℕ, ◌+◌, ◌*◌, ◌≤◌, eqb, get_or}
 use Rattle.std.proofs.Common.{sym, ◌∙◌, arith, ne_eqb}
-use Rattle.laws.specs.Test.{if◌then◌else◌, if_both, zero≢one}
+use Rattle.laws.specs.Test.{if◌then◌otherwise◌, if_both, zero≢one}
 use Rattle.rules.specs.declared.Limit.TheVariants.{Unlimited}
 use Rattle.rules.specs.declared.Policy.TheVariants.{Basic}
 use Rattle.rules.specs.declared.Wire.TheVariants.{Node}
@@ -31,7 +31,7 @@ circuit =
 
 -- Every node is 1 but one.
 abbrev all_but : ℕ → ℕ → ℕ
-all_but k n = if eqb n k then 0 else 1
+all_but k n = if eqb n k then 0 otherwise 1
 
 abbrev gate_answer : (ℕ → ℕ) → ℕ
 gate_answer bit = get_or gate.bits (2 * cone_bit bit (identity 0) + cone_bit bit (identity 1)) 0

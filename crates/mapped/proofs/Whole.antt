@@ -6,7 +6,7 @@ use Rattle.std.proofs.Math.Bool.{not}
 use Rattle.std.proofs.Math.Logic.{⊎_elim}
 use borrow.Author.Tests.{lt-ltb, le-ltb, not-true}
 use Rattle.std.proofs.Math.ListN.{length}
-use Rattle.laws.specs.Test.{if◌then◌else◌, lt_or_le, zero≢one, both_left, both_right}
+use Rattle.laws.specs.Test.{if◌then◌otherwise◌, lt_or_le, zero≢one, both_left, both_right}
 use Rattle.rules.specs.declared.Policy.TheVariants.{Span}
 use Rattle.rules.specs.declared.Settings.{Settings}
 use Rattle.rules.specs.Builder.{table_limits}
@@ -33,7 +33,7 @@ use Rattle.mapped.specs.Store.{net_for, Store}
 -- ---- The settings that are used.
 
 -- Basic's period and lengths are within the limits.
-basic_limits : (b : Bool) → table_limits 2 (if b then 2 else 4) ≡ true
+basic_limits : (b : Bool) → table_limits 2 (if b then 2 otherwise 4) ≡ true
 unfolding table_limits
 basic_limits true = refl
 basic_limits false = refl
@@ -43,7 +43,7 @@ unfolding used_settings in_limits
 used_limits s e = by (is_basic s.policy)
   where
     by : (b : Bool)
-        → in_limits (if b then record { p = 2; m = if eqb s.m s.p then 2 else 4; t = s.t; norm = s.norm; policy = s.policy; many = s.many } else s) ≡ true
+        → in_limits (if b then record { p = 2; m = if eqb s.m s.p then 2 otherwise 4; t = s.t; norm = s.norm; policy = s.policy; many = s.many } otherwise s) ≡ true
     by true = rw (basic_limits (eqb s.m s.p)) (both_right (table_limits s.p s.m) _ e)
     by false = e
 
@@ -124,7 +124,7 @@ pub checked_same : (s : Settings) (v w : Network) → checked s v ≡ Good w →
 unfolding checked
 checked_same s v w = by (is_basic s.policy && not (within_norm s (largest (node_norm v.nodes) v.nodes)))
   where
-    by : (b : Bool) → (if b then Refused 8 0 else Good v) ≡ Good w → v ≡ w
+    by : (b : Bool) → (if b then Refused 8 0 otherwise Good v) ≡ Good w → v ≡ w
     by true e = absurd (zero≢one (cc))
     by false e = good_same v w e
 

@@ -9,7 +9,7 @@ use Rattle.std.proofs.Math.Logic.{⊎_elim}
 use Rattle.std.proofs.Math.Option.{Option, none, some}
 use Prim.Native.Nat.{ℕ, ◌+◌, ◌*◌, ◌≤◌, ◌<◌, suc}
 use Rattle.std.proofs.Math.ListN.{get_or}
-use Rattle.laws.specs.Test.{if◌then◌else◌, zero≢one}
+use Rattle.laws.specs.Test.{if◌then◌otherwise◌, zero≢one}
 use Rattle.rules.specs.declared.Settings.{Settings}
 use Rattle.rules.specs.declared.Wire.{Wire}
 use Rattle.rules.specs.Circuit.{Given, Gate, Output, wire_bit}
@@ -99,8 +99,8 @@ module _ (s : Settings) (inputs : List Given) (limits : in_limits s ≡ true) wh
     two_refused left right gate k f g a b four good = by (is_constant left) (is_constant right)
       where
         by : (t u : Bool) → (if t then map_unary_gate s nodes right (take 2 (drop (2 * constant_value left) gate))
-            else if u then map_unary_gate s nodes left (get_or gate (constant_value right) 0 ∷ get_or gate (2 + constant_value right) 0 ∷ [])
-            else map_binary_gate s nodes left right gate) ≡ err k → Refusal s inputs k
+            otherwise if u then map_unary_gate s nodes left (get_or gate (constant_value right) 0 ∷ get_or gate (2 + constant_value right) 0 ∷ [])
+            otherwise map_binary_gate s nodes left right gate) ≡ err k → Refusal s inputs k
         by true u e = unary_refused nodes store right _ k b.standing e
         by false true e = unary_refused nodes store left _ k a.standing e
         by false false e =

@@ -15,7 +15,7 @@ use Rattle.laws.specs.Integer.{ints, plus, minus, add_parts, plus_mul, minus_mul
 use Rattle.laws.specs.Lists.{nil_of, Each}
 use Rattle.laws.specs.Select.{select}
 use Rattle.laws.specs.Tabulate.{tabulate}
-use Rattle.laws.specs.Test.{if◌then◌else◌, eq-or-ne, zero≢one}
+use Rattle.laws.specs.Test.{if◌then◌otherwise◌, eq-or-ne, zero≢one}
 use Rattle.rules.specs.declared.Limit.{Limit}
 use Rattle.rules.specs.declared.Limit.TheVariants.{Unlimited, AtMost}
 use Rattle.rules.specs.declared.Policy.TheVariants.{Span}
@@ -169,7 +169,7 @@ evaluate_none : (s : Settings) (nodes : List LutNode) (p : Scales) (c : Cone) �
 unfolding evaluate
 evaluate_none s nodes p c e = by (fits s nodes c) _ e
   where
-    by : (b : Bool) (d : Candidate) → (if b then d ∷ [] else []) ≡ [] → b ≡ false
+    by : (b : Bool) (d : Candidate) → (if b then d ∷ [] otherwise []) ≡ [] → b ≡ false
     by true d e = absurd (zero≢one (cc))
     by false d e = refl
 
@@ -331,7 +331,7 @@ module _ (s : Settings) (nodes : List LutNode) (limits : in_limits s ≡ true) (
         no_candidate (some d) e = absurd (zero≢one (cc))
 
         by : (a b : Bool) → all_equal truth ≡ b → a ≡ false
-            → (if a then none else if b then some (constant (get_or truth 0 0)) else map merge_cones (find_candidate s nodes U left right truth)) ≡ none → ⊥
+            → (if a then none otherwise if b then some (constant (get_or truth 0 0)) otherwise map merge_cones (find_candidate s nodes U left right truth)) ≡ none → ⊥
         by true b g f e = true≢false f
         by false true g f e = zero≢one (cc)
         by false false g f e =

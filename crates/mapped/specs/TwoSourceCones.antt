@@ -5,7 +5,7 @@ use Rattle.std.proofs.Common.{sym, ap, subst, ◌∙◌, true≢false, ⊎_elim,
 use mathlib.Core.List.{List, [], ◌∷◌, zip_with}
 use Rattle.std.proofs.Math.Option.{Option, none, some, map}
 use Rattle.laws.specs.Select.{select}
-use Rattle.laws.specs.Test.{if◌then◌else◌, if_both, decide}
+use Rattle.laws.specs.Test.{if◌then◌otherwise◌, if_both, decide}
 use Rattle.rules.specs.declared.Settings.{Settings}
 use Rattle.rules.specs.Composition.{union_support, gate_truth, all_equal, merged_coefficients, find_candidate, merge_cones, compose}
 use Rattle.rules.specs.Cone.{Cone, constant, identity, cone_bit, values, cone_span, fits, Candidate}
@@ -42,7 +42,7 @@ used_total (c ∷ cs) (n ∷ ns) = by (is_nonzero c) refl (used_total cs ns)
     rest : List Term
     rest = select is_used (terms_over cs ns)
 
-    by : (b : Bool) → is_nonzero c ≡ b → length rest ≤ total cs → length (if b then record { coef = c; node = n } ∷ rest else rest) ≤ nat_abs c + total cs
+    by : (b : Bool) → is_nonzero c ≡ b → length rest ≤ total cs → length (if b then record { coef = c; node = n } ∷ rest otherwise rest) ≤ nat_abs c + total cs
     by true q r = let p = nonzero c q in omega arith
     by false q r = omega arith
 

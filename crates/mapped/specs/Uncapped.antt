@@ -2,7 +2,7 @@
 use Rattle.std.specs.Prelude.{List, [], ◌∷◌, ◌++◌, map, ℕ, ◌+◌, ◌*◌, length, get_or, drop, take}
 use Rattle.std.proofs.Math.Option
 use Rattle.std.proofs.Math.Option.{Option, some}
-use Rattle.laws.specs.Test.{if◌then◌else◌}
+use Rattle.laws.specs.Test.{if◌then◌otherwise◌}
 use Rattle.rules.specs.declared.Settings.{Settings}
 use Rattle.rules.specs.Circuit.{Gate, Output, Circuit}
 use Rattle.rules.specs.CircuitText.{read_circuit}
@@ -18,7 +18,7 @@ uncapped_compose s nodes left right gate =
     let support = union_support left.support right.support in
     let truth = gate_truth support left right gate in
     let merged = Option.map merge_cones (find_candidate s nodes support left right truth) in
-    if all_equal truth then some (constant (get_or truth 0 0)) else merged
+    if all_equal truth then some (constant (get_or truth 0 0)) otherwise merged
 
 unfoldable pub uncapped_attempt : Settings → Sides → Option Cone
 uncapped_attempt s w = uncapped_compose s w.nodes w.left.cone w.right.cone w.gate
@@ -38,8 +38,8 @@ uncapped_gate s nodes [] gate = err 7
 uncapped_gate s nodes (c ∷ []) gate = map_unary_gate s nodes c gate
 uncapped_gate s nodes (left ∷ right ∷ []) gate =
     if is_constant left then map_unary_gate s nodes right (take 2 (drop (2 * constant_value left) gate))
-    else if is_constant right then map_unary_gate s nodes left (get_or gate (constant_value right) 0 ∷ get_or gate (2 + constant_value right) 0 ∷ [])
-    else uncapped_binary_gate s nodes left right gate
+    otherwise if is_constant right then map_unary_gate s nodes left (get_or gate (constant_value right) 0 ∷ get_or gate (2 + constant_value right) 0 ∷ [])
+    otherwise uncapped_binary_gate s nodes left right gate
 uncapped_gate s nodes (a ∷ b ∷ c ∷ cs) gate = err 7
 
 unfoldable pub uncapped_next : Settings → List Output → State → Gate → Result State

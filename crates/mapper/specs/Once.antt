@@ -2,7 +2,7 @@
 use Rattle.std.specs.Prelude.{◌≡◌, refl, List, [], ℕ, ◌+◌, ◌*◌, ◌≤◌, eqb}
 use Rattle.std.proofs.Common.{sym, ◌∙◌, arith, ne_eqb}
 use Rattle.std.proofs.Math.Path.{ap}
-use Rattle.laws.specs.Test.{if◌then◌else◌}
+use Rattle.laws.specs.Test.{if◌then◌otherwise◌}
 use Rattle.rules.specs.declared.Settings.{Settings}
 use Rattle.rules.specs.Circuit.{Gate, Output}
 use Rattle.rules.specs.Form.{Reading, Good, Refused}
@@ -23,7 +23,7 @@ map_once s outputs st gates = and_then (map_gates s outputs st gates) (outputs_a
 
 unfoldable pub done_read : List ℕ → List ℕ → List ℕ → ℕ → Work → Reading Outputs
 done_read text nodes ports outs w =
-    if eqb w.number 0 then Good (outputs_read text nodes ports outs w.count) else Refused w.number w.line
+    if eqb w.number 0 then Good (outputs_read text nodes ports outs w.count) otherwise Refused w.number w.line
 
 -- ---- laws
 

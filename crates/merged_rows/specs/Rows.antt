@@ -3,7 +3,7 @@ use Rattle.std.specs.Prelude.{◌≡◌, refl, List, ◌≢◌, ℕ, ◌-◌, �
 use Rattle.std.proofs.Common.{sym, ap, subst, ◌∙◌, ⊎_elim, arith, eq-eqb, ne_eqb, ext_get_or}
 use Rattle.std.proofs.Math.Option.{Option, none, some, some-injective}
 use Rattle.std.proofs.lemmas.List.{length-replicate}
-use Rattle.laws.specs.Test.{if◌then◌else◌, eq-or-ne}
+use Rattle.laws.specs.Test.{if◌then◌otherwise◌, eq-or-ne}
 use Rattle.rules.specs.Builder.{Entries, enter, known_or, filled}
 use Rattle.theorems.specs.Completions.{Completes, filled_at, filled_completes}
 use Rattle.theorems.specs.Rows.{Within, Agrees, entered, entered_left, entered_entries, unknown_entries, none_not}
@@ -16,7 +16,7 @@ unfolding known_or
 known_in k l e into i h n b =
     let d = 1 - get_or l i 0 in
     let is : get_or (filled d k) i 0 ≡ get_or l i 0 = (into (filled d k) (filled_completes k e d (omega arith))).keeps i h n in
-    let at : (if eqb (get_or k i 0) 2 then d else get_or k i 0) ≡ get_or l i 0 = sym (filled_at d k i) ∙ is in
+    let at : (if eqb (get_or k i 0) 2 then d otherwise get_or k i 0) ≡ get_or l i 0 = sym (filled_at d k i) ∙ is in
     ⊎_elim
     (λ (s : get_or k i 0 ≡ 2). let q : d ≡ get_or l i 0 = rw (eq-eqb (get_or k i 0) 2 s) at at in absurd (omega arith))
     (λ (s : get_or k i 0 ≢ 2). rw (ne_eqb (get_or k i 0) 2 s) at at)

@@ -9,7 +9,7 @@ use native.Mathlib.Omega.{arith}
 use borrow.Author.Tests.{eq-eqb, ne_eqb, eqb-true}
 use Rattle.std.proofs.Math.ListN.{length, take}
 use Rattle.laws.specs.Tabulate.{tabulate-length}
-use Rattle.laws.specs.Test.{if◌then◌else◌, is_some, and_left, is_T}
+use Rattle.laws.specs.Test.{if◌then◌otherwise◌, is_some, and_left, is_T}
 use Rattle.rules.specs.declared.Limit.{Limit}
 use Rattle.rules.specs.declared.Wire.{Wire}
 use Rattle.rules.specs.Builder.{table_limits}
@@ -46,7 +46,7 @@ net-started : (h : Header) → eqb h.p 0 ≡ not (is_some (net_of h))
 unfolding net_of
 net-started h = by (eqb h.p 0)
   where
-    by : (b : Bool) → b ≡ not (is_some {A = Net} (if b then none else some (record { p = h.p; m = h.m; norm = h.norm })))
+    by : (b : Bool) → b ≡ not (is_some {A = Net} (if b then none otherwise some (record { p = h.p; m = h.m; norm = h.norm })))
     by true = refl
     by false = refl
 

@@ -6,7 +6,7 @@ use Rattle.std.proofs.Math.Logic.{⊎_elim}
 use native.Mathlib.Omega.{arith}
 use borrow.Author.Tests.{lt-ltb, le-ltb}
 use Rattle.laws.specs.Tabulate.{tabulate_same}
-use Rattle.laws.specs.Test.{if◌then◌else◌, lt_or_le}
+use Rattle.laws.specs.Test.{if◌then◌otherwise◌, lt_or_le}
 use Rattle.rules.specs.Network as W
 use Rattle.rules.specs.Network.{LutNode, is_input, node_at, node_centre}
 use Rattle.theorems.specs.Counts.{count_snoc, count_most}
@@ -47,8 +47,8 @@ signal_more s = record { most = s.most; node = λ h. omega (arith, s.node h) }
 
 module _ {text nodes ports : List ℕ} {h : Header} (k : Holds text nodes ports h) (b : h.p ≡ 0 → ⊥) (after : List ℕ) (n : LutNode)
     (a : Adds (node_centre h.p n) n nodes h.count after) (s : Sound (store_of nodes h.count) n) where
-  input_count : W.count is_input (store_of after (h.count + 1)) ≡ h.inputs + (if is_input n then 1 else 0)
-  input_count = ap (W.count is_input) a.store ∙ count_snoc is_input (store_of nodes h.count) n ∙ ap (λ m. m + (if is_input n then 1 else 0)) (sym k.inputs)
+  input_count : W.count is_input (store_of after (h.count + 1)) ≡ h.inputs + (if is_input n then 1 otherwise 0)
+  input_count = ap (W.count is_input) a.store ∙ count_snoc is_input (store_of nodes h.count) n ∙ ap (λ m. m + (if is_input n then 1 otherwise 0)) (sym k.inputs)
 
   few : h.inputs ≤ h.count
   few = rw k.inputs (omega (arith, count_most is_input (store_of nodes h.count), store_length nodes h.count))

@@ -2,7 +2,7 @@
 use Rattle.std.specs.Prelude.{◌≡◌, refl, Bool, true, false, List, ℕ, ◌+◌, ◌-◌, ◌<◌, ◌≤◌, ◌^◌, length, take, drop}
 use Rattle.std.proofs.Common.{sym, ap, ◌∙◌, not-suc-le-zero, arith, eq-eqb, ne_eqb, length-take, length-drop}
 use Rattle.std.proofs.Math.Option.{some}
-use Rattle.laws.specs.Test.{if◌then◌else◌}
+use Rattle.laws.specs.Test.{if◌then◌otherwise◌}
 use Rattle.rules.specs.declared.Limit.TheVariants.{Unlimited}
 use Rattle.rules.specs.Form as F
 use Rattle.rules.specs.Network.{count}
@@ -110,7 +110,7 @@ lines_start judge text nodes ports e f =
     }
 
 -- what the definition reads
-read_is : (judge : Bool) (text : List ℕ) → (if judge then read_admitted text else read_network text) ≡ network_from judge text 1 no_network 0
+read_is : (judge : Bool) (text : List ℕ) → (if judge then read_admitted text otherwise read_network text) ≡ network_from judge text 1 no_network 0
 read_is true text = network_admitted text
 read_is false text = network_read text
 
@@ -126,7 +126,7 @@ module _ (text nodes ports : List ℕ) (h : Header) (line : ℕ) where
 
 module _ {judge : Bool} {text nodes ports : List ℕ} {h : Header} {line at : ℕ} (k : Lines judge text nodes ports h line at) where
   module _ {end : ℕ} (d : LineEnd text at end) {r : Step} {nodes₁ ports₁ : List ℕ} (s : Stepped judge text at end h nodes ports r nodes₁ ports₁) where
-    pub lines_refused : (r.number ≡ 0 → ⊥) → F.Refused r.number line ≡ (if judge then read_admitted text else read_network text)
+    pub lines_refused : (r.number ≡ 0 → ⊥) → F.Refused r.number line ≡ (if judge then read_admitted text otherwise read_network text)
     lines_refused z = sym (read_is judge text ∙ k.same ∙ line_refused judge text line (prefix_of text nodes ports h) at end d r.number (sym s.number) z)
 
     pub lines_next : r.number ≡ 0 → Lines judge text nodes₁ ports₁ r.header (line + 1) end
@@ -145,8 +145,8 @@ module _ {judge : Bool} {text nodes ports : List ℕ} {h : Header} {line at : �
     ended : network_from judge text 1 no_network 0 ≡ network_ended line (prefix_of text nodes ports h)
     ended = k.same ∙ network_end judge text line (prefix_of text nodes ports h) at e
 
-    pub lines_unstarted : h.p ≡ 0 → F.Refused 21 line ≡ (if judge then read_admitted text else read_network text)
+    pub lines_unstarted : h.p ≡ 0 → F.Refused 21 line ≡ (if judge then read_admitted text otherwise read_network text)
     lines_unstarted z = sym (read_is judge text ∙ ended ∙ ended_unstarted text nodes ports h line z)
 
-    pub lines-ended : (h.p ≡ 0 → ⊥) → F.Good (network_of text nodes ports h) ≡ (if judge then read_admitted text else read_network text)
+    pub lines-ended : (h.p ≡ 0 → ⊥) → F.Good (network_of text nodes ports h) ≡ (if judge then read_admitted text otherwise read_network text)
     lines-ended z = sym (read_is judge text ∙ ended ∙ ended_good text nodes ports h line z)

@@ -10,7 +10,7 @@ use borrow.Author.Tests.{le-leb, lt-leb, lt-ltb, le-ltb, leb-true, leb-false, no
 use Rattle.std.proofs.Math.Dec.{leb}
 use Rattle.std.proofs.Math.IntN.{nat_abs}
 use Rattle.std.proofs.Math.ListN.{length}
-use Rattle.laws.specs.Test.{if◌then◌else◌, lt_or_le, neither_left, neither_right, same_of_four}
+use Rattle.laws.specs.Test.{if◌then◌otherwise◌, lt_or_le, neither_left, neither_right, same_of_four}
 use Rattle.rules.specs.declared.Wire.{Wire}
 use Rattle.rules.specs.declared.Wire.TheVariants.{Const, Node}
 use Rattle.rules.specs.Builder.{table_limits}
@@ -101,7 +101,7 @@ later_conditions w (OutLine o) =
     (21 when not (started w)) ∷ (21 when leb 32 (length w.outputs)) ∷ (22 when no_node (length w.nodes) o.wire) ∷ []
 
 unfoldable pub safety : Bool → NetPrefix → NetworkLine → List Condition
-safety judge w l = if judge then safety_conditions w l else []
+safety judge w l = if judge then safety_conditions w l otherwise []
 
 unfoldable pub good_refusal : Bool → NetPrefix → Option NetworkLine → ℕ
 good_refusal judge w none = 21
@@ -166,21 +166,21 @@ long_table n = ⊎_elim (λ (l : 32 < n). rw (lt-ltb 32 n l, lt-leb n 32 l)) (λ
 -- ---- So a good line is refused as the line is that was read.
 
 module _ (judge : Bool) (w : NetPrefix) (h : length w.nodes ≤ 65536) where
-  good_net : (n : Net) (t : Bool) → good_refusal judge w (if t then some (NetLine n) else none) ≡ lowest ((21 when not t) ∷ (21 when started w) ∷ safety judge w (NetLine n))
+  good_net : (n : Net) (t : Bool) → good_refusal judge w (if t then some (NetLine n) otherwise none) ≡ lowest ((21 when not t) ∷ (21 when started w) ∷ safety judge w (NetLine n))
   unfolding good_refusal later_conditions lowest
   good_net n true = refl
   good_net n false = refl
 
   safe_lin : (c : ℤ) (ts : List Term) → safety judge w (NodeLine (Linear c (cap_terms ts))) ≡ safety judge w (NodeLine (Linear c ts))
   unfolding safety safety_conditions node_norm
-  safe_lin c ts = ap (λ k. if judge then (25 when over (settings_of w.net).norm k) ∷ [] else []) (cap_norm w.nodes h ts)
+  safe_lin c ts = ap (λ k. if judge then (25 when over (settings_of w.net).norm k) ∷ [] otherwise []) (cap_norm w.nodes h ts)
 
   good_in : (n : Given) → good_refusal judge w (some (NodeLine (Input n))) ≡ lowest (text_conditions w (NodeLine (Input n)) ++ safety judge w (NodeLine (Input n)))
   unfolding good_refusal later_conditions text_conditions
   good_in n = refl
 
   good_lin : (c : ℤ) (ts : List Term) (t : Bool)
-      → good_refusal judge w (if t then some (NodeLine (Linear c (cap_terms ts))) else none)
+      → good_refusal judge w (if t then some (NodeLine (Linear c (cap_terms ts))) otherwise none)
       ≡ lowest
       ((21 when not (started w))
       ∷ (21 when ending w)
@@ -191,7 +191,7 @@ module _ (judge : Bool) (w : NetPrefix) (h : length w.nodes ≤ 65536) where
   good_lin c ts false = sym (same_of_four (not (started w)) (ending w) (leb 672 (length w.nodes)) 21)
 
   good_boot : (i : ℕ) (table : List ℕ) (t : Bool)
-      → good_refusal judge w (if t then some (NodeLine (Bootstrap (min 65536 i) table)) else none)
+      → good_refusal judge w (if t then some (NodeLine (Bootstrap (min 65536 i) table)) otherwise none)
       ≡ lowest
       ((21 when not (started w))
       ∷ (21 when ending w)

@@ -2,7 +2,7 @@
 use Rattle.std.specs.Prelude.{◌≡◌, true, false, List, ℕ, ◌+◌, ◌*◌, ◌<◌, ◌≤◌, eqb, length, get_or}
 use Rattle.std.proofs.Math.Option.{Option, none, some}
 use Rattle.laws.specs.Tabulate.{tabulate}
-use Rattle.laws.specs.Test.{if◌then◌else◌}
+use Rattle.laws.specs.Test.{if◌then◌otherwise◌}
 use Rattle.rules.specs.Builder.{table_limits}
 use Rattle.rules.specs.Circuit.{Output}
 use Rattle.rules.specs.Form as F
@@ -30,7 +30,7 @@ reading_of text nodes ports (Refused k i) = F.Refused k i
 
 -- What the lines so far say: P is 0 before the `net` line.
 unfoldable pub net_of : Header → Option Net
-net_of h = if eqb h.p 0 then none else some (record { p = h.p; m = h.m; norm = h.norm })
+net_of h = if eqb h.p 0 then none otherwise some (record { p = h.p; m = h.m; norm = h.norm })
 
 unfoldable pub prefix_of : List ℕ → List ℕ → List ℕ → Header → NetPrefix
 prefix_of text nodes ports h = record { net = net_of h; nodes = store_of nodes h.count; outputs = outputs_of text ports h.outputs }

@@ -5,7 +5,7 @@
 pub mod put;
 
 ghost use Rattle.std.specs.Prelude.{◌≡◌, length};
-ghost use Rattle.laws.specs.Test.{if◌then◌else◌};
+ghost use Rattle.laws.specs.Test.{if◌then◌otherwise◌};
 ghost use Rattle.rules.specs.NetworkText.{read_network, read_admitted};
 ghost use Rattle.network.specs.View.{reading_of, Held};
 
@@ -24,7 +24,7 @@ pub enum Reading {
 // A refusal leaves anything in the arrays.
 pub fn read(text: &[u8], judge: bool, nodes: &mut [u8; 27552], ports: &mut [usize; 160]) -> Reading
     requires { (length nodes.old ≡ 27552) × (length ports.old ≡ 160) }
-    ensures is { reading_of text.now nodes.new ports.new result ≡ (if judge then read_admitted text.now else read_network text.now) }
+    ensures is { reading_of text.now nodes.new ports.new result ≡ (if judge then read_admitted text.now otherwise read_network text.now) }
     ensures held { Held text.now nodes.new ports.new result }
 {
     let mut h = Header {

@@ -6,14 +6,14 @@ use Rattle.std.proofs.Math.Logic.{⊎_elim}
 use Rattle.std.proofs.Math.ListN.{get_or, take}
 use Rattle.laws.specs.Front.{front}
 use Rattle.laws.specs.Over.{over, over-length, take-over, front-over}
-use Rattle.laws.specs.Test.{if◌then◌else◌, eq-or-ne}
+use Rattle.laws.specs.Test.{if◌then◌otherwise◌, eq-or-ne}
 use Rattle.rules.specs.Form.{bits_from}
 use Rattle.theorems.specs.Pieces.{from_length}
 use Rattle.network_text.specs.Lines.{TablePlace}
 use Rattle.theorems.specs.Bits.{bit_at}
 
 unfoldable pub bit_of : ℕ → ℕ
-bit_of b = if eqb b 49 then 1 else 0
+bit_of b = if eqb b 49 then 1 otherwise 0
 
 pub record TableIs (l : List ℕ) (a e : ℕ) (table : List ℕ) : Type 0 where
   pub long : length table ≡ 32

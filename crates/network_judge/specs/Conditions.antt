@@ -4,7 +4,7 @@ use Rattle.std.proofs.Math.Path.{refl, sym}
 use Rattle.std.proofs.Common.{ap, subst, ◌∙◌, arith}
 use mathlib.Core.List.{List, [], ◌∷◌, ◌++◌}
 use borrow.Author.Tests.{eq-eqb, ne_eqb, le-leb, lt-leb, lt-ltb, not-true, not-false}
-use Rattle.laws.specs.Test.{if◌then◌else◌, if_both}
+use Rattle.laws.specs.Test.{if◌then◌otherwise◌, if_both}
 use Rattle.rules.specs.declared.Limit.{Limit}
 use Rattle.rules.specs.declared.Limit.TheVariants.{Unlimited, AtMost}
 use Rattle.rules.specs.declared.Wire.{Wire}
@@ -50,17 +50,17 @@ node_conditions h = (21 when eqb h.p 0) ∷ (21 when leb 1 h.outputs) ∷ (21 wh
 
 unfoldable pub lin_conditions : Bool → Header → List LutNode → List Term → List Condition
 lin_conditions judge h ns ts =
-    node_conditions h ++ (22 when any_bad_source ns (sources ts)) ∷ (if judge then (25 when over h.norm (norm ns ts)) ∷ [] else [])
+    node_conditions h ++ (22 when any_bad_source ns (sources ts)) ∷ (if judge then (25 when over h.norm (norm ns ts)) ∷ [] otherwise [])
 
 unfoldable pub boot_conditions : Bool → Header → List LutNode → List ℕ → ℕ → ℕ → ℕ → List Condition
 boot_conditions judge h ns l i a e =
     node_conditions h
     ++ (22 when leb h.count i)
     ∷ (if judge then (23 when not (eqb (node_fit (node_at ns i)) (e - a) && leb (e - a) h.m)) ∷ (24 when not (rotatable h.p (bits_from (take (e - a) (drop a l))))) ∷ []
-    else [])
+    otherwise [])
 
 unfoldable pub wire_conditions : Bool → ℕ → List LutNode → Wire → List Condition
-wire_conditions judge count ns w = (22 when no_node count w) ∷ (if judge then (26 when no_bit ns w) ∷ [] else [])
+wire_conditions judge count ns w = (22 when no_node count w) ∷ (if judge then (26 when no_bit ns w) ∷ [] otherwise [])
 
 unfoldable pub out_conditions : Bool → Header → List LutNode → Wire → List Condition
 out_conditions judge h ns w = (21 when eqb h.p 0) ∷ (21 when leb 32 h.outputs) ∷ wire_conditions judge h.count ns w
@@ -84,7 +84,7 @@ unfolding lowest
 lowest-met [] ms e h = absurd (h e)
 lowest-met (k ∷ ks) ms {n} e h = by k.met e (λ d. lowest-met ks ms d h)
   where
-    by : (b : Bool) → n ≡ (if b then k.no else lowest ks) → (n ≡ lowest ks → n ≡ lowest (ks ++ ms)) → n ≡ (if b then k.no else lowest (ks ++ ms))
+    by : (b : Bool) → n ≡ (if b then k.no otherwise lowest ks) → (n ≡ lowest ks → n ≡ lowest (ks ++ ms)) → n ≡ (if b then k.no otherwise lowest (ks ++ ms))
     by true d f = d
     by false d f = f d
 
@@ -93,7 +93,7 @@ unfolding lowest
 lowest_free [] ms p e = refl
 lowest_free (k ∷ ks) ms p e = by k.met e (lowest_free ks ms p.1)
   where
-    by : (b : Bool) → (if b then k.no else lowest ks) ≡ 0 → (lowest ks ≡ 0 → lowest (ks ++ ms) ≡ lowest ms) → (if b then k.no else lowest (ks ++ ms)) ≡ lowest ms
+    by : (b : Bool) → (if b then k.no otherwise lowest ks) ≡ 0 → (lowest ks ≡ 0 → lowest (ks ++ ms) ≡ lowest ms) → (if b then k.no otherwise lowest (ks ++ ms)) ≡ lowest ms
     by true d f = absurd (let h = p.0 in omega arith)
     by false d f = f d
 

@@ -8,7 +8,7 @@ use Rattle.std.proofs.Math.Seq.{drop-cons}
 use Rattle.std.specs.Int.Signed.{lt_z, non_neg}
 use Rattle.std.specs.Int.{w64}
 use Rattle.laws.specs.Integer.{plus, minus, lt_z_true, lt_z_false, read_back, abs_add}
-use Rattle.laws.specs.Test.{if◌then◌else◌, if_both, is_some, lt_or_le, is_T}
+use Rattle.laws.specs.Test.{if◌then◌otherwise◌, if_both, is_some, lt_or_le, is_T}
 use Rattle.rules.specs.Network.{Term, LutNode, Input, Linear, Bootstrap, is_linear, sum_from, node_value}
 use Rattle.rules.specs.Rotation.{centre, rotatable, rotated}
 use Rattle.rules.specs.Runs.{all_bits}
@@ -36,7 +36,7 @@ turns P (Bootstrap i table) = rotatable P table
 
 -- The table read off; it breaks off outside.
 unfoldable pub looked : List ℕ → ℤ → Option ℤ
-looked table (pos v) = if ltb v (length table) then some (pos (get_or table v 0)) else none
+looked table (pos v) = if ltb v (length table) then some (pos (get_or table v 0)) otherwise none
 looked table (negsuc v) = none
 
 -- The value of node i.

@@ -14,7 +14,7 @@ use Rattle.std.proofs.Math.IntN.{nat_abs}
 use Rattle.std.proofs.Math.ListN.{drop, length-append, length-set}
 use Rattle.std.proofs.Math.Seq.{get_or-set_same, get_or-set_other}
 use Rattle.std.specs.Int.{w64}
-use Rattle.laws.specs.Test.{if◌then◌else◌, allb, allb-at, allb-all, is_T, decide, eq-or-ne, lt_or_le}
+use Rattle.laws.specs.Test.{if◌then◌otherwise◌, allb, allb-at, allb-all, is_T, decide, eq-or-ne, lt_or_le}
 use Rattle.rules.specs.Form.{Piece, many}
 use Rattle.rules.specs.Network.{Term, member}
 use Rattle.rules.specs.NetworkText.{good_sum, sources}
@@ -114,7 +114,7 @@ module _ (l : List ℕ) (at : ℕ) (c : ℤ) (t : Terms) (i : ℕ) (ts : List Te
       full : 11 ≤ t.lin.n → good_sum d us ≡ false
       full h = long_bad d us (let r = k.count in simp length-append (omega arith))
 
-      by : (b : Bool) → good_coef z ≡ b → (if b then allb t.lin.n (apart l t.starts t.ends a e) else false) ≡ false → good_sum d us ≡ false
+      by : (b : Bool) → good_coef z ≡ b → (if b then allb t.lin.n (apart l t.starts t.ends a e) otherwise false) ≡ false → good_sum d us ≡ false
       by true f h =
           let m : member v (sources ts) ≡ true = new_false l t.starts t.ends (sources ts) a e v t.lin.n (let r = k.count in omega (arith, sources-length ts)) k.places here h in
           same_bad d us (rw (append_assoc ts (x.0 ∷ []) ws, sources-append ts (x.0 ∷ ws)) (twice_at v x.0 (sources ts) ws x.3 m))

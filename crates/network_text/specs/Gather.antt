@@ -13,7 +13,7 @@ use Rattle.std.proofs.Math.Dec.{eqb}
 use Rattle.std.proofs.Math.IntN.{nat_abs}
 use Rattle.std.proofs.Math.ListN.{drop}
 use Rattle.std.specs.Int.{w64}
-use Rattle.laws.specs.Test.{if◌then◌else◌, allb, and_left, and_right, is_T, T-is, eq-or-ne, lt_or_le}
+use Rattle.laws.specs.Test.{if◌then◌otherwise◌, allb, and_left, and_right, is_T, T-is, eq-or-ne, lt_or_le}
 use Rattle.rules.specs.Form.{Piece, give, onward, many}
 use Rattle.rules.specs.Network.{Term, member}
 use Rattle.rules.specs.NetworkText.{small, good_terms, good_sum, sources, all_different}
@@ -252,10 +252,10 @@ module _ (l : List ℕ) (at : ℕ) (c : ℤ) (t : Terms) (i : ℕ) (ts : List Te
     pub passes : good_next l t z a e ≡ true → (good_coef z ≡ true) × (allb t.lin.n (apart l t.starts t.ends a e) ≡ true)
     unfolding good_next
     passes g =
-        let q : (if good_coef z then allb t.lin.n (apart l t.starts t.ends a e) else false) ≡ true = rw (lt-leb 11 t.lin.n (room g)) at g in
+        let q : (if good_coef z then allb t.lin.n (apart l t.starts t.ends a e) otherwise false) ≡ true = rw (lt-leb 11 t.lin.n (room g)) at g in
         by (good_coef z) refl q
       where
-        by : (b : Bool) → good_coef z ≡ b → (if b then allb t.lin.n (apart l t.starts t.ends a e) else false) ≡ true
+        by : (b : Bool) → good_coef z ≡ b → (if b then allb t.lin.n (apart l t.starts t.ends a e) otherwise false) ≡ true
             → (good_coef z ≡ true) × (allb t.lin.n (apart l t.starts t.ends a e) ≡ true)
         by true f q = (f, q)
         by false f q = absurd (true≢false (sym q))

@@ -7,7 +7,7 @@ use Rattle.std.proofs.Math.Option.{Option, none, some}
 use native.Mathlib.Omega.{arith}
 use borrow.Author.Tests.{ne_eqb, le-leb, lt-leb}
 use Rattle.std.proofs.Math.ListN.{length}
-use Rattle.laws.specs.Test.{if◌then◌else◌, and_left, and_right, is_T}
+use Rattle.laws.specs.Test.{if◌then◌otherwise◌, and_left, and_right, is_T}
 use Rattle.rules.specs.declared.Limit.{Limit}
 use Rattle.rules.specs.declared.Wire.{Wire}
 use Rattle.rules.specs.Builder.{table_limits}
@@ -170,7 +170,7 @@ module _ {l : List ℕ} {at : ℕ} (h : SumIs l at) {s : LinRead} (k : SumRead l
 -- ---- `boot`
 
 good_boot : (w : LutNode) (i : ℕ) (table : List ℕ) (k : ℕ) → Bootstrap i table ≡ cap_boot w → length table ≡ k
-    → good_form (NodeLine w) ≡ (if leb k 32 then some (NodeLine (Bootstrap i table)) else none)
+    → good_form (NodeLine w) ≡ (if leb k 32 then some (NodeLine (Bootstrap i table)) otherwise none)
 unfolding cap_boot good_form
 good_boot (Input n) i table k e f = let z : ◌≡◌ {A = ℕ} 0 1 = cc in absurd (omega arith)
 good_boot (Linear c ts) i table k e f = let z : ◌≡◌ {A = ℕ} 0 1 = cc in absurd (omega arith)
@@ -186,10 +186,10 @@ module _ {l : List ℕ} {i a e end : ℕ} (h : BootIs l i a e end) where
   boot_line_lem = line_boot l h.no-net h.no_in h.no_lin boot.1
 
   -- the node that is meant, with the same bits
-  meant : good_form (NodeLine boot.0) ≡ (if leb (e - a) 32 then some (NodeLine (Bootstrap i (bits_from (take (e - a) (drop a l))))) else none)
+  meant : good_form (NodeLine boot.0) ≡ (if leb (e - a) 32 then some (NodeLine (Bootstrap i (bits_from (take (e - a) (drop a l))))) otherwise none)
   meant = let x = boot in let p = h.place in good_boot x.0 i (bits_from (take (e - a) (drop a l))) (e - a) x.2 (from_length (take (e - a) (drop a l)) ∙ simp (length-take, length-drop) (omega (arith, p.inside)))
 
-  known : end ≡ length l → good_line (network_line l) ≡ (if leb (e - a) 32 then some (NodeLine (Bootstrap i (bits_from (take (e - a) (drop a l))))) else none)
+  known : end ≡ length l → good_line (network_line l) ≡ (if leb (e - a) 32 then some (NodeLine (Bootstrap i (bits_from (take (e - a) (drop a l))))) otherwise none)
   unfolding good_line
   known k = ap good_line (boot_line_lem ∙ whole-line l (NodeLine boot.0) end h.inside k) ∙ meant
 

@@ -3,7 +3,7 @@ use Rattle.std.specs.Prelude.{◌≡◌, Bool, true, false, List, [], ◌∷◌,
 use Rattle.std.proofs.Math.Path.{refl, ap}
 use Rattle.std.proofs.Common.{sym, ap₂, subst, ◌∙◌, true≢false, ⊎_elim, arith, eq-eqb, ne_eqb, leb-true, length-take}
 use Rattle.std.proofs.Math.Option.{Option, none, some, some-injective, none-ne-some}
-use Rattle.laws.specs.Test.{if◌then◌else◌, eq-or-ne}
+use Rattle.laws.specs.Test.{if◌then◌otherwise◌, eq-or-ne}
 use Rattle.rules.specs.declared.Limit.{Limit}
 use Rattle.rules.specs.Circuit.{Given, Output}
 use Rattle.rules.specs.Form.{Piece, give, onward, either, only, exactly, bytes, run, run_of, bits, is_bits, is_bit_byte, bits_from, in_line, out_line_lem}
@@ -97,7 +97,7 @@ bits_at l a e h = by (run is_bit_byte (drop a l)) (leb 1 (length (run is_bit_byt
     v = bits_from (take (e - a) (drop a l))
 
     by : (w : List ℕ) (t : Bool) → leb 1 (length w) ≡ t → T (all_bits (bits_from w))
-        → onward (if t then give w (drop (length w) (drop a l)) else none) (λ u. give (bits_from u)) ≡ some (record { value = v; rest = drop e l }) → BitsAt l a e
+        → onward (if t then give w (drop (length w) (drop a l)) otherwise none) (λ u. give (bits_from u)) ≡ some (record { value = v; rest = drop e l }) → BitsAt l a e
     by w true g d q =
         let f : bits_from w ≡ v = ap (λ (p : Piece (List ℕ)). p.value) (some-injective _ _ q) in
         let n : length w ≡ length (take (e - a) (drop a l)) = sym (from_length w) ∙ ap length f ∙ from_length (take (e - a) (drop a l)) in
@@ -116,13 +116,13 @@ plain_read line = record { line = line; lin = no_terms (pos 0) }
 
 -- All of the bytes are one line.
 unfoldable pub ended : NetworkLine → List ℕ → Option NetworkLine
-ended v x = if eqb (length x) 0 then some v else none
+ended v x = if eqb (length x) 0 then some v otherwise none
 
 -- Two words that differ where both have a byte.
 unfoldable pub clash : List ℕ → List ℕ → Bool
 clash [] v = false
 clash (b ∷ w) [] = false
-clash (b ∷ w) (c ∷ v) = if eqb b c then clash w v else true
+clash (b ∷ w) (c ∷ v) = if eqb b c then clash w v otherwise true
 
 pub clashes : (w v s : List ℕ) {p : Piece (Unit {0})} → clash w v ≡ true → exactly w s ≡ some p → exactly v s ≡ none
 unfolding clash exactly

@@ -1,7 +1,7 @@
 -- What the code says of a line, and what of a line is good on its own.
 use Rattle.std.specs.Prelude.{◌≡◌, List, [], ◌∷◌, ℕ, ◌-◌, ◌≤◌, min, T, leb, length, take, drop}
 use Rattle.std.proofs.Math.Option.{Option, none, some}
-use Rattle.laws.specs.Test.{if◌then◌else◌}
+use Rattle.laws.specs.Test.{if◌then◌otherwise◌}
 use Rattle.rules.specs.Builder.{table_limits}
 use Rattle.rules.specs.Circuit.{Given}
 use Rattle.rules.specs.Form.{bits_from}
@@ -43,10 +43,10 @@ cap_terms [] = []
 cap_terms (t ∷ ts) = cap_term t ∷ cap_terms ts
 
 unfoldable pub good_form : NetworkLine → Option NetworkLine
-good_form (NetLine n) = if table_limits n.p n.m then some (NetLine n) else none
+good_form (NetLine n) = if table_limits n.p n.m then some (NetLine n) otherwise none
 good_form (NodeLine (Input n)) = some (NodeLine (Input n))
-good_form (NodeLine (Linear c ts)) = if good_sum c ts then some (NodeLine (Linear c (cap_terms ts))) else none
-good_form (NodeLine (Bootstrap i table)) = if leb (length table) 32 then some (NodeLine (Bootstrap (min 65536 i) table)) else none
+good_form (NodeLine (Linear c ts)) = if good_sum c ts then some (NodeLine (Linear c (cap_terms ts))) otherwise none
+good_form (NodeLine (Bootstrap i table)) = if leb (length table) 32 then some (NodeLine (Bootstrap (min 65536 i) table)) otherwise none
 good_form (OutLine o) = some (OutLine (cap_output o))
 
 unfoldable pub good_line : Option NetworkLine → Option NetworkLine

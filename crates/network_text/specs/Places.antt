@@ -6,7 +6,7 @@ use Rattle.std.proofs.lemmas.Bool.{lt-leb}
 use Rattle.std.specs.Int.Signed.{lt_z, le_z}
 use Rattle.std.specs.Int.{w64}
 use Rattle.laws.specs.Integer.{plus, minus, lt_z_true, lt_z_false, abs_bits}
-use Rattle.laws.specs.Test.{if◌then◌else◌, allb, eq-or-ne}
+use Rattle.laws.specs.Test.{if◌then◌otherwise◌, allb, eq-or-ne}
 use Rattle.rules.specs.CircuitText.{same_name}
 use Rattle.rules.specs.NetworkText.{small}
 use Rattle.network_text.specs.Terms.{no_terms, with_term}
@@ -37,8 +37,8 @@ apart l starts ends a e j = not (same_name (take (get_or ends j 0 - get_or start
 unfoldable pub good_next : List ℕ → Terms → ℤ → ℕ → ℕ → Bool
 good_next l t c a e =
     if leb 11 t.lin.n then false
-    else if good_coef c then allb t.lin.n (apart l t.starts t.ends a e)
-    else false
+    otherwise if good_coef c then allb t.lin.n (apart l t.starts t.ends a e)
+    otherwise false
 
 -- ---- The code's tests.
 

@@ -3,7 +3,7 @@ use Rattle.std.specs.Prelude.{◌≡◌, Bool, true, false, List, ℕ, ◌-◌, 
 use Rattle.std.proofs.Common.{ap, arith, to_z, of_z}
 use Rattle.std.proofs.Math.Option.{Option, none, some}
 use Rattle.std.specs.Int.{w64}
-use Rattle.laws.specs.Test.{if◌then◌else◌}
+use Rattle.laws.specs.Test.{if◌then◌otherwise◌}
 use Rattle.rules.specs.Form.{Piece, Reader, give, ◌>>◌, word, number, below, signed}
 use Rattle.rules.specs.Network.{Term}
 use Rattle.rules.specs.NetworkText.{term}
@@ -67,7 +67,7 @@ keeps_signed =
     keeps_below : (n : ℕ) → Keeps (below n)
     keeps_below n s t = by (eqb n 0)
       where
-        by : (b : Bool) → (if b then (λ (x : List ℕ). none) else give (neg_ℤ (pos n))) s ≡ some t → length t.rest ≤ length s
+        by : (b : Bool) → (if b then (λ (x : List ℕ). none) otherwise give (neg_ℤ (pos n))) s ≡ some t → length t.rest ≤ length s
         by true e = let z : ◌≡◌ {A = ℕ} 0 1 = cc in absurd (omega arith)
         by false e = keeps_give (neg_ℤ (pos n)) s t e
 

@@ -7,7 +7,7 @@ use Rattle.std.proofs.Math.Seq.{take-suc-set, length-take-le}
 use Rattle.std.specs.Int.{w64}
 use Rattle.laws.specs.Integer.{fits_abs}
 use Rattle.laws.specs.Select.{select}
-use Rattle.laws.specs.Test.{if◌then◌else◌}
+use Rattle.laws.specs.Test.{if◌then◌otherwise◌}
 use Rattle.rules.specs.Network.{Term}
 use Rattle.rules.specs.Store.{insert, sorted, is_used, linear_terms}
 use Rattle.nodes.specs.declared.record.Terms.{Terms}
@@ -132,7 +132,7 @@ unfolding FineTerms select
 fine_select count g [] f = tt
 fine_select count g (t ∷ ts) f = by (g t) (fine_select count g ts f.2)
   where
-    by : (b : Bool) → FineTerms count (select g ts) → FineTerms count (if b then t ∷ select g ts else select g ts)
+    by : (b : Bool) → FineTerms count (select g ts) → FineTerms count (if b then t ∷ select g ts otherwise select g ts)
     by true r = (f.0, f.1, r)
     by false r = r
 
@@ -141,7 +141,7 @@ unfolding FineTerms insert
 fine_insert count t [] h k f = (h, k, tt)
 fine_insert count t (u ∷ us) h k f = by (leb t.node u.node) (fine_insert count t us h k f.2)
   where
-    by : (b : Bool) → FineTerms count (insert t us) → FineTerms count (if b then t ∷ u ∷ us else u ∷ insert t us)
+    by : (b : Bool) → FineTerms count (insert t us) → FineTerms count (if b then t ∷ u ∷ us otherwise u ∷ insert t us)
     by true r = (h, k, f)
     by false r = (f.0, f.1, r)
 

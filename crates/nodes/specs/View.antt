@@ -9,7 +9,7 @@ use Rattle.std.proofs.lemmas.List.{take-append-le}
 use Rattle.laws.specs.Integer.{ints, plus, minus, abs_parts, one_part_zero, add_parts, sub_parts}
 use Rattle.laws.specs.Over.{over, over-length}
 use Rattle.laws.specs.Tabulate.{tabulate, tabulate-length, tabulate-at}
-use Rattle.laws.specs.Test.{if◌then◌else◌, decide, zero≢one}
+use Rattle.laws.specs.Test.{if◌then◌otherwise◌, decide, zero≢one}
 use Rattle.rules.specs.Circuit.{Given}
 use Rattle.rules.specs.CircuitText.{same_name}
 use Rattle.rules.specs.Network.{Term, LutNode, Input, Linear, Bootstrap, node_at, node_depth}
@@ -61,8 +61,8 @@ terms_from (suc n) l = term_in l ∷ terms_from n (drop 3 l)
 unfoldable pub node_in : List ℕ → LutNode
 node_in r =
     if eqb (get_or r 0 0) 0 then Input (given (take (get_or r 2 0) (drop 6 r)) (get_or r 3 0))
-    else if eqb (get_or r 0 0) 1 then Linear (unbiased (get_or r 2 0)) (terms_from (get_or r 1 0) (drop 3 r))
-    else Bootstrap (256 * get_or r 4 0 + get_or r 5 0) (take (get_or r 2 0) (drop 6 r))
+    otherwise if eqb (get_or r 0 0) 1 then Linear (unbiased (get_or r 2 0)) (terms_from (get_or r 1 0) (drop 3 r))
+    otherwise Bootstrap (256 * get_or r 4 0 + get_or r 5 0) (take (get_or r 2 0) (drop 6 r))
 
 -- ---- The store: 41 bytes a node.
 

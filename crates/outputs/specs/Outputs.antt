@@ -6,7 +6,7 @@ use native.Mathlib.Omega.{arith}
 use Rattle.std.proofs.Math.ListN.{length, get_or}
 use borrow.Author.Tests.{lt-ltb, le-ltb, le-leb, lt-leb, eq-eqb, ne_eqb}
 use Rattle.laws.specs.Select.{select}
-use Rattle.laws.specs.Test.{if◌then◌else◌}
+use Rattle.laws.specs.Test.{if◌then◌otherwise◌}
 use Rattle.rules.specs.declared.Wire.{Wire}
 use Rattle.rules.specs.declared.Wire.TheVariants.{Const, Node}
 use Rattle.rules.specs.declared.Settings.{Settings}
@@ -70,7 +70,7 @@ pub record GoodPorts (ps : List ℕ) (n outs : ℕ) : Type 0 where
 
 -- The slot that holds the cone of an output's wire.
 unfoldable pub slot_of : ℕ → ℕ
-slot_of wire = if ltb wire 1000 then wire else wire - 872
+slot_of wire = if ltb wire 1000 then wire otherwise wire - 872
 
 unfoldable pub started : List LutNode → Outputs
 started store = record { nodes = store; outputs = [] }

@@ -1,7 +1,7 @@
 -- Wanted nodes as marks in an array, and their new numbers.
 use Rattle.std.specs.Prelude.{◌≡◌, refl, Bool, true, false, not, List, ◌∷◌, ◌++◌, ℕ, suc, ◌+◌, ◌-◌, ◌≤◌, ◌<◌, eqb, length, get_or, set, drop}
 use Rattle.std.proofs.Common.{sym, ◌∙◌, ⊎_elim, not-suc-le-zero, add-one, arith, eq-eqb, ne_eqb, length-set, drop_of_length-le, drop-cons, get_or-set_same, get_or-set_other}
-use Rattle.laws.specs.Test.{if◌then◌else◌, eq-or-ne}
+use Rattle.laws.specs.Test.{if◌then◌otherwise◌, eq-or-ne}
 use Rattle.rules.specs.Network.{member, LutNode, node_at}
 use Rattle.rules.specs.Store.{needs, wanted_below, renumbered}
 
@@ -19,13 +19,13 @@ adding more wanted = more ++ wanted
 
 -- what node i needs, if it is wanted
 unfoldable pub adding_needed : ℕ → LutNode → List ℕ → List ℕ
-adding_needed i n wanted = if member i wanted then needs n ++ wanted else wanted
+adding_needed i n wanted = if member i wanted then needs n ++ wanted otherwise wanted
 
 -- whatever was marked, each node below the count that is kept has its new number + 1 now, and the others have 0
 pub record Numbers (keeping : List ℕ → List ℕ) (count : ℕ) (before after : List ℕ) : Type 0 where
   pub long : length after ≡ 672
   pub at : (wanted : List ℕ) → Marks wanted before → (i : ℕ) → i < count
-      → get_or after i 0 ≡ (if member i (keeping wanted) then renumbered (keeping wanted) i + 1 else 0)
+      → get_or after i 0 ≡ (if member i (keeping wanted) then renumbered (keeping wanted) i + 1 otherwise 0)
 
 -- ---- laws
 
@@ -34,7 +34,7 @@ unfolding wanted_below
 wanted_zero nodes wanted = refl
 
 wanted_suc : (i : ℕ) (nodes : List LutNode) (wanted : List ℕ)
-    → wanted_below (suc i) nodes wanted ≡ wanted_below i nodes (if member i wanted then needs (node_at nodes i) ++ wanted else wanted)
+    → wanted_below (suc i) nodes wanted ≡ wanted_below i nodes (if member i wanted then needs (node_at nodes i) ++ wanted otherwise wanted)
 unfolding wanted_below
 wanted_suc i nodes wanted = refl
 
@@ -107,10 +107,10 @@ reaching_turn nodes count i n before live after r h e w =
           };
     }
   where
-    below : (j : ℕ) (so_far : List ℕ) → suc j ≡ i → wanted_below j nodes (if member j so_far then needs (node_at nodes j) ++ so_far else so_far) ≡ wanted_below i nodes so_far
+    below : (j : ℕ) (so_far : List ℕ) → suc j ≡ i → wanted_below j nodes (if member j so_far then needs (node_at nodes j) ++ so_far otherwise so_far) ≡ wanted_below i nodes so_far
     below j so_far s = rw (← s) (sym (wanted_suc j nodes so_far))
 
-    step : (so_far : List ℕ) → wanted_below (i - 1) nodes (if member (i - 1) so_far then needs n ++ so_far else so_far) ≡ wanted_below i nodes so_far
+    step : (so_far : List ℕ) → wanted_below (i - 1) nodes (if member (i - 1) so_far then needs n ++ so_far otherwise so_far) ≡ wanted_below i nodes so_far
     step so_far = rw (← e) (below (i - 1) so_far (omega arith))
 
 pub reaching_done : (nodes : List LutNode) (count i : ℕ) (before live : List ℕ) → Reaching nodes count i before live → i ≡ 0 → Marking (wanted_below count nodes) before live
@@ -128,7 +128,7 @@ reaching_done nodes count i before live r e =
 -- the nodes below i have theirs, and `next` of them are kept
 pub record Numbering (kept : List ℕ) (live : List ℕ) (i next : ℕ) : Type 0 where
   pub told : next ≡ renumbered kept i
-  pub done : (j : ℕ) → j < i → get_or live j 0 ≡ (if member j kept then renumbered kept j + 1 else 0)
+  pub done : (j : ℕ) → j < i → get_or live j 0 ≡ (if member j kept then renumbered kept j + 1 otherwise 0)
   pub left : (j : ℕ) → i ≤ j → j < 672 → not (eqb (get_or live j 0) 0) ≡ member j kept
 
 pub numbering_start : (kept live : List ℕ) → Marks kept live → Numbering kept live 0 0
@@ -136,7 +136,7 @@ unfolding renumbered
 numbering_start kept live m = record { told = refl; done = λ j h. absurd (not-suc-le-zero h); left = λ j h k. m.at j k }
 
 pub numbering_turn : (kept live : List ℕ) (i next x y : ℕ) → Numbering kept live i next → length live ≡ 672 → i < 672
-    → x ≡ (if not (eqb (get_or live i 0) 0) then next + 1 else 0) → y ≡ (if not (eqb (get_or live i 0) 0) then 1 else 0) + next → Numbering kept (set live i x) (i + 1) y
+    → x ≡ (if not (eqb (get_or live i 0) 0) then next + 1 otherwise 0) → y ≡ (if not (eqb (get_or live i 0) 0) then 1 otherwise 0) + next → Numbering kept (set live i x) (i + 1) y
 unfolding renumbered
 numbering_turn kept live i next x y w l h p q =
     let b = w.left i (omega arith) h in
@@ -156,6 +156,6 @@ pub numbers_after : (keeping : List ℕ → List ℕ) (count : ℕ) (before betw
     → Numbers keeping count before after
 numbers_after keeping count before between after m w = record { long = w.long; at = λ wanted q. w.at (keeping wanted) (m.marks wanted q) }
 
-pub counted_one : (b : Bool) (y next : ℕ) → y ≡ (if b then 1 else 0) + next → y ≤ next + 1
+pub counted_one : (b : Bool) (y next : ℕ) → y ≡ (if b then 1 otherwise 0) + next → y ≤ next + 1
 counted_one true y next e = omega arith
 counted_one false y next e = omega arith

@@ -2,7 +2,7 @@
 #![tactic(auto)]
 
 ghost use Rattle.std.specs.Prelude.{◌≡◌, not, ◌+◌, ◌≤◌, ◌<◌, eqb, length};
-ghost use Rattle.laws.specs.Test.{if◌then◌else◌};
+ghost use Rattle.laws.specs.Test.{if◌then◌otherwise◌};
 ghost use Rattle.rules.specs.Store.{needs, wanted_below};
 ghost use Rattle.nodes.specs.View.{node_of, store_of, IsNode, IsStore};
 ghost use Rattle.prune.specs.Prune.{Marking, adding, adding_needed, Numbers};
@@ -48,14 +48,14 @@ fn mark_live(nodes: &[u8; 27552], count: usize, live: &mut [u16; 672])
 // A marked node's number, counted from 1, where `next` nodes before it are marked.
 fn numbered(mark: u16, next: u16) -> u16
     requires { next < 672 }
-    ensures { result ≡ (if not (eqb mark 0) then next + 1 else 0) }
+    ensures { result ≡ (if not (eqb mark 0) then next + 1 otherwise 0) }
 {
     if mark == 0 { 0 } else { next + 1 }
 }
 
 fn counted(mark: u16, next: u16) -> u16
     requires { next < 672 }
-    ensures { result ≡ (if not (eqb mark 0) then 1 else 0) + next }
+    ensures { result ≡ (if not (eqb mark 0) then 1 otherwise 0) + next }
 {
     if mark == 0 { next } else { next + 1 }
 }

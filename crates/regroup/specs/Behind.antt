@@ -13,7 +13,7 @@ use Rattle.std.proofs.Math.Seq.{take-length, drop-length, take-take, length-take
 use Rattle.std.proofs.lemmas.List.{get_or_at}
 use Rattle.laws.specs.Front.{taken_step, taken-all}
 use Rattle.laws.specs.Select.{any}
-use Rattle.laws.specs.Test.{if◌then◌else◌, if_both, or_by_right, neither, neither_left, neither_right}
+use Rattle.laws.specs.Test.{if◌then◌otherwise◌, if_both, or_by_right, neither, neither_left, neither_right}
 use Rattle.rules.specs.Network.{member}
 use Rattle.rules.specs.Regroup.{behind}
 use Rattle.theorems.specs.Members.{member_head, member-tail, member_cons}
@@ -39,7 +39,7 @@ module _ (f : ℕ → Bool) where
   unfolding behind
   behind_later x y l e = rw e (by (f y))
     where
-      by : (b : Bool) → (if b && false then y ∷ x ∷ l else y ∷ behind f x l) ≡ y ∷ behind f x l
+      by : (b : Bool) → (if b && false then y ∷ x ∷ l otherwise y ∷ behind f x l) ≡ y ∷ behind f x l
       by true = refl
       by false = refl
 
@@ -82,7 +82,7 @@ behind_same f g x [] h = refl
 behind_same f g x (y ∷ l) h =
     by (f y) (g y) (any f l) (any g l) (h y (member_head y l)) (any_same f g l (λ j m. h j (member-tail j y l m))) (behind_same f g x l (λ j m. h j (member-tail j y l m)))
   where
-    by : (a b c d : Bool) → a ≡ b → c ≡ d → behind f x l ≡ behind g x l → (if a && not c then y ∷ x ∷ l else y ∷ behind f x l) ≡ (if b && not d then y ∷ x ∷ l else y ∷ behind g x l)
+    by : (a b c d : Bool) → a ≡ b → c ≡ d → behind f x l ≡ behind g x l → (if a && not c then y ∷ x ∷ l otherwise y ∷ behind f x l) ≡ (if b && not d then y ∷ x ∷ l otherwise y ∷ behind g x l)
     by a b c d p q r = rw (p, q, r) refl
 
 -- ---- One number more.

@@ -6,7 +6,7 @@ use Rattle.std.proofs.Math.Bool.{true, false}
 use Rattle.std.proofs.Math.Option
 use Rattle.std.proofs.Math.Option.{none, some}
 use Rattle.std.proofs.Math.Seq.{drop-cons}
-use Rattle.laws.specs.Test.{if◌then◌else◌}
+use Rattle.laws.specs.Test.{if◌then◌otherwise◌}
 use Rattle.rules.specs.Builder.{agrees, filled, opposed, completion, last_tried}
 use Rattle.rules.specs.Rotation.{rotatable}
 use Rattle.theorems.specs.Rows.{offset}
@@ -18,7 +18,7 @@ entered_until low (v ∷ values) [] known = known
 entered_until low (v ∷ values) (t ∷ truths) known =
     let i = nat_abs (v -ℤ low) in
     let rest = entered_until low values truths (set known i t) in
-    if agrees (get_or known i 0) t then rest else known
+    if agrees (get_or known i 0) t then rest otherwise known
 
 module _ (low : ℤ) (values : List ℤ) (truths known : List ℕ) (i : ℕ) where
   module _ (k b : ℕ) (h : i < length values) (l : i < length truths) (at : k ≡ offset low values i) (is : b ≡ get_or truths i 0) where
@@ -50,6 +50,6 @@ module _ (P : ℕ) (known t : List ℕ) where
   unfolding last_tried completion
   tried-opposed is e f = is ∙ rw (e, f) (by (rotatable P (opposed P known)))
     where
-      by : (b : Bool) → opposed P known ≡ Option.get_or (if b then some (opposed P known) else none) (opposed P known)
+      by : (b : Bool) → opposed P known ≡ Option.get_or (if b then some (opposed P known) otherwise none) (opposed P known)
       by true = refl
       by false = refl

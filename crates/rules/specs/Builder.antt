@@ -5,7 +5,7 @@ use Rattle.std.proofs.Math.Option.{Option, none, some}
 use Rattle.laws.specs.Over.{over}
 use Rattle.laws.specs.Select.{any}
 use Rattle.laws.specs.Tabulate.{tabulate}
-use Rattle.laws.specs.Test.{if◌then◌else◌, is_some, allb}
+use Rattle.laws.specs.Test.{if◌then◌otherwise◌, is_some, allb}
 use Rattle.rules.specs.Rotation.{rotatable, centre_of}
 use Rattle.rules.specs.Span.{least, span}
 use Rattle.rules.specs.declared.Entry.{Entry}
@@ -30,7 +30,7 @@ enter low (v ∷ values) [] known = some known
 enter low (v ∷ values) (t ∷ truths) known =
     let i = nat_abs (v -ℤ low) in
     let rest = enter low values truths (set known i t) in
-    if agrees (get_or known i 0) t then rest else none
+    if agrees (get_or known i 0) t then rest otherwise none
 
 unfoldable pub known_entries : List ℤ → List ℕ → Option (List ℕ)
 known_entries values truths = enter (least values) values truths (replicate (span values) 2)
@@ -39,7 +39,7 @@ known_entries values truths = enter (least values) values truths (replicate (spa
 
 -- x, or d where it is unknown.
 unfoldable pub known_or : ℕ → ℕ → ℕ
-known_or d x = if eqb x 2 then d else x
+known_or d x = if eqb x 2 then d otherwise x
 
 -- Every unknown d.
 unfoldable pub filled : ℕ → List ℕ → List ℕ
@@ -47,14 +47,14 @@ filled d = map (known_or d)
 
 -- x, or where it is unknown the opposite of its partner y, or d where both are unknown.
 unfoldable pub against : ℕ → ℕ → ℕ → ℕ
-against d y x = if eqb x 2 then (if eqb y 2 then d else 1 - y) else x
+against d y x = if eqb x 2 then (if eqb y 2 then d otherwise 1 - y) otherwise x
 
 -- Each unknown opposite to its partner, both unknown 0 and 1, unpaired 0.
 unfoldable pub opposed_at : ℕ → List ℕ → ℕ → ℕ
 opposed_at P known i =
     if ltb (i + P) (length known) then against 0 (get_or known (i + P) 0) (get_or known i 0)
-    else if leb P i then against 1 (get_or known (i - P) 0) (get_or known i 0)
-    else known_or 0 (get_or known i 0)
+    otherwise if leb P i then against 1 (get_or known (i - P) 0) (get_or known i 0)
+    otherwise known_or 0 (get_or known i 0)
 
 unfoldable pub opposed : ℕ → List ℕ → List ℕ
 opposed P known = tabulate (length known) (opposed_at P known)
@@ -62,9 +62,9 @@ opposed P known = tabulate (length known) (opposed_at P known)
 -- Unknowns 0, then 1, then opposite: the first that a rotation gives.
 unfoldable pub completion : ℕ → List ℕ → Option (List ℕ)
 completion P known =
-    let third = if rotatable P (opposed P known) then some (opposed P known) else none in
-    let second = if rotatable P (filled 1 known) then some (filled 1 known) else third in
-    if rotatable P (filled 0 known) then some (filled 0 known) else second
+    let third = if rotatable P (opposed P known) then some (opposed P known) otherwise none in
+    let second = if rotatable P (filled 1 known) then some (filled 1 known) otherwise third in
+    if rotatable P (filled 0 known) then some (filled 0 known) otherwise second
 
 -- The completion; the third of the three where a rotation gives none.
 unfoldable pub last_tried : ℕ → List ℕ → List ℕ
@@ -78,7 +78,7 @@ completable P known = is_some (completion P known)
 
 -- An entry by its number.
 unfoldable pub entry_of : ℕ → Entry
-entry_of x = if eqb x 0 then Zero else if eqb x 1 then One else Unknown
+entry_of x = if eqb x 0 then Zero otherwise if eqb x 1 then One otherwise Unknown
 
 -- The nine cases (document 02, S-4; docs/PAIRS.md): the sums of a pair that remain, that is those that some bits for the unknowns give.
 unfoldable pub remaining : Entry → Entry → List ℕ
@@ -135,7 +135,7 @@ unfoldable pub from_table : ℕ → List ℕ → Option (List ℕ) → Built
 from_table P buffer none = built (no_table 33) buffer
 from_table P buffer (some table) =
     if ltb (length buffer) (length table) then built (no_table 34) buffer
-    else built (with_table (length table) (centre_of P table)) (over table buffer)
+    otherwise built (with_table (length table) (centre_of P table)) (over table buffer)
 
 -- 32 where the rows give no known entries.
 unfoldable pub from_known : ℕ → List ℕ → Option (List ℕ) → Built
@@ -148,10 +148,10 @@ unfoldable pub builder : ℕ → ℕ → List ℤ → List ℕ → List ℕ → 
 builder P M values truths buffer =
     let rest = from_known P buffer (known_entries values truths) in
     if not (table_limits P M) then built (no_table 2) buffer
-    else if not (eqb (length values) (length truths)) then built (no_table 30) buffer
-    else if eqb (length values) 0 then built (no_table 30) buffer
-    else if ltb M (span values) then built (no_table 31) buffer
-    else rest
+    otherwise if not (eqb (length values) (length truths)) then built (no_table 30) buffer
+    otherwise if eqb (length values) 0 then built (no_table 30) buffer
+    otherwise if ltb M (span values) then built (no_table 31) buffer
+    otherwise rest
 
 -- Document 01's number and values for each reply.
 abbrev pub builder_reply : BuilderReply → TableAnswer

@@ -5,7 +5,7 @@ use Rattle.std.proofs.Math.Option
 use Rattle.std.proofs.Math.Option.{Option, none, some}
 use Rattle.laws.specs.Select.{select, all}
 use Rattle.laws.specs.Tabulate.{tabulate}
-use Rattle.laws.specs.Test.{if◌then◌else◌}
+use Rattle.laws.specs.Test.{if◌then◌otherwise◌}
 use Rattle.rules.specs.declared.Policy.{Policy}
 use Rattle.rules.specs.declared.Policy.TheVariants.{Basic, Naive, Span}
 use Rattle.rules.specs.declared.Settings.{Settings}
@@ -30,7 +30,7 @@ assignments (suc n) = let r = assignments n in map (λ (bits : List ℕ). 0 ∷ 
 unfoldable pub assigned : List ℕ → List ℕ → ℕ → ℕ
 assigned [] bits n = 0
 assigned (m ∷ support) [] n = 0
-assigned (m ∷ support) (b ∷ bits) n = let r = assigned support bits n in if eqb m n then b else r
+assigned (m ∷ support) (b ∷ bits) n = let r = assigned support bits n in if eqb m n then b otherwise r
 
 -- A bit for each assignment of the support.
 unfoldable pub over_rows : List ℕ → ((ℕ → ℕ) → ℕ) → List ℕ
@@ -75,7 +75,7 @@ merged_coefficients support left right p =
 
 -- 0 if that sum is already bootstrapped, with many tables a sum only.
 unfoldable pub reuse_cost : Settings → List LutNode → Cone → ℕ
-reuse_cost s nodes c = let r = has_bootstrap nodes (linear_of s c) in if s.many && r then 0 else 1
+reuse_cost s nodes c = let r = has_bootstrap nodes (linear_of s c) in if s.many && r then 0 otherwise 1
 
 -- Score::ordering with document 02's exchange (S-3): reuse, span, norm, energy, a, b.
 unfoldable pub score : Settings → List LutNode → Scales → Cone → List ℤ
@@ -85,7 +85,7 @@ score s nodes p c = pos (reuse_cost s nodes c) ∷ pos (cone_span c) ∷ pos (no
 unfoldable pub evaluate : Settings → List LutNode → Scales → Cone → List Candidate
 evaluate s nodes p c =
     let r : List Candidate = record { score = score s nodes p c; cone = c } ∷ [] in
-    if fits s nodes c then r else []
+    if fits s nodes c then r otherwise []
 
 -- find_candidate: the merged cone of the least score.
 unfoldable pub find_candidate : Settings → List LutNode → List ℕ → Cone → Cone → List ℕ → Option Candidate
@@ -115,5 +115,5 @@ compose s nodes left right gate =
     let truth = gate_truth support left right gate in
     let merged = Option.map merge_cones (find_candidate s nodes support left right truth) in
     if ltb (s.t + 1) (length support) then none
-    else if all_equal truth then some (constant (get_or truth 0 0))
-    else merged
+    otherwise if all_equal truth then some (constant (get_or truth 0 0))
+    otherwise merged

@@ -4,7 +4,7 @@ use mathlib.Core.List.{List, [], ◌∷◌, ◌++◌, map, zip_with}
 use Rattle.std.proofs.Math.Option
 use Rattle.std.proofs.Math.Option.{Option, none, some}
 use Rattle.std.specs.Int.Signed.{lt_z}
-use Rattle.laws.specs.Test.{if◌then◌else◌, is_some}
+use Rattle.laws.specs.Test.{if◌then◌otherwise◌, is_some}
 use Rattle.rules.specs.declared.Settings.{Settings}
 use Rattle.rules.specs.Builder.{known_entries, completion, last_tried}
 use Rattle.rules.specs.Network.{Term, LutNode, norm}
@@ -101,7 +101,7 @@ err k >>= f = err k
 
 -- validate_cone without its encoding check, which no cone that is built fails (`never-ten`).
 unfoldable pub validate_cone : Settings → List LutNode → Cone → Result Cone
-validate_cone s nodes c = if within_norm s (norm2 nodes c) then ok c else err 8
+validate_cone s nodes c = if within_norm s (norm2 nodes c) then ok c otherwise err 8
 
 -- ---- The best of some cones.
 
@@ -114,12 +114,12 @@ pub record Candidate : Type 0 where
 unfoldable pub less : List ℤ → List ℤ → Bool
 less [] ys = false
 less (x ∷ xs) [] = false
-less (x ∷ xs) (y ∷ ys) = let r = less xs ys in if lt_z x y then true else if lt_z y x then false else r
+less (x ∷ xs) (y ∷ ys) = let r = less xs ys in if lt_z x y then true otherwise if lt_z y x then false otherwise r
 
 -- The best so far gives way only to a lower score.
 unfoldable pub better : Option Candidate → Candidate → Candidate
 better none c = c
-better (some d) c = if less c.score d.score then c else d
+better (some d) c = if less c.score d.score then c otherwise d
 
 unfoldable pub best_from : Option Candidate → List Candidate → Option Candidate
 best_from d [] = d

@@ -1,7 +1,7 @@
 -- The converter between the editions of the network text (document 02, S-11): how edition 2 is written, and both ways.
 use Rattle.std.specs.Prelude.{Bool, true, false, List, [], ◌∷◌, ◌++◌, map, ℕ, ltb, eqb, length}
 use Rattle.laws.specs.Over.{over}
-use Rattle.laws.specs.Test.{if◌then◌else◌}
+use Rattle.laws.specs.Test.{if◌then◌otherwise◌}
 use Rattle.rules.specs.Circuit.{Output}
 use Rattle.rules.specs.Edition2.{Table, Line2, Plain, Many, is_edition2, read_either}
 use Rattle.rules.specs.Form.{bytes, Reading, Good, Refused}
@@ -19,7 +19,7 @@ use Rattle.rules.specs.Writing.{digits, bits_text, limit_text, node_text, output
 unfoldable pub join_table : ℕ → Table → List Line2 → List Line2
 join_table i t [] = Many i (t ∷ []) ∷ []
 join_table i t (Plain l ∷ ls) = Many i (t ∷ []) ∷ Plain l ∷ ls
-join_table i t (Many j ts ∷ ls) = if eqb i j then Many i (t ∷ ts) ∷ ls else Many i (t ∷ []) ∷ Many j ts ∷ ls
+join_table i t (Many j ts ∷ ls) = if eqb i j then Many i (t ∷ ts) ∷ ls otherwise Many i (t ∷ []) ∷ Many j ts ∷ ls
 
 unfoldable pub node_lines : ℕ → List LutNode → List Line2
 node_lines P [] = []
@@ -63,7 +63,7 @@ convert text = and_then (read_either text) (λ w. Good (other_edition (is_editio
 -- The text over the buffer's front, later bytes kept; 11 where the buffer is too short. A refusal keeps the buffer.
 unfoldable pub answer_text : List ℕ → Reading (List ℕ) → Outcome
 answer_text buffer (Refused k line) = outcome (refused k line) buffer
-answer_text buffer (Good text) = if ltb (length buffer) (length text) then outcome (refused 11 0) buffer else outcome (written (length text)) (over text buffer)
+answer_text buffer (Good text) = if ltb (length buffer) (length text) then outcome (refused 11 0) buffer otherwise outcome (written (length text)) (over text buffer)
 
 -- The converter: a network's text in either edition, and the answer buffer as it was.
 unfoldable pub converter : List ℕ → List ℕ → Outcome

@@ -2,7 +2,7 @@
 use Rattle.std.specs.Prelude.{Bool, ◌||◌, not, List, [], ◌∷◌, ◌++◌, map, ℕ, ◌+◌, ltb, eqb, length}
 use Rattle.std.proofs.Math.Option.{Option}
 use Rattle.laws.specs.Select.{any}
-use Rattle.laws.specs.Test.{if◌then◌else◌, is_some}
+use Rattle.laws.specs.Test.{if◌then◌otherwise◌, is_some}
 use Rattle.rules.specs.Form.{Reader, give, ◌>>=◌, ◌>>◌, ◌or◌, whole, many, word, number, bits, norm, in_line, out_line_lem, lines, Condition, ◌when◌, Reading, read_lines}
 use Rattle.rules.specs.Network.{LutNode, Input, Bootstrap, Network, node_at, member, boot_sources}
 use Rattle.rules.specs.NetworkText.{Net, NetworkLine, NetLine, NodeLine, OutLine, NetPrefix, lin_line, started, ending, unknown, settings_of, fits_table, text_conditions, safety_conditions, with_network_line, network_ended, no_network, read_network, read_admitted}
@@ -124,8 +124,8 @@ unfoldable pub is_edition2 : List ℕ → Bool
 is_edition2 text = is_some (word "(net2 " text)
 
 unfoldable pub read_either : List ℕ → Reading Network
-read_either text = if is_edition2 text then read_admitted2 text else read_admitted text
+read_either text = if is_edition2 text then read_admitted2 text otherwise read_admitted text
 
 -- The network run's reading, as a rule.
 unfoldable pub read_run : List ℕ → Reading Network
-read_run text = if is_edition2 text then read_network2 text else read_network text
+read_run text = if is_edition2 text then read_network2 text otherwise read_network text

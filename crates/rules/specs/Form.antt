@@ -3,7 +3,7 @@ use Rattle.std.specs.Prelude.{Bool, ◌&&◌, ◌||◌, not, List, [], ◌∷◌
 use Rattle.std.proofs.Math.Option.{Option, none, some}
 use Prim.Native.Char.{code}
 use Prim.Native.String as S
-use Rattle.laws.specs.Test.{if◌then◌else◌}
+use Rattle.laws.specs.Test.{if◌then◌otherwise◌}
 use Rattle.rules.specs.declared.Limit.{Limit}
 use Rattle.rules.specs.declared.Limit.TheVariants.{Unlimited, AtMost}
 use Rattle.rules.specs.declared.Wire.{Wire}
@@ -23,7 +23,7 @@ before b (l ∷ ls) = (b ∷ l) ∷ ls
 
 unfoldable pub lines : List ℕ → List (List ℕ)
 lines [] = []
-lines (b ∷ s) = if eqb b 10 then (b ∷ []) ∷ lines s else before b (lines s)
+lines (b ∷ s) = if eqb b 10 then (b ∷ []) ∷ lines s otherwise before b (lines s)
 
 -- ---- Readers. A reader takes a piece from the front of some bytes, or finds none there.
 
@@ -63,7 +63,7 @@ abbrev pub ◌or◌ : {A : Type 0} → Reader A → Reader A → Reader A
 -- All of the bytes are one piece.
 unfoldable pub only : {A : Type 0} → Option (Piece A) → Option A
 only none = none
-only (some t) = if eqb (length t.rest) 0 then some t.value else none
+only (some t) = if eqb (length t.rest) 0 then some t.value otherwise none
 
 abbrev pub whole : {A : Type 0} → Reader A → List ℕ → Option A
 whole r s = only (r s)
@@ -86,7 +86,7 @@ many r s = up_to (length s) r s
 unfoldable pub exactly : List ℕ → Reader (Unit {0})
 exactly [] s = give tt s
 exactly (w ∷ ws) [] = none
-exactly (w ∷ ws) (b ∷ s) = if eqb b w then exactly ws s else none
+exactly (w ∷ ws) (b ∷ s) = if eqb b w then exactly ws s otherwise none
 
 abbrev pub word : S.String → Reader (Unit {0})
 word t = exactly (bytes t)
@@ -94,11 +94,11 @@ word t = exactly (bytes t)
 -- The bytes at the front of which f holds.
 unfoldable pub run : (ℕ → Bool) → List ℕ → List ℕ
 run f [] = []
-run f (b ∷ s) = if f b then b ∷ run f s else []
+run f (b ∷ s) = if f b then b ∷ run f s otherwise []
 
 -- The longest run of such bytes, if it is a good one.
 unfoldable pub run_of : (ℕ → Bool) → (List ℕ → Bool) → Reader (List ℕ)
-run_of f good s = let w = run f s in if good w then give w (drop (length w) s) else none
+run_of f good s = let w = run f s in if good w then give w (drop (length w) s) otherwise none
 
 -- ---- Lines in turn, each judged against those before it (document 01, "Refused with").
 
@@ -119,7 +119,7 @@ pub data Reading (A : Type 0) : Type 0 where
 -- Line i is refused with the first condition that it meets; they stand lowest first.
 unfoldable pub judged : {A : Type 0} → ℕ → List Condition → Reading A → Reading A
 judged i [] next = next
-judged i (k ∷ ks) next = if k.met then Refused k.no i else judged i ks next
+judged i (k ∷ ks) next = if k.met then Refused k.no i otherwise judged i ks next
 
 -- S is what the lines so far say, L a line that is a form. Lines count from 1.
 module _ {S L A : Type 0} (form : List ℕ → Option L) (no_form : ℕ) (conditions : S → L → List Condition) (with_line : ℕ → S → L → S)
@@ -160,7 +160,7 @@ number = run_of is_digit is_number >>= (λ w. give (value_from 0 w))
 
 -- CONST and COEF: a number, or a minus before one that is not 0.
 unfoldable pub below : ℕ → Reader ℤ
-below n = if eqb n 0 then (λ s. none) else give (neg_ℤ (pos n))
+below n = if eqb n 0 then (λ s. none) otherwise give (neg_ℤ (pos n))
 
 unfoldable pub signed : Reader ℤ
 signed = (word "-" >> (number >>= below)) or (number >>= (λ n. give (pos n)))
@@ -192,7 +192,7 @@ wire =
 
 -- NORM is `none` or 0..4096.
 unfoldable pub up_to4096 : ℕ → Reader Limit
-up_to4096 n = if leb n 4096 then give (AtMost n) else (λ s. none)
+up_to4096 n = if leb n 4096 then give (AtMost n) otherwise (λ s. none)
 
 unfoldable pub norm : Reader Limit
 norm = (word "none" >> give Unlimited) or (number >>= up_to4096)
@@ -201,7 +201,7 @@ norm = (word "none" >> give Unlimited) or (number >>= up_to4096)
 
 -- W is 2 to 64; where none is written the weight is 1 (document 02, S-6).
 unfoldable pub from2_to64 : ℕ → Reader ℕ
-from2_to64 n = if leb 2 n && leb n 64 then give n else (λ s. none)
+from2_to64 n = if leb 2 n && leb n 64 then give n otherwise (λ s. none)
 
 unfoldable pub weight : Reader ℕ
 weight = (word " " >> (number >>= from2_to64)) or give 1

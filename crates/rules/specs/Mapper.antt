@@ -4,7 +4,7 @@ use Rattle.std.proofs.Math.Option.{Option, none, some}
 use Rattle.laws.specs.Over.{over}
 use Rattle.laws.specs.Select.{any}
 use Rattle.laws.specs.Tabulate.{tabulate}
-use Rattle.laws.specs.Test.{if◌then◌else◌}
+use Rattle.laws.specs.Test.{if◌then◌otherwise◌}
 use Rattle.rules.specs.declared.MapReply.{MapReply}
 use Rattle.rules.specs.declared.MapReply.TheVariants as Reply
 use Rattle.rules.specs.declared.Policy.{Policy}
@@ -39,7 +39,7 @@ unfoldable pub map_unary_gate : Settings → List LutNode → Cone → List ℕ 
 map_unary_gate s nodes c gate =
     let truth = map (λ b. get_or gate b 0) c.truth in
     let r = validate_cone s nodes (record { support = c.support; coefficients = c.coefficients; truth = truth }) >>= unchanged nodes in
-    if all_equal truth then unchanged nodes (constant (get_or truth 0 0)) else r
+    if all_equal truth then unchanged nodes (constant (get_or truth 0 0)) otherwise r
 
 -- One side of a binary gate: its cone, and whether it was bootstrapped here.
 pub record Side : Type 0 where
@@ -87,7 +87,7 @@ bootstrap_right s w =
 
 -- The larger side (span, then norm) comes first.
 unfoldable pub larger_first : Sides → Sides
-larger_first w = if less (cone_order_key w.nodes w.left.cone) (cone_order_key w.nodes w.right.cone) then switch_inputs w else w
+larger_first w = if less (cone_order_key w.nodes w.left.cone) (cone_order_key w.nodes w.right.cone) then switch_inputs w otherwise w
 
 -- The two sides have more sources together than T.
 unfoldable pub over_limit : Settings → Sides → Bool
@@ -95,10 +95,10 @@ over_limit s w = ltb s.t (length (union_support w.left.cone.support w.right.cone
 
 -- Then the left side is bootstrapped and the sides are switched, and the other one is bootstrapped if they are still too many.
 unfoldable pub limit_second : Settings → Sides → Sides
-limit_second s w = if over_limit s w then bootstrap_left s w else w
+limit_second s w = if over_limit s w then bootstrap_left s w otherwise w
 
 unfoldable pub limit_sources : Settings → Sides → Sides
-limit_sources s w = if over_limit s w then limit_second s (switch_inputs (bootstrap_left s w)) else w
+limit_sources s w = if over_limit s w then limit_second s (switch_inputs (bootstrap_left s w)) otherwise w
 
 -- One of map_binary_gate's three attempts.
 unfoldable pub attempt : Settings → Sides → Option Cone
@@ -106,15 +106,15 @@ attempt s w = compose s w.nodes w.left.cone w.right.cone w.gate
 
 -- updates: a bootstrapped side, and only such a side, replaces its wire's cone.
 unfoldable pub update : Side → Option Cone
-update x = if x.new then some x.cone else none
+update x = if x.new then some x.cone otherwise none
 
 unfoldable pub mapped : Sides → Cone → Mapped
 mapped w c =
     record {
       nodes = w.nodes;
       cone = c;
-      first = update (if w.switched then w.right else w.left);
-      second = update (if w.switched then w.left else w.right);
+      first = update (if w.switched then w.right otherwise w.left);
+      second = update (if w.switched then w.left otherwise w.right);
     }
 
 -- The attempt's answer, or else what comes next.
@@ -145,8 +145,8 @@ map_gate s nodes [] gate = err 7
 map_gate s nodes (c ∷ []) gate = map_unary_gate s nodes c gate
 map_gate s nodes (left ∷ right ∷ []) gate =
     if is_constant left then map_unary_gate s nodes right (take 2 (drop (2 * constant_value left) gate))
-    else if is_constant right then map_unary_gate s nodes left (get_or gate (constant_value right) 0 ∷ get_or gate (2 + constant_value right) 0 ∷ [])
-    else map_binary_gate s nodes left right gate
+    otherwise if is_constant right then map_unary_gate s nodes left (get_or gate (constant_value right) 0 ∷ get_or gate (2 + constant_value right) 0 ∷ [])
+    otherwise map_binary_gate s nodes left right gate
 map_gate s nodes (a ∷ b ∷ c ∷ cs) gate = err 7
 
 -- ---- All gates in turn.
@@ -183,7 +183,7 @@ unfoldable pub is_forced : Settings → List Output → ℕ → Bool
 is_forced s outputs i = is_basic s.policy || (not s.many && any (λ (o : Output). leads_to i o.wire) outputs)
 
 unfoldable pub forced : Settings → Bool → Mapped → Stored
-forced s f m = if f then bootstrap_cone s m.nodes m.cone else record { nodes = m.nodes; cone = m.cone }
+forced s f m = if f then bootstrap_cone s m.nodes m.cone otherwise record { nodes = m.nodes; cone = m.cone }
 
 -- The loop of map_once over the gates: one gate.
 unfoldable pub map_next : Settings → List Output → State → Gate → Result State
@@ -218,7 +218,7 @@ wire_of nodes (n ∷ ns) truth =
     let negation = Linear (pos 1) (record { coef = negsuc 0; node = n } ∷ []) in
     let withNegation = intern negation nodes in
     let r : Signal = record { nodes = withNegation; wire = Node (number_of negation withNegation) } in
-    if eqb (get_or truth 0 0) 0 then record { nodes = nodes; wire = Node n } else r
+    if eqb (get_or truth 0 0) 0 then record { nodes = nodes; wire = Node n } otherwise r
 
 -- output_signal
 unfoldable pub output_signal : Settings → List LutNode → Cone → Signal
@@ -240,8 +240,8 @@ map_outputs s cones done (o ∷ os) =
 -- map_basic: Basic works with P = 2, and M = 2 if M equals P, else 4.
 unfoldable pub used_settings : Settings → Settings
 used_settings s =
-    if is_basic s.policy then record { p = 2; m = if eqb s.m s.p then 2 else 4; t = s.t; norm = s.norm; policy = s.policy; many = s.many }
-    else s
+    if is_basic s.policy then record { p = 2; m = if eqb s.m s.p then 2 otherwise 4; t = s.t; norm = s.norm; policy = s.policy; many = s.many }
+    otherwise s
 
 -- prune
 unfoldable pub pruned : Settings → Outputs → Network
@@ -254,7 +254,7 @@ pruned s done =
 unfoldable pub checked : Settings → Network → Reading Network
 checked s w =
     if is_basic s.policy && not (within_norm s (largest (node_norm w.nodes) w.nodes)) then Refused 8 0
-    else Good w
+    otherwise Good w
 
 -- map_once: the inputs are the first nodes, and each is its own cone.
 unfoldable pub start : Circuit → State
@@ -276,7 +276,7 @@ unfoldable pub answer_with : List ℕ → Reading Network → Outcome
 answer_with buffer (Refused k line) = outcome (refused k line) buffer
 answer_with buffer (Good w) =
     let text = network_text w in
-    if ltb (length buffer) (length text) then outcome (refused 11 0) buffer else outcome (written (length text)) (over text buffer)
+    if ltb (length buffer) (length text) then outcome (refused 11 0) buffer otherwise outcome (written (length text)) (over text buffer)
 
 -- The mapper: a circuit's text, and the answer buffer as it was.
 unfoldable pub mapper : List ℕ → List ℕ → Outcome

@@ -2,7 +2,7 @@
 use Rattle.std.specs.Prelude.{Bool, true, false, ◌&&◌, ◌||◌, List, [], ◌∷◌, ◌++◌, map, ℕ, ◌+◌, ◌*◌, max, eqb, ℤ, pos, negsuc, nat_abs, ◌+ℤ◌, ◌*ℤ◌, length, get_or}
 use Rattle.std.proofs.Math.Option
 use Rattle.std.proofs.Math.Option.{Option, none, some}
-use Rattle.laws.specs.Test.{if◌then◌else◌}
+use Rattle.laws.specs.Test.{if◌then◌otherwise◌}
 use Rattle.rules.specs.declared.Limit.{Limit}
 use Rattle.rules.specs.declared.Stats.{Stats}
 use Rattle.rules.specs.declared.Wire.{Wire}
@@ -105,7 +105,7 @@ table_length (Bootstrap i table) = length table
 -- How many nodes are of a kind.
 unfoldable pub count : (LutNode → Bool) → List LutNode → ℕ
 count f [] = 0
-count f (n ∷ ns) = (if f n then 1 else 0) + count f ns
+count f (n ∷ ns) = (if f n then 1 otherwise 0) + count f ns
 
 -- The largest measure of these, 0 where there is none.
 unfoldable pub largest : {A : Type 0} → (A → ℕ) → List A → ℕ
@@ -126,7 +126,7 @@ member i (j ∷ js) = eqb i j || member i js
 -- How many different numbers there are.
 unfoldable pub different : List ℕ → ℕ
 different [] = 0
-different (i ∷ is) = (if member i is then 0 else 1) + different is
+different (i ∷ is) = (if member i is then 0 otherwise 1) + different is
 
 -- The depth of a node (document 02, S-7), by the depths of those before it: 0 for an input, the largest of its sources for a `lin`, one more than its
 -- source for a `boot`.

@@ -2,7 +2,7 @@
 use Rattle.std.specs.Prelude.{Bool, not, ◌&&◌, ◌||◌, ℕ, ◌+◌, ◌*◌, ◌/◌, ◌%◌, ◌^◌, eqb, ltb, ℤ, pos, nat_abs, ◌+ℤ◌}
 use Rattle.std.specs.Int.Signed.{le_z, lt_z}
 use Rattle.laws.specs.Modulo.{modulo}
-use Rattle.laws.specs.Test.{if◌then◌else◌}
+use Rattle.laws.specs.Test.{if◌then◌otherwise◌}
 use Rattle.rules.specs.declared.SlotReply.{SlotReply}
 use Rattle.rules.specs.declared.SlotReply.TheVariants.{Found, BadPeriod, BadValue}
 
@@ -29,9 +29,9 @@ phase P v e = modulo (pos (v * step P) +ℤ e) (2 ^ 32)
 unfoldable pub nearer : ℕ → ℕ → ℕ → ℕ
 nearer h k past =
     if ltb past h then k
-    else if ltb h past then k + 1
-    else if eqb (k % 2) 0 then k
-    else k + 1
+    otherwise if ltb h past then k + 1
+    otherwise if eqb (k % 2) 0 then k
+    otherwise k + 1
 
 -- The rounding: the nearest of the slots 0 to 2P - 1. Slot k stands at k times the step, and behind slot 2P - 1 comes slot 0.
 unfoldable pub nearest : ℕ → ℕ → ℕ
@@ -57,8 +57,8 @@ turned_away n = record { number = n; line = 0; slot = 0 }
 unfoldable pub slot_answer : ℕ → ℤ → ℤ → SlotAnswer
 slot_answer P v e =
     if not (is_period P) then turned_away 36
-    else if not (is_value P v) then turned_away 37
-    else found (slot P (nat_abs v) e)
+    otherwise if not (is_value P v) then turned_away 37
+    otherwise found (slot P (nat_abs v) e)
 
 -- Document 02's number and value for each reply.
 abbrev pub slot_reply : SlotReply → SlotAnswer

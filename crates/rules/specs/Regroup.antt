@@ -1,7 +1,7 @@
 -- All tables of one node together (document 02, S-11): a network with its tables regrouped and its nodes numbered anew.
 use Rattle.std.specs.Prelude.{Bool, false, ◌&&◌, not, List, [], ◌∷◌, map, ℕ, zero, suc, eqb, length}
 use Rattle.laws.specs.Select.{any}
-use Rattle.laws.specs.Test.{if◌then◌else◌}
+use Rattle.laws.specs.Test.{if◌then◌otherwise◌}
 use Rattle.rules.specs.declared.Wire.{Wire}
 use Rattle.rules.specs.declared.Wire.TheVariants.{Const, Node}
 use Rattle.rules.specs.Circuit.{Output}
@@ -20,7 +20,7 @@ unfoldable pub behind : {A : Type 0} → (A → Bool) → A → List A → List 
 behind f x [] = x ∷ []
 behind f x (y ∷ ys) =
     let r = behind f x ys in
-    if f y && not (any f ys) then y ∷ x ∷ ys else y ∷ r
+    if f y && not (any f ys) then y ∷ x ∷ ys otherwise y ∷ r
 
 -- The numbers of the first k nodes in their new order: each in turn behind the tables of its node, or at the end.
 unfoldable pub order_up_to : List LutNode → ℕ → List ℕ
@@ -33,7 +33,7 @@ order ns = order_up_to ns (length ns)
 -- The place of a number in a list of them.
 unfoldable pub place_in : List ℕ → ℕ → ℕ
 place_in [] j = 0
-place_in (i ∷ is) j = let r = place_in is j in if eqb i j then 0 else suc r
+place_in (i ∷ is) j = let r = place_in is j in if eqb i j then 0 otherwise suc r
 
 -- ---- New numbers.
 

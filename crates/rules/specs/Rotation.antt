@@ -3,7 +3,7 @@ use Rattle.std.specs.Prelude.{◌≡◌, Bool, List, [], ◌∷◌, ◌++◌, �
 use Rattle.std.proofs.Math.Option
 use Rattle.std.proofs.Math.Option.{Option, none, some, map}
 use Rattle.std.specs.Int.Signed.{quot_z}
-use Rattle.laws.specs.Test.{if◌then◌else◌, allb, is_some}
+use Rattle.laws.specs.Test.{if◌then◌otherwise◌, allb, is_some}
 
 -- A polynomial of P coefficients times X^-1, where X^P = -1: the coefficients move down by one, and the first comes back negated.
 unfoldable pub turn : List ℤ → List ℤ
@@ -38,9 +38,9 @@ same_sum P bits i = eqb (pair_sum P bits i) (pair_sum P bits 0)
 unfoldable pub centre : ℕ → List ℕ → Option ℕ
 centre P bits =
     if leb (length bits) P then some 0
-    else if ltb (2 * P) (length bits) then none
-    else if allb (length bits - P) (same_sum P bits) then some (pair_sum P bits 0)
-    else none
+    otherwise if ltb (2 * P) (length bits) then none
+    otherwise if allb (length bits - P) (same_sum P bits) then some (pair_sum P bits 0)
+    otherwise none
 
 -- is_fbs_table_valid
 unfoldable pub rotatable : ℕ → List ℕ → Bool
@@ -60,11 +60,11 @@ coefficient bits c i = pos (2 * get_or bits i 0) -ℤ pos c
 unfoldable pub rotated_by : ℕ → List ℕ → ℕ → ℕ → ℤ
 rotated_by P bits v c =
     if ltb v P then quot_z (pos c +ℤ coefficient bits c v) (pos 2)
-    else quot_z (pos c -ℤ coefficient bits c (v - P)) (pos 2)
+    otherwise quot_z (pos c -ℤ coefficient bits c (v - P)) (pos 2)
 
 -- What a `boot` of these bits is at v. It breaks off (none) for over 2P bits, for v outside 0..L - 1 and where the pairs have no common sum.
 unfoldable pub rotated : ℕ → List ℕ → ℤ → Option ℤ
 rotated P bits (pos v) =
     let r = map (rotated_by P bits v) (centre P bits) in
-    if ltb v (length bits) then r else none
+    if ltb v (length bits) then r otherwise none
 rotated P bits (negsuc v) = none

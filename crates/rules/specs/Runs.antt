@@ -3,7 +3,7 @@
 use Rattle.std.specs.Prelude.{Bool, true, ◌&&◌, not, List, [], ◌∷◌, ℕ, leb, ltb, eqb, ℤ, length}
 use Rattle.std.proofs.Math.Option.{Option, none, some}
 use Rattle.laws.specs.Over.{over}
-use Rattle.laws.specs.Test.{if◌then◌else◌}
+use Rattle.laws.specs.Test.{if◌then◌otherwise◌}
 use Rattle.rules.specs.declared.RunReply.{RunReply}
 use Rattle.rules.specs.declared.RunReply.TheVariants.{Ran, Unreadable, BadBits, ShortBuffer, BrokenOff}
 use Rattle.rules.specs.Circuit.{Circuit, circuit_run}
@@ -45,8 +45,8 @@ with_values (some values) buffer = ran (Numbered (written (length values))) (ove
 unfoldable pub run_on : {A : Type 0} → ℕ → ℕ → List ℕ → List A → Option (List A) → RunOutcome A
 run_on n k bits buffer values =
     if not (bits_for n bits) then ran NotBits buffer
-    else if ltb (length buffer) k then ran NoRoom buffer
-    else with_values values buffer
+    otherwise if ltb (length buffer) k then ran NoRoom buffer
+    otherwise with_values values buffer
 
 unfoldable pub run_circuit_on : Reading Circuit → List ℕ → List ℕ → RunOutcome ℕ
 run_circuit_on (Refused k i) bits buffer = ran (Numbered (refused k i)) buffer

@@ -3,7 +3,7 @@
 use Rattle.std.specs.Prelude.{Bool, true, false, ◌&&◌, ◌||◌, List, [], ◌∷◌, map, ℕ, zero, suc, max, eqb, ℤ, pos, negsuc, neg_ℤ, nat_abs}
 use Rattle.std.specs.Int.Signed.{lt_z, quot_z}
 use Rattle.laws.specs.Gcd.{gcd}
-use Rattle.laws.specs.Test.{if◌then◌else◌}
+use Rattle.laws.specs.Test.{if◌then◌otherwise◌}
 
 -- The gcd of g and all of the coefficients.
 unfoldable pub gcd_from : ℕ → List ℤ → ℕ
@@ -19,7 +19,7 @@ starts_negative (negsuc k ∷ cs) = true
 
 -- coefficient_normalization_divisor: the gcd, at least 1, with the sign of the first one not 0.
 unfoldable pub divisor : List ℤ → ℤ
-divisor cs = let d = pos (max (gcd_from 0 cs) 1) in if starts_negative cs then neg_ℤ d else d
+divisor cs = let d = pos (max (gcd_from 0 cs) 1) in if starts_negative cs then neg_ℤ d otherwise d
 
 -- Each value divided by d, toward 0.
 unfoldable pub quotients : ℤ → List ℤ → List ℤ

@@ -1,6 +1,6 @@
 -- The service program (document 01, "Service program"; docs/DECISIONS.md, 22 to 24): the whole output for a whole input.
 use Rattle.std.specs.Prelude.{Bool, List, [], ◌∷◌, ◌++◌, ℕ, leb, eqb, length, take, replicate}
-use Rattle.laws.specs.Test.{if◌then◌else◌}
+use Rattle.laws.specs.Test.{if◌then◌otherwise◌}
 use Rattle.rules.specs.CircuitText.{same_name}
 use Rattle.rules.specs.Form.{bytes, lines}
 use Rattle.rules.specs.Mapper.{mapper}
@@ -20,7 +20,7 @@ refusal_text number line = bytes "(no " ++ digits number ++ bytes " " ++ digits 
 
 -- An answer is a network or `(no NUMBER LINE)`.
 unfoldable pub answer_text : Outcome → List ℕ
-answer_text o = if eqb o.answer.number 0 then take o.answer.count o.buffer else refusal_text o.answer.number o.answer.line
+answer_text o = if eqb o.answer.number 0 then take o.answer.count o.buffer otherwise refusal_text o.answer.number o.answer.line
 
 -- The mapper's answer to a job. The answer buffer has 65,536 bytes; what they were does not matter (crates/mapped, service-answer).
 unfoldable pub mapper_answer : List ℕ → List ℕ
@@ -35,12 +35,12 @@ last_answer (b ∷ job) = refusal_text 1 0 ++ end_line
 module _ (answer : List ℕ → List ℕ) where
   -- A job over 32,768 bytes, its `(end)` line not counted, gets `(no 3 0)`. Then comes `(end)`.
   unfoldable pub reply : List ℕ → List ℕ
-  reply job = (if leb (length job) 32768 then answer job else refusal_text 3 0) ++ end_line
+  reply job = (if leb (length job) 32768 then answer job otherwise refusal_text 3 0) ++ end_line
 
   -- The output for these lines, where `job` came before them. The mapper gets a job without its `(end)`, and the next starts after it.
   unfoldable pub served : List ℕ → List (List ℕ) → List ℕ
   served job [] = last_answer job
-  served job (l ∷ ls) = if is_end l then reply job ++ served [] ls else served (job ++ l) ls
+  served job (l ∷ ls) = if is_end l then reply job ++ served [] ls otherwise served (job ++ l) ls
 
   unfoldable pub service_with : List ℕ → List ℕ
   service_with s = served [] (lines s)

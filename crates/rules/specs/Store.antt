@@ -3,7 +3,7 @@ use Rattle.std.specs.Prelude.{Bool, true, false, ◌&&◌, not, List, [], ◌∷
 use Rattle.std.proofs.Math.Option.{Option, none, some}
 use Rattle.laws.specs.Integer.{eq_z}
 use Rattle.laws.specs.Select.{select, any, all}
-use Rattle.laws.specs.Test.{if◌then◌else◌}
+use Rattle.laws.specs.Test.{if◌then◌otherwise◌}
 use Rattle.rules.specs.declared.Settings.{Settings}
 use Rattle.rules.specs.declared.Wire.{Wire}
 use Rattle.rules.specs.declared.Wire.TheVariants.{Const, Node}
@@ -37,11 +37,11 @@ same_node (Bootstrap i t) (Bootstrap j u) = eqb i j && same_name t u
 -- cache.get: the number of the first node equal to n; as many as there are nodes where none is.
 unfoldable pub number_of : LutNode → List LutNode → ℕ
 number_of n [] = 0
-number_of n (m ∷ ms) = let r = suc (number_of n ms) in if same_node n m then 0 else r
+number_of n (m ∷ ms) = let r = suc (number_of n ms) in if same_node n m then 0 otherwise r
 
 -- intern: n is among the nodes, or is appended.
 unfoldable pub intern : LutNode → List LutNode → List LutNode
-intern n nodes = if ltb (number_of n nodes) (length nodes) then nodes else nodes ++ (n ∷ [])
+intern n nodes = if ltb (number_of n nodes) (length nodes) then nodes otherwise nodes ++ (n ∷ [])
 
 -- ---- Sums.
 
@@ -51,7 +51,7 @@ is_used t = not (eqb (nat_abs t.coef) 0)
 -- One more among terms that are sorted by node.
 unfoldable pub insert : Term → List Term → List Term
 insert t [] = t ∷ []
-insert t (u ∷ us) = let r = insert t us in if leb t.node u.node then t ∷ u ∷ us else u ∷ r
+insert t (u ∷ us) = let r = insert t us in if leb t.node u.node then t ∷ u ∷ us otherwise u ∷ r
 
 unfoldable pub sorted : List Term → List Term
 sorted [] = []
@@ -59,7 +59,7 @@ sorted (t ∷ ts) = insert t (sorted ts)
 
 -- linear: with many tables a sum, terms that are not 0, sorted by node; otherwise as the support has them.
 unfoldable pub linear_terms : Bool → List Term → List Term
-linear_terms many ts = if many then sorted (select is_used ts) else ts
+linear_terms many ts = if many then sorted (select is_used ts) otherwise ts
 
 -- The node that a cone is bootstrapped from: its values less the least one.
 unfoldable pub linear_of : Settings → Cone → LutNode
@@ -68,7 +68,7 @@ linear_of s c = Linear (neg_ℤ (least (values c))) (linear_terms s.many (terms 
 -- coefficient_pair: the coefficient of a node, 0 where it is not among the terms.
 unfoldable pub coefficient_of : List Term → ℕ → ℤ
 coefficient_of [] n = pos 0
-coefficient_of (t ∷ ts) n = let r = coefficient_of ts n in if eqb t.node n then t.coef else r
+coefficient_of (t ∷ ts) n = let r = coefficient_of ts n in if eqb t.node n then t.coef otherwise r
 
 -- ---- What is bootstrapped already.
 
@@ -109,7 +109,7 @@ unfoldable pub realigned : Settings → List LutNode → Cone → Cone
 realigned s nodes c =
     let forms = select (fits s nodes) (map (with_form c) (bootstrap_forms nodes c.support)) in
     let r = cone_or c (best (map (ranked nodes) forms)) in
-    if s.many then r else c
+    if s.many then r otherwise c
 
 -- ---- Bootstrapping.
 
@@ -132,7 +132,7 @@ unfoldable pub bootstrap_cone : Settings → List LutNode → Cone → Stored
 bootstrap_cone s nodes c =
     let d = realigned s nodes c in
     let r = bootstrapped s nodes d (bootstrap_table s.p d) in
-    if leb (length c.support) 1 then record { nodes = nodes; cone = c } else r
+    if leb (length c.support) 1 then record { nodes = nodes; cone = c } otherwise r
 
 -- ---- prune: what the outputs need is kept, in order, and renumbered.
 
@@ -152,7 +152,7 @@ output_needs (o ∷ os) = wire_needs o.wire ++ output_needs os
 -- Node i - 1, if it is wanted, wants what it needs; then those before it.
 unfoldable pub wanted_below : ℕ → List LutNode → List ℕ → List ℕ
 wanted_below zero nodes wanted = wanted
-wanted_below (suc i) nodes wanted = wanted_below i nodes (if member i wanted then needs (node_at nodes i) ++ wanted else wanted)
+wanted_below (suc i) nodes wanted = wanted_below i nodes (if member i wanted then needs (node_at nodes i) ++ wanted otherwise wanted)
 
 unfoldable pub live : List LutNode → List Output → List ℕ
 live nodes outputs = wanted_below (length nodes) nodes (output_needs outputs)
@@ -160,7 +160,7 @@ live nodes outputs = wanted_below (length nodes) nodes (output_needs outputs)
 -- The new number of node i: how many of those before it are kept.
 unfoldable pub renumbered : List ℕ → ℕ → ℕ
 renumbered kept zero = 0
-renumbered kept (suc i) = (if member i kept then 1 else 0) + renumbered kept i
+renumbered kept (suc i) = (if member i kept then 1 otherwise 0) + renumbered kept i
 
 unfoldable pub renumbered_term : List ℕ → Term → Term
 renumbered_term kept t = record { coef = t.coef; node = renumbered kept t.node }
@@ -180,4 +180,4 @@ renumbered_output kept o = record { name = o.name; wire = renumbered_wire kept o
 -- The kept ones of the nodes from number i on.
 unfoldable pub kept_from : List ℕ → ℕ → List LutNode → List LutNode
 kept_from kept i [] = []
-kept_from kept i (n ∷ ns) = let r = kept_from kept (i + 1) ns in if member i kept then renumbered_node kept n ∷ r else r
+kept_from kept i (n ∷ ns) = let r = kept_from kept (i + 1) ns in if member i kept then renumbered_node kept n ∷ r otherwise r

@@ -1,6 +1,6 @@
 -- How a network is written (document 01, "The text forms").
 use Rattle.std.specs.Prelude.{List, [], ◌∷◌, ◌++◌, ℕ, zero, suc, ◌+◌, ◌/◌, ◌%◌, ltb, eqb, ℤ, pos, negsuc}
-use Rattle.laws.specs.Test.{if◌then◌else◌}
+use Rattle.laws.specs.Test.{if◌then◌otherwise◌}
 use Rattle.rules.specs.declared.Limit.{Limit}
 use Rattle.rules.specs.declared.Limit.TheVariants.{Unlimited, AtMost}
 use Rattle.rules.specs.declared.Wire.{Wire}
@@ -14,7 +14,7 @@ unfoldable pub digits_within : ℕ → ℕ → List ℕ
 digits_within zero n = (48 + n) ∷ []
 digits_within (suc k) n =
     let r = digits_within k (n / 10) ++ ((48 + n % 10) ∷ []) in
-    if ltb n 10 then (48 + n) ∷ [] else r
+    if ltb n 10 then (48 + n) ∷ [] otherwise r
 
 unfoldable pub digits : ℕ → List ℕ
 digits n = digits_within n n
@@ -42,7 +42,7 @@ terms_text (t ∷ ts) = bytes " (" ++ signed_text t.coef ++ bytes " " ++ digits 
 
 -- A weight of 1 is not written.
 unfoldable pub weight_text : ℕ → List ℕ
-weight_text w = let r = bytes " " ++ digits w in if eqb w 1 then [] else r
+weight_text w = let r = bytes " " ++ digits w in if eqb w 1 then [] otherwise r
 
 unfoldable pub node_text : LutNode → List ℕ
 node_text (Input n) = bytes "(in " ++ n.name ++ weight_text n.weight ++ bytes ")\n"

@@ -7,7 +7,7 @@ use Rattle.std.proofs.Math.Nat.{dvd-mul_left, div-mul_cancel, dvd_of_mul-dvd-mul
 use Rattle.std.proofs.Math.IntN.{zero-*ℤ}
 use Rattle.laws.specs.Gcd.{gcd, gcd_is, gcd_zero}
 use Rattle.laws.specs.Integer.{eq_of, plus_mul, minus_mul, abs_mul}
-use Rattle.laws.specs.Test.{if◌then◌else◌, eq-or-ne, positive_of}
+use Rattle.laws.specs.Test.{if◌then◌otherwise◌, eq-or-ne, positive_of}
 use Rattle.rules.specs.Scale.{gcd_from, starts_negative, divisor, quotients, normalised}
 use Rattle.theorems.specs.Normalised.{divides_all}
 use Rattle.scale.specs.Divisor.{divisor_not_zero}
@@ -67,13 +67,13 @@ one_less : (g : ℕ) → max (suc g) 1 ≡ suc g
 one_less g = omega arith
 
 divisor_up : (m : ℕ) (b : Bool) (g x : ℕ) → 0 < g → x ≡ g * suc m
-    → (if b then neg_ℤ (pos (max x 1)) else pos (max x 1)) ≡ (if b then neg_ℤ (pos (max g 1)) else pos (max g 1)) *ℤ pos (suc m)
+    → (if b then neg_ℤ (pos (max x 1)) otherwise pos (max x 1)) ≡ (if b then neg_ℤ (pos (max g 1)) otherwise pos (max g 1)) *ℤ pos (suc m)
 divisor_up m b zero x h e = absurd (omega arith)
 divisor_up m true (suc g) x h e = ap (λ n. neg_ℤ (pos n)) (largest-one g m x e) ∙ sym (ap (λ n. neg_ℤ (pos n) *ℤ pos (suc m)) (one_less g))
 divisor_up m false (suc g) x h e = ap pos (largest-one g m x e) ∙ sym (ap (λ n. pos n *ℤ pos (suc m)) (one_less g))
 
 divisor_down : (m : ℕ) (b : Bool) (g x : ℕ) → 0 < g → x ≡ g * suc m
-    → (if not b then neg_ℤ (pos (max x 1)) else pos (max x 1)) ≡ (if b then neg_ℤ (pos (max g 1)) else pos (max g 1)) *ℤ negsuc m
+    → (if not b then neg_ℤ (pos (max x 1)) otherwise pos (max x 1)) ≡ (if b then neg_ℤ (pos (max g 1)) otherwise pos (max g 1)) *ℤ negsuc m
 divisor_down m b zero x h e = absurd (omega arith)
 divisor_down m true (suc g) x h e = ap pos (largest-one g m x e) ∙ sym (ap (λ n. neg_ℤ (pos n) *ℤ negsuc m) (one_less g))
 divisor_down m false (suc g) x h e = ap (λ n. neg_ℤ (pos n)) (largest-one g m x e) ∙ sym (ap (λ n. pos n *ℤ negsuc m) (one_less g))
@@ -85,10 +85,10 @@ divisor-times : (k : ℤ) (cs : List ℤ) → 0 < nat_abs k → 0 < gcd_from 0 c
 unfolding divisor
 divisor-times (pos zero) cs h g = absurd (omega arith)
 divisor-times (pos (suc m)) cs h g =
-    ap (λ b. if b then neg_ℤ (pos (max (gcd_from 0 (times (pos (suc m)) cs)) 1)) else pos (max (gcd_from 0 (times (pos (suc m)) cs)) 1)) (sign_up m cs)
+    ap (λ b. if b then neg_ℤ (pos (max (gcd_from 0 (times (pos (suc m)) cs)) 1)) otherwise pos (max (gcd_from 0 (times (pos (suc m)) cs)) 1)) (sign_up m cs)
     ∙ divisor_up m (starts_negative cs) (gcd_from 0 cs) (gcd_from 0 (times (pos (suc m)) cs)) g (gcd_of (pos (suc m)) cs h)
 divisor-times (negsuc m) cs h g =
-    ap (λ b. if b then neg_ℤ (pos (max (gcd_from 0 (times (negsuc m) cs)) 1)) else pos (max (gcd_from 0 (times (negsuc m) cs)) 1)) (sign_down m cs g)
+    ap (λ b. if b then neg_ℤ (pos (max (gcd_from 0 (times (negsuc m) cs)) 1)) otherwise pos (max (gcd_from 0 (times (negsuc m) cs)) 1)) (sign_down m cs g)
     ∙ divisor_down m (starts_negative cs) (gcd_from 0 cs) (gcd_from 0 (times (negsuc m) cs)) g (gcd_of (negsuc m) cs h)
 
 -- ---- the quotients

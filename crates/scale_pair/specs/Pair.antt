@@ -10,7 +10,7 @@ use Rattle.std.proofs.Math.ListN.{length, get_or, get_or-eq_default}
 use Rattle.std.specs.Int.Signed.{quot_z}
 use Rattle.laws.specs.Integer.{plus, minus, abs_parts, abs_add, abs_mul_le, abs_quot, sub_parts, one_part_zero}
 use Rattle.laws.specs.Front.{taken_step, taken-all}
-use Rattle.laws.specs.Test.{if◌then◌else◌, lt_or_le}
+use Rattle.laws.specs.Test.{if◌then◌otherwise◌, lt_or_le}
 use Rattle.rules.specs.declared.Settings.{Settings}
 use Rattle.rules.specs.Cone.{linear_table, within_norm}
 use Rattle.rules.specs.Scale.{divisor, quotients, normalised, is_scale_pair}
@@ -65,7 +65,7 @@ unfoldable pub no_pair : Pair
 no_pair = record { ok = false; a = pos 0; b = pos 0; divisor = pos 1; low = pos 0; span = 0; norm = 0 }
 
 unfoldable pub pair_of : Settings → List ℕ → List ℤ → List ℤ → ℤ → ℤ → Pair
-pair_of s ws left right a b = if is_scale_pair a b then measured s ws a b (merged_row a b left right) else no_pair
+pair_of s ws left right a b = if is_scale_pair a b then measured s ws a b (merged_row a b left right) otherwise no_pair
 
 -- Where a row's value stands in the table.
 unfoldable pub level_of : Pair → ℤ → ℤ → ℕ

@@ -5,7 +5,7 @@ use Rattle.std.proofs.Math.Logic.{⊎_elim}
 use Rattle.std.specs.Int.Signed.{lt_z, mag}
 use Rattle.std.specs.Int.{w64}
 use Rattle.laws.specs.Integer.{ints, false_lt_z, read_back}
-use Rattle.laws.specs.Test.{if◌then◌else◌, decide}
+use Rattle.laws.specs.Test.{if◌then◌otherwise◌, decide}
 use Rattle.rules.specs.Cone.{less}
 use Rattle.scale_pair.specs.declared.score.Score.{Score}
 
@@ -17,7 +17,7 @@ unfoldable pub no_score : Score
 no_score = record { found = false; reuse = 1; span = 0; norm = 0; energy = pos 0; a = pos 0; b = pos 0; known = replicate 32 2 }
 
 unfoldable pub better_score : Score → Score → Score
-better_score best s = if best.found then (if less (score_list s) (score_list best) then s else best) else s
+better_score best s = if best.found then (if less (score_list s) (score_list best) then s otherwise best) otherwise s
 
 -- ---- laws of the comparison: the first numbers are equal, or decide
 module _ (x y : ℤ) (xs ys : List ℤ) where
@@ -45,7 +45,7 @@ pub less-last : (x y : ℤ) → mag x < 2 ^ 63 → mag y < 2 ^ 63 → lt_z (to_z
 unfolding less
 less-last x y h k = ap₂ lt_z (read_back x h) (read_back y k) ∙ by (lt_z x y) (lt_z y x)
   where
-    by : (t u : Bool) → t ≡ (if t then true else if u then false else false)
+    by : (t u : Bool) → t ≡ (if t then true otherwise if u then false otherwise false)
     by true u = refl
     by false true = refl
     by false false = refl

@@ -5,7 +5,7 @@ use Rattle.std.proofs.Math.Path.{ap, subst}
 use Rattle.std.proofs.Math.Bool.{true, false}
 use Rattle.std.proofs.Math.Logic.{⊎_elim}
 use Rattle.std.proofs.Math.Option.{Option, none, some}
-use Rattle.laws.specs.Test.{if◌then◌else◌, decide, if_both}
+use Rattle.laws.specs.Test.{if◌then◌otherwise◌, decide, if_both}
 use Rattle.rules.specs.declared.Settings.{Settings}
 use Rattle.rules.specs.Builder.{known_entries}
 use Rattle.rules.specs.Cone.{Cone, Candidate, values, cone_span, less, better}
@@ -22,7 +22,7 @@ merged_cone support left right truth a b = cone_by support (merged_coefficients 
 unfoldable pub candidate_of : List ℕ → Cone → Cone → List ℕ → Score → Option Candidate
 candidate_of support left right truth r =
     let d : Candidate = record { score = score_list r; cone = merged_cone support left right truth r.a r.b } in
-    if r.found then some d else none
+    if r.found then some d otherwise none
 
 -- What is known of a score that was found: its entries are those of its cone, and the table is no longer than allowed.
 pub record Found (s : Settings) (support : List ℕ) (left right : Cone) (truth : List ℕ) (r : Score) : Type 0 where
@@ -41,11 +41,11 @@ module _ (support : List ℕ) (left right : Cone) (truth : List ℕ) where
 
   candidate_yes : (r : Score) → r.found ≡ true → candidate_of support left right truth r ≡ some (one r)
   unfolding candidate_of
-  candidate_yes r e = ap (λ t. if t then some (one r) else none) e
+  candidate_yes r e = ap (λ t. if t then some (one r) otherwise none) e
 
   candidate_no : (r : Score) → r.found ≡ false → candidate_of support left right truth r ≡ none
   unfolding candidate_of
-  candidate_no r e = ap (λ t. if t then some (one r) else none) e
+  candidate_no r e = ap (λ t. if t then some (one r) otherwise none) e
 
   pub better_candidate : (best r : Score) → r.found ≡ true
       → candidate_of support left right truth (better_score best r) ≡ some (better (candidate_of support left right truth best) (one r))
@@ -53,17 +53,17 @@ module _ (support : List ℕ) (left right : Cone) (truth : List ℕ) where
   better_candidate best r f =
       ⊎_elim
       (λ (e : best.found ≡ true).
-      ap (λ t. candidate_of support left right truth (if t then (if less (score_list r) (score_list best) then r else best) else r)) e
+      ap (λ t. candidate_of support left right truth (if t then (if less (score_list r) (score_list best) then r otherwise best) otherwise r)) e
       ∙ by (less (score_list r) (score_list best)) (candidate_yes best e)
       ∙ ap (λ o. some (better o (one r))) (sym (candidate_yes best e)))
       (λ (e : best.found ≡ false).
-      ap (λ t. candidate_of support left right truth (if t then (if less (score_list r) (score_list best) then r else best) else r)) e
+      ap (λ t. candidate_of support left right truth (if t then (if less (score_list r) (score_list best) then r otherwise best) otherwise r)) e
       ∙ candidate_yes r f
       ∙ ap (λ o. some (better o (one r))) (sym (candidate_no best e)))
       (decide best.found)
     where
       by : (t : Bool) → candidate_of support left right truth best ≡ some (one best)
-          → candidate_of support left right truth (if t then r else best) ≡ some (if t then one r else one best)
+          → candidate_of support left right truth (if t then r otherwise best) ≡ some (if t then one r otherwise one best)
       by true e = candidate_yes r f
       by false e = e
 
@@ -72,6 +72,6 @@ module _ (support : List ℕ) (left right : Cone) (truth : List ℕ) where
   unfolding better_score
   found_better s best r old new =
       ⊎_elim
-      (λ (e : best.found ≡ true). λ f. subst (Found s support left right truth) (sym (ap (λ t. if t then (if less (score_list r) (score_list best) then r else best) else r) e)) (if_both (Found s support left right truth) (less (score_list r) (score_list best)) new (old e)))
-      (λ (e : best.found ≡ false). λ f. subst (Found s support left right truth) (sym (ap (λ t. if t then (if less (score_list r) (score_list best) then r else best) else r) e)) new)
+      (λ (e : best.found ≡ true). λ f. subst (Found s support left right truth) (sym (ap (λ t. if t then (if less (score_list r) (score_list best) then r otherwise best) otherwise r) e)) (if_both (Found s support left right truth) (less (score_list r) (score_list best)) new (old e)))
+      (λ (e : best.found ≡ false). λ f. subst (Found s support left right truth) (sym (ap (λ t. if t then (if less (score_list r) (score_list best) then r otherwise best) otherwise r) e)) new)
       (decide best.found)

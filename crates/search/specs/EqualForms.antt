@@ -14,7 +14,7 @@ use Rattle.std.proofs.Math.Seq.{drop-cons}
 use Rattle.std.specs.Int.Signed.{lt_z}
 use Rattle.laws.specs.Gcd.{gcd, gcd_within}
 use Rattle.laws.specs.Integer.{ints, plus, minus, sub_parts, abs_parts, one_part_zero, false_lt_z}
-use Rattle.laws.specs.Test.{if◌then◌else◌, eq-or-ne, decide, both_left, both_right, positive_of}
+use Rattle.laws.specs.Test.{if◌then◌otherwise◌, eq-or-ne, decide, both_left, both_right, positive_of}
 use Rattle.rules.specs.declared.Settings.{Settings}
 use Rattle.rules.specs.Cone.{Cone, Candidate, linear_table, values, fits, less, better, best_from, best, terms}
 use Rattle.rules.specs.Composition.{Scales, scales, all_equal, scale_pairs, merged_coefficients, score, evaluate}
@@ -85,7 +85,7 @@ unfolding is_scale_pair less
 not-before zero (pos zero) e = absurd (false≢true e)
 not-before zero (pos (suc n)) e = by (ltb (suc n) 1) (ltb 1 (suc n)) (le-ltb (suc n) 1 (omega arith))
   where
-    by : (t u : Bool) → t ≡ false → (if t then true else if u then false else false) ≡ false
+    by : (t u : Bool) → t ≡ false → (if t then true otherwise if u then false otherwise false) ≡ false
     by true u f = f
     by false true f = refl
     by false false f = refl
@@ -112,9 +112,9 @@ unfolding plus minus
 one_above v o e = omega (arith, ints, sub_parts (pos v) (pos o))
 
 keeps_first : (t : Bool) (x y : Candidate) → less y.score x.score ≡ false
-    → best_from (best_from none (if t then x ∷ [] else [])) (if t then y ∷ [] else []) ≡ best_from none (if t then x ∷ [] else [])
+    → best_from (best_from none (if t then x ∷ [] otherwise [])) (if t then y ∷ [] otherwise []) ≡ best_from none (if t then x ∷ [] otherwise [])
 unfolding best_from better
-keeps_first true x y e = ap (λ t. some (if t then y else x)) e
+keeps_first true x y e = ap (λ t. some (if t then y otherwise x)) e
 keeps_first false x y e = refl
 
 zero_abs : (z : ℤ) → nat_abs z ≡ 0 → z ≡ pos 0
@@ -145,7 +145,7 @@ module _ (s : Settings) (nodes : List LutNode) (U : List ℕ) (left right : Cone
 
   evaluate-no : (p : Scales) (c : Cone) → fits s nodes c ≡ false → evaluate s nodes p c ≡ []
   unfolding evaluate
-  evaluate-no p c e = ap {B = List Candidate} (λ t. if t then record { score = score s nodes p c; cone = c } ∷ [] else []) e
+  evaluate-no p c e = ap {B = List Candidate} (λ t. if t then record { score = score s nodes p c; cone = c } ∷ [] otherwise []) e
 
   none_of : (p : Scales) → nat_abs (p.a +ℤ p.b) ≡ 0 → E p ≡ []
   none_of p e =
@@ -163,7 +163,7 @@ module _ (s : Settings) (nodes : List LutNode) (U : List ℕ) (left right : Cone
 
   found_is : found ≡ best_from none (evaluate s nodes first common)
   unfolding tried scales
-  found_is = ap (λ t. if t then best_from none (E first) else none) first_pair ∙ ap (best_from none) (common_of first (omega arith))
+  found_is = ap (λ t. if t then best_from none (E first) otherwise none) first_pair ∙ ap (best_from none) (common_of first (omega arith))
 
   not-less : (u : ℕ) (b : ℤ) → is_scale_pair (pos u) b ≡ true → less (score s nodes (scales (pos u) b) common) (score s nodes first common) ≡ false
   unfolding score scales
@@ -181,13 +181,13 @@ module _ (s : Settings) (nodes : List LutNode) (U : List ℕ) (left right : Cone
   tried_keeps u b =
       ⊎_elim
       (λ (e : is_scale_pair (scales (pos u) b).a (scales (pos u) b).b ≡ true).
-      ap (λ t. if t then best_from found (E (scales (pos u) b)) else found) e
+      ap (λ t. if t then best_from found (E (scales (pos u) b)) otherwise found) e
       ∙ ⊎_elim
       (λ (z : nat_abs ((scales (pos u) b).a +ℤ (scales (pos u) b).b) ≡ 0). ap (best_from found) (none_of (scales (pos u) b) z) ∙ nothing found)
       (λ (z : nat_abs ((scales (pos u) b).a +ℤ (scales (pos u) b).b) ≡ 0 → ⊥).
       ap (best_from found) (common_of (scales (pos u) b) (positive_of (nat_abs ((scales (pos u) b).a +ℤ (scales (pos u) b).b)) z)) ∙ kept_common u b (unfold scales in e))
       (eq-or-ne (nat_abs ((scales (pos u) b).a +ℤ (scales (pos u) b).b)) 0))
-      (λ (e : is_scale_pair (scales (pos u) b).a (scales (pos u) b).b ≡ false). ap (λ t. if t then best_from found (E (scales (pos u) b)) else found) e)
+      (λ (e : is_scale_pair (scales (pos u) b).a (scales (pos u) b).b ≡ false). ap (λ t. if t then best_from found (E (scales (pos u) b)) otherwise found) e)
       (decide (is_scale_pair (scales (pos u) b).a (scales (pos u) b).b))
     where
       nothing : (d : Option Candidate) → best_from d [] ≡ d
@@ -207,7 +207,7 @@ module _ (s : Settings) (nodes : List LutNode) (U : List ℕ) (left right : Cone
   before : (o v : ℕ) → v ≤ o → tried_at E o 0 v none ≡ none
   unfolding tried_at tried scales
   before o v h =
-      ap (λ t. if t then best_from none (E (scales (pos 0) (pos v -ℤ pos o))) else none)
+      ap (λ t. if t then best_from none (E (scales (pos 0) (pos v -ℤ pos o))) otherwise none)
       (not_pair (pos v -ℤ pos o) (below-zero v o h))
 
   at_one : (o v : ℕ) → v ≡ o + 1 → tried_at E o 0 v none ≡ found

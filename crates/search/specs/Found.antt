@@ -10,7 +10,7 @@ use Rattle.std.proofs.Math.IntN.{pos}
 use Rattle.std.specs.Int.Signed.{quot_z}
 use Rattle.std.proofs.lemmas.List.{length-replicate, replicate-append-replicate, set-append_left}
 use Rattle.std.proofs.Math.ListN.{get_or-append}
-use Rattle.laws.specs.Test.{if◌then◌else◌, is_some, decide, both_left}
+use Rattle.laws.specs.Test.{if◌then◌otherwise◌, is_some, decide, both_left}
 use Rattle.rules.specs.declared.Settings.{Settings}
 use Rattle.rules.specs.Builder.{agrees, enter, known_entries, completable}
 use Rattle.rules.specs.Cone.{Cone, Candidate, linear_table, values, cone_span, norm2, energy, completed, encoding, is_lut_valid, within_norm, fits, better, best_from, best, terms}
@@ -192,27 +192,27 @@ module _ (s : Settings) (nodes : List LutNode) (support : List ℕ) (left right 
         }
 
     -- the definition's step
-    evaluated_is : evaluated (scales a b) ≡ (if fits s nodes C then evaluated_one ∷ [] else [])
+    evaluated_is : evaluated (scales a b) ≡ (if fits s nodes C then evaluated_one ∷ [] otherwise [])
     unfolding evaluate
     evaluated_is = ap (λ l. evaluate s nodes (scales a b) (cone_by support l truth)) coefficients
 
     tried-no : (d : Option Candidate) → fits s nodes C ≡ false → tried evaluated d (scales a b) ≡ d
     unfolding tried best_from scales
-    tried-no d e = by (is_scale_pair a b) (evaluated_is ∙ ap (λ t. if t then evaluated_one ∷ [] else []) e)
+    tried-no d e = by (is_scale_pair a b) (evaluated_is ∙ ap (λ t. if t then evaluated_one ∷ [] otherwise []) e)
       where
-        by : (t : Bool) → evaluated (scales a b) ≡ [] → (if t then best_from d (evaluated (scales a b)) else d) ≡ d
+        by : (t : Bool) → evaluated (scales a b) ≡ [] → (if t then best_from d (evaluated (scales a b)) otherwise d) ≡ d
         by true f = ap (best_from d) f
         by false f = refl
 
     tried_yes : (d : Option Candidate) → is_scale_pair a b ≡ true → fits s nodes C ≡ true → tried evaluated d (scales a b) ≡ some (better d evaluated_one)
     unfolding tried best_from scales
     tried_yes d t e =
-        ap (λ t. if t then best_from d (evaluated (scales a b)) else d) t
-        ∙ ap (best_from d) (evaluated_is ∙ ap (λ t. if t then evaluated_one ∷ [] else []) e)
+        ap (λ t. if t then best_from d (evaluated (scales a b)) otherwise d) t
+        ∙ ap (best_from d) (evaluated_is ∙ ap (λ t. if t then evaluated_one ∷ [] otherwise []) e)
 
     tried_not : (d : Option Candidate) → is_scale_pair a b ≡ false → tried evaluated d (scales a b) ≡ d
     unfolding tried scales
-    tried_not d t = ap (λ t. if t then best_from d (evaluated (scales a b)) else d) t
+    tried_not d t = ap (λ t. if t then best_from d (evaluated (scales a b)) otherwise d) t
 
     fits_is : fits s nodes C ≡ (within_norm s (weighted_norm ws cs) && (leb (span all) s.m && is_some (completed s.p (known_entries all truth))))
     unfolding fits is_lut_valid encoding cone_span values cone_by
@@ -243,17 +243,17 @@ module _ (s : Settings) (nodes : List LutNode) (support : List ℕ) (left right 
           let long = k ++ rest (least all) all truth (span all) few inside in
           let new = score_of known_by c long in
           let first = known-first few k e in
-          let tested : considered known_by c best (entered_from c xs ys ts 0 (replicate 32 2)) ≡ (if completable s.p k then better_score best new else best) =
+          let tested : considered known_by c best (entered_from c xs ys ts 0 (replicate 32 2)) ≡ (if completable s.p k then better_score best new otherwise best) =
           ap (considered known_by c best) (known_is few ∙ ap (map (λ k. k ++ rest (least all) all truth (span all) few inside)) e)
-          ∙ ap (λ l. if completable s.p l then better_score best new else best) first in
+          ∙ ap (λ l. if completable s.p l then better_score best new otherwise best) first in
           ⊎_elim
           (λ (f : completable s.p k ≡ true).
           let fit = fits_by ∙ ap (λ o. is_some (completed s.p o)) e ∙ f in
-          let step = tested ∙ ap (λ t. if t then better_score best new else best) f in
+          let step = tested ∙ ap (λ t. if t then better_score best new otherwise best) f in
           let one-step = better_candidate support left right truth best new refl ∙ ap₂ (λ o x. some (better o x)) same.0 (one_is long) ∙ sym (tried_yes d is-pair fit) in
           subst (λ r. Same r (tried evaluated d (scales a b))) (sym step) (one-step, found_better support left right truth s best new same.1 (found_new long short (e ∙ ap some (sym first)))))
           (λ (f : completable s.p k ≡ false).
-          stay best _ d _ (tested ∙ ap (λ t. if t then better_score best new else best) f) (tried-no d (fits_by ∙ ap (λ o. is_some (completed s.p o)) e ∙ f)) same)
+          stay best _ d _ (tested ∙ ap (λ t. if t then better_score best new otherwise best) f) (tried-no d (fits_by ∙ ap (λ o. is_some (completed s.p o)) e ∙ f)) same)
           (decide (completable s.p k))
 
     module _ (best : Score) (d : Option Candidate) (same : Same best d) where
@@ -265,9 +265,9 @@ module _ (s : Settings) (nodes : List LutNode) (support : List ℕ) (left right 
       measured_step t =
           ⊎_elim
           (λ (e : (leb (span all) s.m && within_norm s (weighted_norm ws cs)) ≡ true).
-          subst (λ r. Same r (tried evaluated d (scales a b))) (sym (ap (λ t. if t then entered else best) e)) (entered_step best d same t e (known_entries all truth) refl))
+          subst (λ r. Same r (tried evaluated d (scales a b))) (sym (ap (λ t. if t then entered otherwise best) e)) (entered_step best d same t e (known_entries all truth) refl))
           (λ (e : (leb (span all) s.m && within_norm s (weighted_norm ws cs)) ≡ false).
-          stay best _ d _ (ap (λ t. if t then entered else best) e)
+          stay best _ d _ (ap (λ t. if t then entered otherwise best) e)
           (tried-no d (fits_is ∙ one_fails (within_norm s (weighted_norm ws cs)) (leb (span all) s.m) (is_some (completed s.p (known_entries all truth))) e)) same)
           (decide (leb (span all) s.m && within_norm s (weighted_norm ws cs)))
 
@@ -276,9 +276,9 @@ module _ (s : Settings) (nodes : List LutNode) (support : List ℕ) (left right 
       pair_step =
           ⊎_elim
           (λ (t : is_scale_pair a b ≡ true).
-          subst (λ p. Same (step_of known_by xs ys ts p best) (tried evaluated d (scales a b))) (sym (ap (λ t. if t then c else no_pair) t)) (measured_step t))
+          subst (λ p. Same (step_of known_by xs ys ts p best) (tried evaluated d (scales a b))) (sym (ap (λ t. if t then c otherwise no_pair) t)) (measured_step t))
           (λ (t : is_scale_pair a b ≡ false).
-          stay best _ d _ (ap (λ t. step_of known_by xs ys ts (if t then c else no_pair) best) t) (tried_not d t) same)
+          stay best _ d _ (ap (λ t. step_of known_by xs ys ts (if t then c otherwise no_pair) best) t) (tried_not d t) same)
           (decide (is_scale_pair a b))
 
   -- all pairs of some ranges

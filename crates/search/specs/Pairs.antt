@@ -10,7 +10,7 @@ use Rattle.std.proofs.Math.Nat.{add-zero}
 use Rattle.std.proofs.Math.IntN.{pos}
 use Rattle.laws.specs.Select.{select}
 use Rattle.laws.specs.Tabulate.{tabulate}
-use Rattle.laws.specs.Test.{if◌then◌else◌}
+use Rattle.laws.specs.Test.{if◌then◌otherwise◌}
 use Rattle.rules.specs.Cone.{Candidate, better, best_from, best}
 use Rattle.rules.specs.Scale.{is_scale_pair}
 use Rattle.rules.specs.Composition.{Scales, scales, scale_pairs}
@@ -19,7 +19,7 @@ use Rattle.search.specs.Walk.{walk_row, walk}
 module _ (E : Scales → List Candidate) where
   -- The best so far, and the candidate of a scale pair.
   unfoldable pub tried : Option Candidate → Scales → Option Candidate
-  tried d p = let r = best_from d (E p) in if is_scale_pair p.a p.b then r else d
+  tried d p = let r = best_from d (E p) in if is_scale_pair p.a p.b then r otherwise d
 
   -- The pair (u, v - origin).
   unfoldable pub tried_at : ℕ → ℕ → ℕ → Option Candidate → Option Candidate
@@ -40,8 +40,8 @@ module _ (E : Scales → List Candidate) where
   selected d (p ∷ ps) = by (is_scale_pair p.a p.b) (λ e. selected e ps)
     where
       by : (t : Bool) → ((e : Option Candidate) → best_from e (flat_map E (select (λ q. is_scale_pair q.a q.b) ps)) ≡ tried_all ps e)
-          → best_from d (flat_map E (if t then p ∷ select (λ q. is_scale_pair q.a q.b) ps else select (λ q. is_scale_pair q.a q.b) ps))
-          ≡ tried_all ps (if t then best_from d (E p) else d)
+          → best_from d (flat_map E (if t then p ∷ select (λ q. is_scale_pair q.a q.b) ps otherwise select (λ q. is_scale_pair q.a q.b) ps))
+          ≡ tried_all ps (if t then best_from d (E p) otherwise d)
       by true rest = best-append d (E p) (flat_map E (select (λ q. is_scale_pair q.a q.b) ps)) ∙ rest (best_from d (E p))
       by false rest = rest d
 

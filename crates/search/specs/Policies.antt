@@ -9,7 +9,7 @@ use Rattle.std.proofs.Math.Nat.{mod-one}
 use native.Mathlib.Omega.{arith}
 use Rattle.std.proofs.Math.ListN.{length-map}
 use Rattle.laws.specs.Gcd.{gcd, gcd_zero, gcd-step}
-use Rattle.laws.specs.Test.{if◌then◌else◌}
+use Rattle.laws.specs.Test.{if◌then◌otherwise◌}
 use Rattle.rules.specs.declared.Policy.{Policy}
 use Rattle.rules.specs.declared.Policy.TheVariants.{Basic, Naive, Span}
 use Rattle.rules.specs.declared.Settings.{Settings}
@@ -68,7 +68,7 @@ module _ (E : Scales → List Candidate) where
   unfolding best flat_map walk walk_row tried_at tried scales
   naive_walked right =
       ap (best_from none) (append-nil (E (scales (pos right) (pos 1))))
-      ∙ sym (ap (λ t. if t then best_from none (E (scales (pos right) (pos 1))) else none) (naive_pair right))
+      ∙ sym (ap (λ t. if t then best_from none (E (scales (pos right) (pos 1))) otherwise none) (naive_pair right))
 
   policy_walked : (policy : Policy) (left right : ℕ) (r : Ranges) → r ≡ ranges_of false policy left right
       → best (flat_map E (tried_pairs policy left right)) ≡ walk (tried_at E r.origin) r.start (r.end - r.start) r.bottom (r.top - r.bottom) none

@@ -6,7 +6,7 @@ use Rattle.std.proofs.Math.Bool.{true}
 use mathlib.Core.List.{List, [], ◌∷◌, zip_with}
 use Rattle.std.proofs.Math.IntN.{neg_ℤ}
 use Rattle.laws.specs.Integer.{abs_neg}
-use Rattle.laws.specs.Test.{if◌then◌else◌}
+use Rattle.laws.specs.Test.{if◌then◌otherwise◌}
 use Rattle.rules.specs.Cone.{values, terms}
 use Rattle.rules.specs.Composition.{reuse_cost}
 use Rattle.rules.specs.Network.{Linear}
@@ -46,7 +46,7 @@ module _ (left right : List ℤ) (sources : List ℕ) (c : Pair) where
 
   -- what the reuse asks for, and the answer where a sum has one table
   module _ (k : Context) (el : k.left ≡ left) (er : k.right ≡ right) (es : k.sources ≡ take (length left) sources) where
-    reuse_by : reuse_of k c ≡ (if k.settings.many && has_bootstrap k.nodes (linear_of k.settings (cone_by (take (length left) sources) cs [])) then 0 else 1)
+    reuse_by : reuse_of k c ≡ (if k.settings.many && has_bootstrap k.nodes (linear_of k.settings (cone_by (take (length left) sources) cs [])) then 0 otherwise 1)
     unfolding reuse_of reuse_cost
     reuse_by =
         ap (λ n. reuse_cost k.settings k.nodes (cone_by n (merged c.a c.b k.left k.right) [])) es
@@ -54,7 +54,7 @@ module _ (left right : List ℤ) (sources : List ℕ) (c : Pair) where
 
     pub reuse_one : k.settings.many ≡ false → 1 ≡ reuse_of k c
     reuse_one e =
-        sym (ap (λ q. if q && has_bootstrap k.nodes (linear_of k.settings (cone_by (take (length left) sources) cs [])) then 0 else 1) e) ∙ sym reuse_by
+        sym (ap (λ q. if q && has_bootstrap k.nodes (linear_of k.settings (cone_by (take (length left) sources) cs [])) then 0 otherwise 1) e) ∙ sym reuse_by
 
   module _ (t : Terms) (is : SumOf left right sources c t) where
     terms_are : terms_in t ≡ zip_with term cs (take (length left) sources)
@@ -73,11 +73,11 @@ module _ (left right : List ℤ) (sources : List ℕ) (c : Pair) where
         }
 
     pub reuse_found : (k : Context) → k.left ≡ left → k.right ≡ right → k.sources ≡ take (length left) sources → Merges left right c → k.settings.many ≡ true
-        → (r : Bool) → r ≡ has_bootstrap k.nodes (Linear t.constant (linear_terms true (terms_in t))) → (if r then 0 else 1) ≡ reuse_of k c
+        → (r : Bool) → r ≡ has_bootstrap k.nodes (Linear t.constant (linear_terms true (terms_in t))) → (if r then 0 otherwise 1) ≡ reuse_of k c
     unfolding linear_of values terms cone_by term
     reuse_found k el er es m e r f =
         let sum : Linear t.constant (linear_terms true (terms_in t)) ≡ linear_of k.settings (cone_by (take (length left) sources) cs []) =
         ap₂ Linear (is.constant ∙ ap neg_ℤ m.low-is) (ap (linear_terms true) terms_are ∙ ap (λ q. linear_terms q (zip_with term cs (take (length left) sources))) (sym e)) in
-        ap (λ q. if q then 0 else 1) (f ∙ ap (has_bootstrap k.nodes) sum)
-        ∙ sym (ap (λ q. if q && has_bootstrap k.nodes (linear_of k.settings (cone_by (take (length left) sources) cs [])) then 0 else 1) e)
+        ap (λ q. if q then 0 otherwise 1) (f ∙ ap (has_bootstrap k.nodes) sum)
+        ∙ sym (ap (λ q. if q && has_bootstrap k.nodes (linear_of k.settings (cone_by (take (length left) sources) cs [])) then 0 otherwise 1) e)
         ∙ sym (reuse_by k el er es)

@@ -3,7 +3,7 @@ use Rattle.std.specs.Prelude.{◌≡◌, true, ℕ, ◌+◌, ◌≤◌, ◌<◌,
 use mathlib.Core.List.{List, [], zip_with}
 use Rattle.std.proofs.Math.Option.{Option, none, some}
 use Rattle.std.specs.Int.Signed.{quot_z}
-use Rattle.laws.specs.Test.{if◌then◌else◌}
+use Rattle.laws.specs.Test.{if◌then◌otherwise◌}
 use Rattle.rules.specs.declared.Settings.{Settings}
 use Rattle.rules.specs.Builder.{enter, completable}
 use Rattle.rules.specs.Cone.{Cone, linear_table}
@@ -69,13 +69,13 @@ unfoldable pub considered : Context → Pair → Score → Option (List ℕ) →
 considered k c best none = best
 considered k c best (some known) =
     let r = better_score best (score_of k c known) in
-    if completable k.settings.p (take c.span known) then r else best
+    if completable k.settings.p (take c.span known) then r otherwise best
 
 -- The same with a pair that may be no candidate.
 unfoldable pub step_of : Context → List ℤ → List ℤ → List ℕ → Pair → Score → Score
 step_of k xs ys ts c best =
     let r = considered k c best (entered_from c xs ys ts 0 (replicate 32 2)) in
-    if c.ok then r else best
+    if c.ok then r otherwise best
 
 -- The pair (u, v - origin).
 unfoldable pub step_at : Context → List ℤ → List ℤ → List ℕ → ℕ → ℕ → ℕ → Score → Score

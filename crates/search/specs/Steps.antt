@@ -10,7 +10,7 @@ use Rattle.std.proofs.Math.IntN.{pos, nat_abs}
 use Rattle.std.proofs.Math.ListN.{length, get_or, take}
 use Rattle.laws.specs.Gcd.{gcd, gcd_is, gcd_zero}
 use Rattle.laws.specs.Integer.{plus, minus, abs_parts, sub_parts, one_part_zero}
-use Rattle.laws.specs.Test.{if◌then◌else◌, decide, both_left}
+use Rattle.laws.specs.Test.{if◌then◌otherwise◌, decide, both_left}
 use Rattle.rules.specs.declared.Settings.{Settings}
 use Rattle.rules.specs.Builder.{Entries, agrees, completable}
 use Rattle.rules.specs.Cone.{linear_table, within_norm}
@@ -49,11 +49,11 @@ module _ (k : Context) (xs ys : List ℤ) (ts : List ℕ) (origin u v : ℕ) (be
 
   pub step-skipped : c.ok ≡ false → best ≡ step_at k xs ys ts origin u v best
   unfolding step_of
-  step-skipped h = ap (λ t. if t then considered k c best (entered_from c xs ys ts 0 (replicate 32 2)) else best) (sym h) ∙ step_is
+  step-skipped h = ap (λ t. if t then considered k c best (entered_from c xs ys ts 0 (replicate 32 2)) otherwise best) (sym h) ∙ step_is
 
   step-tried : c.ok ≡ true → considered k c best (entered_from c xs ys ts 0 (replicate 32 2)) ≡ step_at k xs ys ts origin u v best
   unfolding step_of
-  step-tried h = ap (λ t. if t then considered k c best (entered_from c xs ys ts 0 (replicate 32 2)) else best) (sym h) ∙ step_is
+  step-tried h = ap (λ t. if t then considered k c best (entered_from c xs ys ts 0 (replicate 32 2)) otherwise best) (sym h) ∙ step_is
 
   pub step_clashed : c.ok ≡ true → none ≡ entered_from c xs ys ts 0 (replicate 32 2) → best ≡ step_at k xs ys ts origin u v best
   unfolding considered
@@ -67,12 +67,12 @@ module _ (k : Context) (xs ys : List ℤ) (ts : List ℕ) (origin u v : ℕ) (be
 module _ (k : Context) (c : Pair) (best : Score) (known : List ℕ) where
   pub considered_no : completable k.settings.p (take c.span known) ≡ false → best ≡ considered k c best (some known)
   unfolding considered
-  considered_no h = ap (λ t. if t then better_score best (score_of k c known) else best) (sym h)
+  considered_no h = ap (λ t. if t then better_score best (score_of k c known) otherwise best) (sym h)
 
   pub considered_yes : completable k.settings.p (take c.span known) ≡ true → (r s : Score) → r ≡ better_score best s → s ≡ score_of k c known
       → r ≡ considered k c best (some known)
   unfolding considered
-  considered_yes h r s e f = e ∙ ap (better_score best) f ∙ ap (λ t. if t then better_score best (score_of k c known) else best) (sym h)
+  considered_yes h r s e f = e ∙ ap (better_score best) f ∙ ap (λ t. if t then better_score best (score_of k c known) otherwise best) (sym h)
 
   pub score_is : (reuse : ℕ) (energy a b : ℤ) → reuse ≡ reuse_of k c → energy ≡ energy_by k.moments c → a ≡ c.a → b ≡ c.b
       → ◌≡◌ {A = Score} (record { found = true; reuse = reuse; span = c.span; energy = energy; norm = c.norm; a = a; b = b; known = known }) (score_of k c known)
@@ -207,8 +207,8 @@ module _ (s : Settings) (left right xs ys : List ℤ) (ts : List ℕ) (m : Momen
     unfolding pair_of no_pair
     is_measured =
         ⊎_elim
-        (λ (t : is_scale_pair a b ≡ true). e ∙ ap (λ q. if q then measured s ws a b cs else no_pair) t)
-        (λ (t : is_scale_pair a b ≡ false). absurd (true≢false (sym ok ∙ ap (λ (p : Pair). p.ok) (e ∙ ap (λ q. if q then measured s ws a b cs else no_pair) t))))
+        (λ (t : is_scale_pair a b ≡ true). e ∙ ap (λ q. if q then measured s ws a b cs otherwise no_pair) t)
+        (λ (t : is_scale_pair a b ≡ false). absurd (true≢false (sym ok ∙ ap (λ (p : Pair). p.ok) (e ∙ ap (λ q. if q then measured s ws a b cs otherwise no_pair) t))))
         (decide (is_scale_pair a b))
 
     measured_ok : (measured s ws a b cs).ok ≡ true

@@ -9,7 +9,7 @@ use Rattle.laws.specs.Digits.{bit, digits}
 use Rattle.laws.specs.Integer.{plus, minus, add_parts, sub_parts, plus_mul, minus_mul, ints, eq_z, eq_z_true, eq_z_of}
 use Rattle.laws.specs.Select.{first_of}
 use Rattle.laws.specs.Tabulate.{tabulate-at}
-use Rattle.laws.specs.Test.{if◌then◌else◌, T-is, T-not_is, lt_or_le, decide}
+use Rattle.laws.specs.Test.{if◌then◌otherwise◌, T-is, T-not_is, lt_or_le, decide}
 use Rattle.rules.specs.Cone.{linear_table}
 use Rattle.rules.specs.Composition.{assignments}
 use Rattle.rules.specs.Network.{Term}
@@ -21,11 +21,11 @@ use Rattle.theorems.specs.SourceRows.{assignments_are}
 -- Where a value stands first; as many as there are where it does not.
 unfoldable pub first_place : ℤ → List ℤ → ℕ
 first_place z [] = 0
-first_place z (x ∷ l) = let r = suc (first_place z l) in if eq_z x z then 0 else r
+first_place z (x ∷ l) = let r = suc (first_place z l) in if eq_z x z then 0 otherwise r
 
 -- The bits of a row, if it is one.
 unfoldable pub row_reading : ℕ → ℕ → Option (List ℕ)
-row_reading n row = if ltb row (2 ^ n) then some (digits n row) else none
+row_reading n row = if ltb row (2 ^ n) then some (digits n row) otherwise none
 
 -- ---- laws: a turn of the loop that looks for a value
 
@@ -80,21 +80,21 @@ sums_are c (t ∷ ts) =
 
 -- the first whose image is a value
 first_place_lem : {A : Type 0} (g : A → ℤ) (z : ℤ) (d : A) (l : List A)
-    → first_of (λ x. eq_z (g x) z) l ≡ (if ltb (first_place z (map g l)) (length l) then some (get_or l (first_place z (map g l)) d) else none)
+    → first_of (λ x. eq_z (g x) z) l ≡ (if ltb (first_place z (map g l)) (length l) then some (get_or l (first_place z (map g l)) d) otherwise none)
 unfolding first_of first_place
 first_place_lem g z d [] = refl
 first_place_lem {A} g z d (x ∷ l) = by (eq_z (g x) z) (first_place_lem g z d l)
   where
-    by : (b : Bool) → first_of (λ x. eq_z (g x) z) l ≡ (if ltb (first_place z (map g l)) (length l) then some (get_or l (first_place z (map g l)) d) else none)
-        → (if b then some x else first_of (λ x. eq_z (g x) z) l)
-        ≡ (if ltb (if b then 0 else suc (first_place z (map g l))) (suc (length l)) then some (get_or (x ∷ l) (if b then 0 else suc (first_place z (map g l))) d) else none)
+    by : (b : Bool) → first_of (λ x. eq_z (g x) z) l ≡ (if ltb (first_place z (map g l)) (length l) then some (get_or l (first_place z (map g l)) d) otherwise none)
+        → (if b then some x otherwise first_of (λ x. eq_z (g x) z) l)
+        ≡ (if ltb (if b then 0 otherwise suc (first_place z (map g l))) (suc (length l)) then some (get_or (x ∷ l) (if b then 0 otherwise suc (first_place z (map g l))) d) otherwise none)
     by true e = rw (lt-ltb 0 (suc (length l)) (omega arith))
     by false e = rw compare.suc-suc e
 
 shifted_place : (c z : ℤ) (l : List ℤ) → first_place z (map (λ v. c +ℤ v) l) ≡ first_place (z -ℤ c) l
 unfolding first_place plus minus
 shifted_place c z [] = refl
-shifted_place c z (v ∷ l) = ap₂ (λ b k. if b then 0 else suc k) same (shifted_place c z l)
+shifted_place c z (v ∷ l) = ap₂ (λ b k. if b then 0 otherwise suc k) same (shifted_place c z l)
   where
     same : eq_z (c +ℤ v) z ≡ eq_z v (z -ℤ c)
     same =
@@ -104,7 +104,7 @@ shifted_place c z (v ∷ l) = ap₂ (λ b k. if b then 0 else suc k) same (shift
         (same_or_not v (z -ℤ c))
 
 -- the assignment of a row
-row_bits : (n row : ℕ) → (if ltb row (length (assignments n)) then some (get_or (assignments n) row []) else none) ≡ row_reading n row
+row_bits : (n row : ℕ) → (if ltb row (length (assignments n)) then some (get_or (assignments n) row []) otherwise none) ≡ row_reading n row
 unfolding row_reading
 row_bits n row =
     rw (assignments-length n)
@@ -116,7 +116,7 @@ pub reading_row : (c : ℤ) (ts : List Term) (value : ℤ) → first_reading c t
 unfolding first_reading
 reading_row c ts value =
     first_place_lem (sum_of_bits c ts) value [] rows
-    ∙ ap (λ k. if ltb k (length rows) then some (get_or rows k []) else none) (ap (first_place value) (sums_are c ts) ∙ shifted_place c value (linear_table (coefs ts)))
+    ∙ ap (λ k. if ltb k (length rows) then some (get_or rows k []) otherwise none) (ap (first_place value) (sums_are c ts) ∙ shifted_place c value (linear_table (coefs ts)))
     ∙ row_bits (length ts) _
   where
     rows : List (List ℕ)

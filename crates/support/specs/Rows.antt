@@ -10,7 +10,7 @@ use Rattle.std.proofs.Math.Dec.{eqb-suc-suc, eqb-zero-suc, leb-suc-zero}
 use Rattle.std.proofs.lemmas.Bool.{lt-leb}
 use Rattle.std.proofs.lemmas.List.{length-map}
 use Rattle.laws.specs.Digits.{bit, digit, digit_lt, bit-step, trailing_small, digits, digits-length, digits-upper}
-use Rattle.laws.specs.Test.{if◌then◌else◌, if_both, lt_or_le, eq-or-ne}
+use Rattle.laws.specs.Test.{if◌then◌otherwise◌, if_both, lt_or_le, eq-or-ne}
 use Rattle.rules.specs.Cone.{row_from}
 use Rattle.rules.specs.Composition.{assigned}
 use Rattle.rules.specs.NetworkText.{all_different}
@@ -20,7 +20,7 @@ use Rattle.theorems.specs.SourceRows.{row_from-digits, row_over, assigned-digit,
 -- Whether the digit of a source changes where the next row has z trailing zeros; and the toggle mask of those that do.
 unfoldable pub changed : List ℕ → ℕ → ℕ → ℕ
 changed [] z s = 0
-changed (m ∷ U) z s = let r = changed U z s in if eqb m s then digit (leb (length U) z) else r
+changed (m ∷ U) z s = let r = changed U z s in if eqb m s then digit (leb (length U) z) otherwise r
 
 unfoldable pub toggle_mask : List ℕ → List ℕ → ℕ → ℕ
 toggle_mask U rs z = row_from 0 (map (changed U z) rs)
@@ -30,7 +30,7 @@ unfolding changed
 changed-digit [] z s = omega arith
 changed-digit (m ∷ U) z s = if_both (λ d. d < 2) (eqb m s) (digit_lt (leb (length U) z)) (changed-digit U z s)
 
-by_test : (t : Bool) (f : ℕ → ℕ → ℕ) (a b c a' b' c' : ℕ) → a ≡ f b c → a' ≡ f b' c' → (if t then a else a') ≡ f (if t then b else b') (if t then c else c')
+by_test : (t : Bool) (f : ℕ → ℕ → ℕ) (a b c a' b' c' : ℕ) → a ≡ f b c → a' ≡ f b' c' → (if t then a otherwise a') ≡ f (if t then b otherwise b') (if t then c otherwise c')
 by_test true f a b c a' b' c' e e' = e
 by_test false f a b c a' b' c' e e' = e'
 
@@ -107,7 +107,7 @@ row_over_own ls new i h l =
 -- where a node stands first; as many as there are where it does not stand
 unfoldable pub position : List ℕ → ℕ → ℕ
 position [] n = 0
-position (m ∷ ms) n = let r = suc (position ms n) in if eqb m n then 0 else r
+position (m ∷ ms) n = let r = suc (position ms n) in if eqb m n then 0 otherwise r
 
 unfoldable pub hit : List ℕ → ℕ → ℕ → ℕ
 hit U z s = digit (eqb (position U s + z + 1) (length U))
@@ -123,12 +123,12 @@ hit_none : (z s : ℕ) → hit [] z s ≡ 0
 unfolding hit position
 hit_none z s = ap digit (ne_eqb (0 + z + 1) 0 (λ e. omega arith))
 
-hit_cons : (m : ℕ) (U : List ℕ) (z s : ℕ) → hit (m ∷ U) z s ≡ (if eqb m s then digit (eqb (z + 1) (suc (length U))) else hit U z s)
+hit_cons : (m : ℕ) (U : List ℕ) (z s : ℕ) → hit (m ∷ U) z s ≡ (if eqb m s then digit (eqb (z + 1) (suc (length U))) otherwise hit U z s)
 unfolding hit position
 hit_cons m U z s = by (eqb m s)
   where
-    by : (t : Bool) → digit (eqb ((if t then 0 else suc (position U s)) + z + 1) (suc (length U)))
-        ≡ (if t then digit (eqb (z + 1) (suc (length U))) else digit (eqb (position U s + z + 1) (length U)))
+    by : (t : Bool) → digit (eqb ((if t then 0 otherwise suc (position U s)) + z + 1) (suc (length U)))
+        ≡ (if t then digit (eqb (z + 1) (suc (length U))) otherwise digit (eqb (position U s + z + 1) (length U)))
     by true = ap (λ k. digit (eqb k (suc (length U)))) (omega arith)
     by false =
         let e : suc (position U s) + z + 1 ≡ suc (position U s + z + 1) = omega arith in

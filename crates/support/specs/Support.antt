@@ -6,7 +6,7 @@ use native.Mathlib.Omega.{arith}
 use borrow.Author.Tests.{eq-eqb, ne_eqb}
 use Rattle.std.proofs.Math.ListN.{length}
 use Rattle.laws.specs.Select.{select}
-use Rattle.laws.specs.Test.{if◌then◌else◌, if_both, eq-or-ne}
+use Rattle.laws.specs.Test.{if◌then◌otherwise◌, if_both, eq-or-ne}
 use Rattle.rules.specs.Network.{member}
 use Rattle.rules.specs.Cone.{Cone, terms}
 use Rattle.rules.specs.Store.{coefficient_of}
@@ -102,6 +102,6 @@ coefficient-at (c ∷ cs) [] n e = absurd (omega arith)
 coefficient-at (c ∷ cs) (m ∷ ns) n e = by (eqb m n) (coefficient-at cs ns n (omega arith))
   where
     by : (t : Bool) → coefficient_of (terms_over cs ns) n ≡ get_or cs (position ns n) (pos 0)
-        → (if t then c else coefficient_of (terms_over cs ns) n) ≡ get_or (c ∷ cs) (if t then 0 else suc (position ns n)) (pos 0)
+        → (if t then c otherwise coefficient_of (terms_over cs ns) n) ≡ get_or (c ∷ cs) (if t then 0 otherwise suc (position ns n)) (pos 0)
     by true r = refl
     by false r = r

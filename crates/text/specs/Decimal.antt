@@ -2,7 +2,7 @@
 use Rattle.std.specs.Prelude.{◌≡◌, refl, Bool, true, false, List, [], ◌∷◌, ℕ, ◌+◌, ◌-◌, ◌<◌, ◌≤◌, eqb, length, take, drop}
 use Rattle.std.proofs.Common.{sym, ap, subst, ◌∙◌, true≢false, ⊎_elim, arith, eq-eqb, ne_eqb, length-drop}
 use Rattle.std.proofs.Math.Option.{none, some, some-injective, none-ne-some}
-use Rattle.laws.specs.Test.{if◌then◌else◌, decide}
+use Rattle.laws.specs.Test.{if◌then◌otherwise◌, decide}
 use Rattle.rules.specs.CircuitText.{same_name}
 use Rattle.rules.specs.Form.{give, onward, run, run_of, number, is_number, is_digit, value_from}
 use Rattle.theorems.specs.Decimals.{AllOf}
@@ -22,7 +22,7 @@ unfolding AllOf run
 run-digits [] = tt
 run-digits (b ∷ s) = by (is_digit b) refl (run-digits s)
   where
-    by : (t : Bool) → is_digit b ≡ t → AllOf is_digit (run is_digit s) → AllOf is_digit (if t then b ∷ run is_digit s else [])
+    by : (t : Bool) → is_digit b ≡ t → AllOf is_digit (run is_digit s) → AllOf is_digit (if t then b ∷ run is_digit s otherwise [])
     by true e d = (e, d)
     by false e d = tt
 
@@ -34,7 +34,7 @@ number_decimal s a e v h k = by (run is_digit (drop a s)) (is_number (run is_dig
     l = drop a s
 
     by : (w : List ℕ) (t : Bool) → run is_digit l ≡ w → is_number w ≡ t
-        → onward (if t then give w (drop (length w) l) else none) (λ u. give (value_from 0 u)) ≡ some (record { value = v; rest = drop e s })
+        → onward (if t then give w (drop (length w) l) otherwise none) (λ u. give (value_from 0 u)) ≡ some (record { value = v; rest = drop e s })
         → (a < e) × Decimal (take (e - a) l)
     by w true f g q =
         let rest : length (drop (length w) l) ≡ length (drop e s) = ap (λ p. length p.rest) (some-injective _ _ q) in

@@ -9,7 +9,7 @@ use Prim.Native.Nat.{ℕ, zero, suc, ◌+◌, ◌-◌, ◌≤◌}
 use native.Mathlib.Omega.{arith}
 use Rattle.std.proofs.Math.Dec.{eqb}
 use Rattle.std.proofs.Math.ListN.{length, length-drop}
-use Rattle.laws.specs.Test.{if◌then◌else◌, zero≢one}
+use Rattle.laws.specs.Test.{if◌then◌otherwise◌, zero≢one}
 use Rattle.rules.specs.Form.{Piece, Reader, give, onward, either, only, gather, up_to, many, exactly, run_of, run}
 use Rattle.text.specs.Line.{line_length, line_stop, line_within}
 use Rattle.text.specs.Many.{Takes, enough}
@@ -119,7 +119,7 @@ module _ {A B : Type 0} {r : Reader A} (f : A → B) where
 
 unfoldable pub no_newline : List ℕ → Bool
 no_newline [] = true
-no_newline (b ∷ w) = if eqb b 10 then false else no_newline w
+no_newline (b ∷ w) = if eqb b 10 then false otherwise no_newline w
 
 word_inside : (w l : List ℕ) → no_newline w ≡ true → Inside l (exactly w l) (exactly w (first_line l))
 unfolding exactly no_newline first_line line_length
@@ -127,9 +127,9 @@ word_inside [] l h = (refl, refl)
 word_inside (x ∷ w) [] h = refl
 word_inside (x ∷ w) (b ∷ s) h = by (eqb b x) refl (eqb x 10) refl h (word_inside w s)
   where
-    by : (t : Bool) → eqb b x ≡ t → (u : Bool) → eqb x 10 ≡ u → (if u then false else no_newline w) ≡ true
+    by : (t : Bool) → eqb b x ≡ t → (u : Bool) → eqb x 10 ≡ u → (if u then false otherwise no_newline w) ≡ true
         → (no_newline w ≡ true → Inside s (exactly w s) (exactly w (first_line s)))
-        → Inside (b ∷ s) (if t then exactly w s else none) (exactly (x ∷ w) (first_line (b ∷ s)))
+        → Inside (b ∷ s) (if t then exactly w s otherwise none) (exactly (x ∷ w) (first_line (b ∷ s)))
     by t e true g k ih = absurd (zero≢one (cc))
     by true e false g k ih =
         let d : eqb b 10 ≡ false = subst (λ y. eqb y 10 ≡ false) (sym (eqb-true b x e)) g in
@@ -153,7 +153,7 @@ word_append (x ∷ w) v [] = refl
 word_append (x ∷ w) v (b ∷ s) = by (eqb b x) (word_append w v s)
   where
     by : (t : Bool) → onward (exactly w s) (λ _. exactly v) ≡ exactly (w ++ v) s
-        → onward (if t then exactly w s else none) (λ _. exactly v) ≡ (if t then exactly (w ++ v) s else none)
+        → onward (if t then exactly w s otherwise none) (λ _. exactly v) ≡ (if t then exactly (w ++ v) s otherwise none)
     by true e = e
     by false e = refl
 
@@ -162,7 +162,7 @@ unfolding exactly first_line line_length
 newline_whole [] = refl
 newline_whole (b ∷ s) = by (eqb b 10) refl
   where
-    by : (t : Bool) → eqb b 10 ≡ t → Whole (b ∷ s) (if t then give tt s else none) (exactly (10 ∷ []) (first_line (b ∷ s)))
+    by : (t : Bool) → eqb b 10 ≡ t → Whole (b ∷ s) (if t then give tt s otherwise none) (exactly (10 ∷ []) (first_line (b ∷ s)))
     by true e = (ap (exactly (10 ∷ [])) (first_newline b s e) ∙ rw e, sym (after_newline b s e))
     by false e = ap (exactly (10 ∷ [])) (first_more b s e) ∙ rw e
 
@@ -194,9 +194,9 @@ module _ (f : ℕ → Bool) (no : f 10 ≡ false) where
     where
       by : (t : Bool) → f b ≡ t
           → (run f (first_line s) ≡ run f s) × (drop (length (run f s)) (first_line s) ≡ first_line (drop (length (run f s)) s)) × (after_line (drop (length (run f s)) s) ≡ after_line s)
-          → (run f (first_line (b ∷ s)) ≡ (if t then b ∷ run f s else []))
-          × (drop (length (if t then b ∷ run f s else [])) (first_line (b ∷ s)) ≡ first_line (drop (length (if t then b ∷ run f s else [])) (b ∷ s)))
-          × (after_line (drop (length (if t then b ∷ run f s else [])) (b ∷ s)) ≡ after_line (b ∷ s))
+          → (run f (first_line (b ∷ s)) ≡ (if t then b ∷ run f s otherwise []))
+          × (drop (length (if t then b ∷ run f s otherwise [])) (first_line (b ∷ s)) ≡ first_line (drop (length (if t then b ∷ run f s otherwise [])) (b ∷ s)))
+          × (after_line (drop (length (if t then b ∷ run f s otherwise [])) (b ∷ s)) ≡ after_line (b ∷ s))
       by true e h =
           let d = other_byte b e in (
             ap (run f) (first_more b s d) ∙ rw e (ap {B = List ℕ} (λ r. b ∷ r) h.0),
@@ -214,12 +214,12 @@ module _ (f : ℕ → Bool) (no : f 10 ≡ false) where
   inner_run good = record { inside = λ l. by l (run f l) (run f (first_line l)) (run-first l) }
     where
       by : (l w v : List ℕ) → (v ≡ w) × (drop (length w) (first_line l) ≡ first_line (drop (length w) l)) × (after_line (drop (length w) l) ≡ after_line l)
-          → Inside l (if good w then give w (drop (length w) l) else none) (if good v then give v (drop (length v) (first_line l)) else none)
+          → Inside l (if good w then give w (drop (length w) l) otherwise none) (if good v then give v (drop (length v) (first_line l)) otherwise none)
       by l w v h =
-          subst (λ x. Inside l (if good w then give w (drop (length w) l) else none) (if good x then give x (drop (length x) (first_line l)) else none)) (sym h.0)
+          subst (λ x. Inside l (if good w then give w (drop (length w) l) otherwise none) (if good x then give x (drop (length x) (first_line l)) otherwise none)) (sym h.0)
           (tested (good w))
         where
-          tested : (t : Bool) → Inside l (if t then give w (drop (length w) l) else none) (if t then give w (drop (length w) (first_line l)) else none)
+          tested : (t : Bool) → Inside l (if t then give w (drop (length w) l) otherwise none) (if t then give w (drop (length w) (first_line l)) otherwise none)
           tested true = (ap (λ x. some (record { value = w; rest = x })) h.1, h.2)
           tested false = refl
 

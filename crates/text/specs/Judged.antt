@@ -5,13 +5,13 @@ use Rattle.std.proofs.Common.{sym, arith}
 use Rattle.std.proofs.Math.Bool.{true, false}
 use mathlib.Core.List.{List, [], ◌∷◌}
 use Rattle.std.proofs.Math.Option.{Option, none, some}
-use Rattle.laws.specs.Test.{if◌then◌else◌}
+use Rattle.laws.specs.Test.{if◌then◌otherwise◌}
 use Rattle.rules.specs.Form.{Condition, Reading, Refused, judged, on_line, read_lines, lines}
 use Rattle.text.specs.Line.{LineEnd, no_lines}
 
 unfoldable pub lowest : List Condition → ℕ
 lowest [] = 0
-lowest (k ∷ ks) = if k.met then k.no else lowest ks
+lowest (k ∷ ks) = if k.met then k.no otherwise lowest ks
 
 -- Each condition has a number from 1 on.
 abbrev pub Numbered : List Condition → Type 0
@@ -23,7 +23,7 @@ pub unmet : (k : Condition) (ks : List Condition) → 0 < k.no → lowest (k ∷
 unfolding lowest
 unmet k ks h = by k.met
   where
-    by : (b : Bool) → (if b then k.no else lowest ks) ≡ 0 → (b ≡ false) × (lowest ks ≡ 0)
+    by : (b : Bool) → (if b then k.no otherwise lowest ks) ≡ 0 → (b ≡ false) × (lowest ks ≡ 0)
     by true e = absurd (omega arith)
     by false e = (refl, e)
 
@@ -33,8 +33,8 @@ module _ {A : Type 0} (i : ℕ) where
   judged_good [] next p e = refl
   judged_good (k ∷ ks) next p e = by k.met e (judged_good ks next p.1)
     where
-      by : (b : Bool) → (if b then k.no else lowest ks) ≡ 0 → (lowest ks ≡ 0 → judged i ks next ≡ next)
-          → (if b then Refused k.no i else judged i ks next) ≡ next
+      by : (b : Bool) → (if b then k.no otherwise lowest ks) ≡ 0 → (lowest ks ≡ 0 → judged i ks next ≡ next)
+          → (if b then Refused k.no i otherwise judged i ks next) ≡ next
       by true d f = absurd (let h = p.0 in omega arith)
       by false d f = f d
 
@@ -43,8 +43,8 @@ module _ {A : Type 0} (i : ℕ) where
   judged_bad [] next n e g = absurd (g (sym e))
   judged_bad (k ∷ ks) next n e g = by k.met e (λ d. judged_bad ks next n d g)
     where
-      by : (b : Bool) → (if b then k.no else lowest ks) ≡ n → (lowest ks ≡ n → judged i ks next ≡ Refused n i)
-          → (if b then Refused k.no i else judged i ks next) ≡ Refused n i
+      by : (b : Bool) → (if b then k.no otherwise lowest ks) ≡ n → (lowest ks ≡ n → judged i ks next ≡ Refused n i)
+          → (if b then Refused k.no i otherwise judged i ks next) ≡ Refused n i
       by true d f = ap (λ m. Refused m i) d
       by false d f = f d
 

@@ -3,7 +3,7 @@ use Rattle.std.specs.Prelude.{◌≡◌, refl, Bool, true, false, List, [], ◌�
 use Rattle.std.proofs.Common.{ap, not-suc-le-zero, arith, drop_of_length-le, length-drop, drop-cons, drop-drop}
 use Rattle.std.proofs.Math.Numerals.{add-one}
 use borrow.Author.Tests.{eq-eqb, ne_eqb}
-use Rattle.laws.specs.Test.{if◌then◌else◌, if_both}
+use Rattle.laws.specs.Test.{if◌then◌otherwise◌, if_both}
 use Rattle.rules.specs.Form.{lines, before}
 
 -- The line that begins at a ends at e, behind its newline or at the text's end.
@@ -19,13 +19,13 @@ no_lines s a h = rw (drop_of_length-le s {i = a} h)
 -- How long the first line is.
 unfoldable pub line_length : List ℕ → ℕ
 line_length [] = 0
-line_length (b ∷ s) = if eqb b 10 then 1 else suc (line_length s)
+line_length (b ∷ s) = if eqb b 10 then 1 otherwise suc (line_length s)
 
 lines_cons : (b : ℕ) (s : List ℕ) → lines (b ∷ s) ≡ take (line_length (b ∷ s)) (b ∷ s) ∷ lines (drop (line_length (b ∷ s)) (b ∷ s))
 unfolding lines before line_length
 lines_cons b [] = by (eqb b 10)
   where
-    by : (t : Bool) → (if t then (b ∷ []) ∷ [] else (b ∷ []) ∷ []) ≡ take (if t then 1 else 1) (b ∷ []) ∷ lines (drop (if t then 1 else 1) (b ∷ []))
+    by : (t : Bool) → (if t then (b ∷ []) ∷ [] otherwise (b ∷ []) ∷ []) ≡ take (if t then 1 otherwise 1) (b ∷ []) ∷ lines (drop (if t then 1 otherwise 1) (b ∷ []))
     by true = refl
     by false = refl
 lines_cons b (d ∷ s) = by (eqb b 10) (lines_cons d s)
@@ -34,8 +34,8 @@ lines_cons b (d ∷ s) = by (eqb b 10) (lines_cons d s)
     l = d ∷ s
 
     by : (t : Bool) → lines l ≡ take (line_length l) l ∷ lines (drop (line_length l) l)
-        → (if t then (b ∷ []) ∷ lines l else before b (lines l))
-        ≡ take (if t then 1 else suc (line_length l)) (b ∷ l) ∷ lines (drop (if t then 1 else suc (line_length l)) (b ∷ l))
+        → (if t then (b ∷ []) ∷ lines l otherwise before b (lines l))
+        ≡ take (if t then 1 otherwise suc (line_length l)) (b ∷ l) ∷ lines (drop (if t then 1 otherwise suc (line_length l)) (b ∷ l))
     by true e = refl
     by false e = ap (before b) e
 

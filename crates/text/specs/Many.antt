@@ -7,7 +7,7 @@ use Rattle.std.proofs.Math.Option.{Option, none, some, some-injective}
 use Prim.Native.Nat.{ℕ, zero, suc, ◌<◌, ◌≤◌}
 use native.Mathlib.Omega.{arith}
 use Rattle.std.proofs.Math.ListN.{length}
-use Rattle.laws.specs.Test.{if◌then◌else◌}
+use Rattle.laws.specs.Test.{if◌then◌otherwise◌}
 use Rattle.rules.specs.Form.{Piece, Reader, give, onward, either, gather, up_to, many, exactly, run_of, run, number, is_digit, is_number, wire}
 
 -- What a reader leaves is no longer than what it was given, or shorter.
@@ -55,7 +55,7 @@ keeps_word [] s t e = keeps_give tt s t e
 keeps_word (w ∷ ws) [] t e = absurd (no-piece t e)
 keeps_word (w ∷ ws) (b ∷ s) t e = by (eqb b w) e (keeps_word ws s t)
   where
-    by : (c : Bool) → (if c then exactly ws s else none) ≡ some t → (exactly ws s ≡ some t → length t.rest ≤ length s) → length t.rest ≤ suc (length s)
+    by : (c : Bool) → (if c then exactly ws s otherwise none) ≡ some t → (exactly ws s ≡ some t → length t.rest ≤ length s) → length t.rest ≤ suc (length s)
     by true d k = let h = k d in omega arith
     by false d k = absurd (no-piece t d)
 
@@ -64,7 +64,7 @@ unfolding exactly
 takes_word w ws [] t e = absurd (no-piece t e)
 takes_word w ws (b ∷ s) t e = by (eqb b w) e
   where
-    by : (c : Bool) → (if c then exactly ws s else none) ≡ some t → length t.rest < suc (length s)
+    by : (c : Bool) → (if c then exactly ws s otherwise none) ≡ some t → length t.rest < suc (length s)
     by true d = let h = keeps_word ws s t d in omega arith
     by false d = absurd (no-piece t d)
 
@@ -72,7 +72,7 @@ pub keeps_run : (f : ℕ → Bool) (good : List ℕ → Bool) → Keeps (run_of 
 unfolding run_of
 keeps_run f good s t = by (run f s) (good (run f s))
   where
-    by : (w : List ℕ) (c : Bool) → (if c then give w (drop (length w) s) else none) ≡ some t → length t.rest ≤ length s
+    by : (w : List ℕ) (c : Bool) → (if c then give w (drop (length w) s) otherwise none) ≡ some t → length t.rest ≤ length s
     by w true e = subst (λ p. length p.rest ≤ length s) (some-injective _ _ e) (simp length-drop (omega arith))
     by w false e = absurd (no-piece t e)
 

@@ -4,7 +4,7 @@ use Rattle.std.proofs.Math.Path.{refl}
 use Rattle.std.proofs.Common.{subst, arith, leb→le, length-take, length-drop}
 use Rattle.std.proofs.Math.Option.{none, some, some-injective}
 use borrow.Author.Tests.{le-leb, lt-leb}
-use Rattle.laws.specs.Test.{if◌then◌else◌, is_T, and_left, and_right}
+use Rattle.laws.specs.Test.{if◌then◌otherwise◌, is_T, and_left, and_right}
 use Rattle.rules.specs.Form.{give, run, run_of, name, is_name, is_name_byte, bits, is_bits, is_bit_byte, bits_from}
 use Rattle.text.specs.Chain.{step, stop}
 use Rattle.text.specs.Run.{RunEnd, run_length, run_good, run_bad}
@@ -42,7 +42,7 @@ name_bounds l w x = by (run is_name_byte l) (is_name (run is_name_byte l)) refl
       leb→le (length v) 16 (and_right (leb 1 (length v)) (leb (length v) 16) t),
     )
 
-    by : (v : List ℕ) (t : Bool) → is_name v ≡ t → (if t then give v (drop (length v) l) else none) ≡ some (record { value = w; rest = x }) → (1 ≤ length w) × (length w ≤ 16)
+    by : (v : List ℕ) (t : Bool) → is_name v ≡ t → (if t then give v (drop (length v) l) otherwise none) ≡ some (record { value = w; rest = x }) → (1 ≤ length w) × (length w ≤ 16)
     by v true g e = subst (λ p. (1 ≤ length p.value) × (length p.value ≤ 16)) (some-injective _ _ e) (sized v (is_T _ g))
     by v false g e = let z : ◌≡◌ {A = ℕ} 0 1 = cc in omega arith
 

@@ -9,7 +9,7 @@ use Rattle.std.proofs.Math.Numerals.{add-one}
 use native.Mathlib.Omega.{arith}
 use Rattle.std.proofs.Math.ListN.{length, take, drop, length-drop}
 use Rattle.std.proofs.Math.Seq.{drop-drop}
-use Rattle.laws.specs.Test.{if◌then◌else◌, if_both}
+use Rattle.laws.specs.Test.{if◌then◌otherwise◌, if_both}
 use Rattle.rules.specs.Form.{run, run_of, give, is_name_byte, is_digit, is_bit_byte}
 use Rattle.text.specs.declared.Kind.{Kind}
 use Rattle.text.specs.declared.Kind.TheVariants.{NameByte, Digit, BitByte}
@@ -67,7 +67,7 @@ unfolding run
 each f [] k h = absurd (not-suc-le-zero h)
 each f (b ∷ s) k h = by (f b) refl (each f s) k h
   where
-    by : (t : Bool) → f b ≡ t → ((k : ℕ) → k < length (run f s) → f (get_or s k 0) ≡ true) → (k : ℕ) → k < length (if t then b ∷ run f s else []) → f (get_or (b ∷ s) k 0) ≡ true
+    by : (t : Bool) → f b ≡ t → ((k : ℕ) → k < length (run f s) → f (get_or s k 0) ≡ true) → (k : ℕ) → k < length (if t then b ∷ run f s otherwise []) → f (get_or (b ∷ s) k 0) ≡ true
     by true e later zero h = e
     by true e later (suc k) h = later k (le_of_suc-le-suc h)
     by false e later zero h = absurd (not-suc-le-zero h)

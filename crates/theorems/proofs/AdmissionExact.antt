@@ -2,7 +2,7 @@
 use Rattle.std.specs.Prelude.{◌≡◌, refl, Bool, true, false, List, ℕ}
 use Rattle.std.proofs.Common.{arith}
 use Rattle.std.proofs.Math.Logic.Iff
-use Rattle.laws.specs.Test.{if◌then◌else◌}
+use Rattle.laws.specs.Test.{if◌then◌otherwise◌}
 use Rattle.rules.specs.Admission.{admission}
 use Rattle.rules.specs.Edition2.{read_network2, read_admitted2, is_edition2, read_either}
 use Rattle.rules.specs.CircuitText.{ended, read_circuit}
@@ -54,7 +54,7 @@ pub either_exact : (text : List ℕ) → Exact (read_either text) (EitherHolds t
 unfolding read_either EitherHolds
 either_exact text = by (is_edition2 text)
   where
-    by : (b : Bool) → Exact (if b then read_admitted2 text else read_admitted text) (λ k i. if b then Holds admissions2 text k i else Holds admissions text k i)
+    by : (b : Bool) → Exact (if b then read_admitted2 text otherwise read_admitted text) (λ k i. if b then Holds admissions2 text k i otherwise Holds admissions text k i)
     by true = admitted2_exact text
     by false = admitted_exact text
 

@@ -9,7 +9,7 @@ use Rattle.std.proofs.Math.Option.{Option, none, some}
 use Prim.Native.Nat.{ℕ, ◌+◌}
 use Rattle.std.proofs.Math.Nat.{not-suc-le-zero}
 use native.Mathlib.Omega.{arith}
-use Rattle.laws.specs.Test.{if◌then◌else◌, zero≢one, not_both}
+use Rattle.laws.specs.Test.{if◌then◌otherwise◌, zero≢one, not_both}
 use Rattle.rules.specs.Form.{before, lines, Reading, Good, Refused, judged, on_line, read_lines}
 use Rattle.theorems.specs.Refusals.{Kind, conditions_of, said_with, said, AtLine, Holds, First, Exact}
 use Rattle.theorems.specs.Readings.{LowestFirst, NoneMet, judged_none, FirstMet, first_or_none, at_first, at-cases, not_here, first_later, reading, refused_same, Regular, numbered, opened, read_text}
@@ -117,7 +117,7 @@ lines_some : (b : ℕ) (s : List ℕ) → (l : List ℕ) × (ls : List (List ℕ
 unfolding lines before
 lines_some b s = by (eqb b 10) (lines s)
   where
-    by : (t : Bool) (ls : List (List ℕ)) → (l : List ℕ) × (ms : List (List ℕ)) × ((if t then (b ∷ []) ∷ ls else before b ls) ≡ l ∷ ms)
+    by : (t : Bool) (ls : List (List ℕ)) → (l : List ℕ) × (ms : List (List ℕ)) × ((if t then (b ∷ []) ∷ ls otherwise before b ls) ≡ l ∷ ms)
     by true ls = (b ∷ [], ls, refl)
     by false [] = (b ∷ [], [], refl)
     by false (l ∷ ls) = (b ∷ l, ls, refl)

@@ -2,7 +2,7 @@
 use Rattle.std.specs.Prelude.{◌≡◌, refl, Bool, true, false, List, [], ◌++◌, map, ℕ, length}
 use Rattle.std.proofs.Common.{true≢false, leb-false}
 use Rattle.std.proofs.Math.Option.{Option, none, some}
-use Rattle.laws.specs.Test.{if◌then◌else◌}
+use Rattle.laws.specs.Test.{if◌then◌otherwise◌}
 use Rattle.laws.specs.Lists.{Each}
 use Rattle.rules.specs.Circuit.{Output}
 use Rattle.rules.specs.Edition2.{Table, Line2, Plain, Many, table_node, line2, text_conditions2, safety_conditions2, conditions2, with_line2, read_admitted2, is_edition2, read_either, read_network2, read_run}
@@ -53,7 +53,7 @@ pub either_admissible : (text : List ℕ) (w : Network) → read_either text ≡
 unfolding read_either
 either_admissible text w e = by (is_edition2 text) e
   where
-    by : (b : Bool) → (if b then read_admitted2 text else read_admitted text) ≡ Good w → Admissible w
+    by : (b : Bool) → (if b then read_admitted2 text otherwise read_admitted text) ≡ Good w → Admissible w
     by true f = admitted2_admissible text w f
     by false f = admitted_admissible text w f
 
@@ -70,7 +70,7 @@ pub either_read : (text : List ℕ) (w : Network) → read_either text ≡ Good 
 unfolding read_either read_run
 either_read text w e = by (is_edition2 text) e
   where
-    by : (b : Bool) → (if b then read_admitted2 text else read_admitted text) ≡ Good w → (if b then read_network2 text else read_network text) ≡ Good w
+    by : (b : Bool) → (if b then read_admitted2 text otherwise read_admitted text) ≡ Good w → (if b then read_network2 text otherwise read_network text) ≡ Good w
     by true f = admitted2_read text w f
     by false f = admitted_read text w f
 

@@ -3,7 +3,7 @@ use Rattle.std.specs.Prelude.{◌≡◌, refl, true, false, List, [], ◌∷◌,
 use Rattle.std.proofs.Common.{sym, ap, ap₂, arith}
 use Rattle.std.proofs.Math.Option.{Option, none, some, some-injective, none-ne-some}
 use Rattle.std.proofs.lemmas.Bool.{not-false}
-use Rattle.laws.specs.Test.{if◌then◌else◌, is_some, zero≢one, neither_left}
+use Rattle.laws.specs.Test.{if◌then◌otherwise◌, is_some, zero≢one, neither_left}
 use Rattle.laws.specs.Select.{all}
 use Rattle.rules.specs.declared.Settings.{Settings}
 use Rattle.rules.specs.declared.Stats.{Stats}
@@ -41,7 +41,7 @@ admissions2 = record { form = line2; no_form = 21; conditions = conditions2; wit
 
 -- Condition k of the text's edition holds at line i.
 unfoldable pub EitherHolds : List ℕ → ℕ → ℕ → Type 0
-EitherHolds text k i = if is_edition2 text then Holds admissions2 text k i else Holds admissions text k i
+EitherHolds text k i = if is_edition2 text then Holds admissions2 text k i otherwise Holds admissions text k i
 
 -- The listed conditions.
 unfoldable pub listed : List ℕ

@@ -1,7 +1,7 @@
 -- The tables of centre 0, 1 and 2 are all tables of an admitted network (document 02, S-10).
 use Rattle.std.specs.Prelude.{◌≡◌, refl, List, [], ◌∷◌, ◌++◌, ℕ, zero, suc, ◌+◌, ◌≤◌, eqb}
 use Rattle.std.proofs.Common.{sym, subst, arith}
-use Rattle.laws.specs.Test.{if◌then◌else◌}
+use Rattle.laws.specs.Test.{if◌then◌otherwise◌}
 use Rattle.rules.specs.declared.Stats.{Stats}
 use Rattle.rules.specs.Network.{LutNode, Input, Linear, Bootstrap, is_bootstrap, count, node_centre, has_centre, stats}
 use Rattle.rules.specs.Admission.{admitted, admission}
@@ -13,7 +13,7 @@ use Rattle.theorems.specs.Admissible2.{either_admissible}
 use Rattle.theorems.specs.Centres.{centre_most}
 
 -- a number up to 2 is one of the three
-one_of_three : (c : ℕ) → c ≤ 2 → (if eqb c 0 then 1 else 0) + (if eqb c 1 then 1 else 0) + (if eqb c 2 then 1 else 0) ≡ 1
+one_of_three : (c : ℕ) → c ≤ 2 → (if eqb c 0 then 1 otherwise 0) + (if eqb c 1 then 1 otherwise 0) + (if eqb c 2 then 1 otherwise 0) ≡ 1
 one_of_three zero h = refl
 one_of_three (suc zero) h = refl
 one_of_three (suc (suc zero)) h = refl

@@ -10,7 +10,7 @@ use Rattle.std.proofs.Math.Dec.{T}
 use Rattle.std.proofs.Math.ListN.{length, get_or, get_or-map}
 use Rattle.std.proofs.lemmas.List.{length-map}
 use Rattle.laws.specs.Tabulate.{tabulate-at, tabulate-length}
-use Rattle.laws.specs.Test.{if◌then◌else◌, is_some, lt_or_le, eq-or-ne, T-is, T-not_is, is_T, decide, if_both, allb, allb-at, allb-all, allb_none, neither_left, neither_right}
+use Rattle.laws.specs.Test.{if◌then◌otherwise◌, is_some, lt_or_le, eq-or-ne, T-is, T-not_is, is_T, decide, if_both, allb, allb-at, allb-all, allb_none, neither_left, neither_right}
 use Rattle.rules.specs.declared.Entry.{Entry}
 use Rattle.rules.specs.Rotation.{pair_sum, rotatable}
 use Rattle.rules.specs.Builder.{Entries, known_or, filled, against, opposed_at, opposed, completion, completable, entry_of, remains, remains_at, remains_for_all}
@@ -216,13 +216,13 @@ module _ (P : ℕ) (known : List ℕ) (entries : Entries known) (short : length 
       rw (opposed_low P known i (omega arith), opposed_high P known i short (omega arith)) (opposites _ _ (entries.at i) (entries.at (i + P)) (remains-at 1 t i l)))
 
 -- ---- which of the three is found
-any_found : (a b c : Bool) (x y z : List ℕ) → T a ⊎ (T b ⊎ T c) → T (is_some (if a then some x else if b then some y else if c then some z else none))
+any_found : (a b c : Bool) (x y z : List ℕ) → T a ⊎ (T b ⊎ T c) → T (is_some (if a then some x otherwise if b then some y otherwise if c then some z otherwise none))
 any_found true b c x y z d = tt
 any_found false true c x y z d = tt
 any_found false false true x y z d = tt
 any_found false false false x y z d = ⊎_elim (λ t. t) (λ t. ⊎_elim (λ u. u) (λ u. u) t) d
 
-found_is : (Q : List ℕ → Type 0) (a b c : Bool) (x y z t : List ℕ) → (if a then some x else if b then some y else if c then some z else none) ≡ some t
+found_is : (Q : List ℕ → Type 0) (a b c : Bool) (x y z t : List ℕ) → (if a then some x otherwise if b then some y otherwise if c then some z otherwise none) ≡ some t
     → (T a → Q x) → (T b → Q y) → (T c → Q z) → Q t
 found_is Q true b c x y z t e f g h = subst Q (cc) (f tt)
 found_is Q false true c x y z t e f g h = subst Q (cc) (g tt)
@@ -320,7 +320,7 @@ module _ (P : ℕ) (known : List ℕ) where
   completion-one t is e f = rw (is, e, f)
 
   pub completion-opposed : (t : List ℕ) (r : Bool) → t ≡ opposed P known → r ≡ rotatable P (opposed P known)
-      → rotatable P (filled 0 known) ≡ false → rotatable P (filled 1 known) ≡ false → (if r then some t else none) ≡ completion P known
+      → rotatable P (filled 0 known) ≡ false → rotatable P (filled 1 known) ≡ false → (if r then some t otherwise none) ≡ completion P known
   unfolding completion
   completion-opposed t r is same e f = rw (is, same, e, f)
 

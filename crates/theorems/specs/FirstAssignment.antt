@@ -6,7 +6,7 @@ use Rattle.std.proofs.Math.Option
 use Rattle.std.proofs.Math.Option.{Option, none, some}
 use Rattle.std.proofs.Math.Nat.{two-pow-succ}
 use Rattle.laws.specs.Select.{first_of, or_else, first-append, first-map}
-use Rattle.laws.specs.Test.{if◌then◌else◌, and_left}
+use Rattle.laws.specs.Test.{if◌then◌otherwise◌, and_left}
 use Rattle.rules.specs.Cone.{row_from}
 use Rattle.rules.specs.Composition.{assignments}
 use Rattle.rules.specs.Runs.{all_bits, bits_for}
@@ -93,7 +93,7 @@ outcome : (n : ℕ) (f : List ℕ → Bool) → Outcome n f (first_of f (assignm
 unfolding Outcome first_of assignments
 outcome zero f = by (f []) refl
   where
-    by : (b : Bool) → f [] ≡ b → Outcome 0 f (if b then some [] else none)
+    by : (b : Bool) → f [] ≡ b → Outcome 0 f (if b then some [] otherwise none)
     by true e = record { is_for = bits_nil; meets = e; lowest = bits_none (λ l. f l ≡ true → row_from 0 [] ≤ row_from 0 l) (λ _. omega arith) }
     by false e = bits_none (λ l. f l ≡ false) e
 outcome (suc n) f =

@@ -4,7 +4,7 @@ use Rattle.std.proofs.Math.Path.{refl}
 use Rattle.std.proofs.Common.{◌∙◌}
 use mathlib.Core.List.{List, [], ◌∷◌}
 use Rattle.std.proofs.Math.Option.{Option, none, some}
-use Rattle.laws.specs.Test.{if◌then◌else◌, zero≢one}
+use Rattle.laws.specs.Test.{if◌then◌otherwise◌, zero≢one}
 use Rattle.rules.specs.Form.{Condition, Reading, Good, Refused, judged, on_line, read_lines}
 use Rattle.theorems.specs.Readings.{NoneMet, judged_none, reading}
 use Rattle.theorems.specs.Refusals.{Kind}
@@ -14,7 +14,7 @@ unfolding judged NoneMet
 judged_good i [] next a e = (tt, e)
 judged_good {A} i (c ∷ cs) next a e = by c.met refl e (judged_good i cs next a)
   where
-    by : (t : Bool) → c.met ≡ t → (if t then Refused c.no i else judged i cs next) ≡ Good a
+    by : (t : Bool) → c.met ≡ t → (if t then Refused c.no i otherwise judged i cs next) ≡ Good a
         → (judged i cs next ≡ Good a → NoneMet cs × (next ≡ Good a)) → ((c.met ≡ false) × NoneMet cs) × (next ≡ Good a)
     by true d e ih = absurd (zero≢one (cc))
     by false d e ih = let r = ih e in ((d, r.0), r.1)

@@ -2,7 +2,7 @@
 use Rattle.std.specs.Prelude.{◌≡◌, refl, true, ◌&&◌, Bool, false, List, [], ◌∷◌, ◌++◌, ◌⊎◌, ℕ, suc, ◌<◌, ◌≤◌, ◌+◌, eqb, length, drop}
 use Rattle.std.proofs.Common.{ap₂, ap, sym, inl, inr, ⊎_elim, not-suc-le-zero, le_of_suc-le-suc, arith, eq-eqb, eqb-true, lt-ltb, le-ltb, add-one, length-append, drop_of_length-le}
 use Rattle.laws.specs.Integer.{eq_z_of, eq_z, eq_z_true}
-use Rattle.laws.specs.Test.{zero≢one, both_left, both_right, if◌then◌else◌, lt_or_le}
+use Rattle.laws.specs.Test.{zero≢one, both_left, both_right, if◌then◌otherwise◌, lt_or_le}
 use Rattle.rules.specs.Network.{Term, LutNode, Input, Linear, Bootstrap, count, is_linear, node_at}
 use Rattle.rules.specs.Store.{same_terms, same_node, number_of, intern}
 use Rattle.rules.specs.CircuitText.{same_name}
@@ -57,9 +57,9 @@ unfolding number_of node_at
 number_at n [] h = absurd (not-suc-le-zero h)
 number_at n (m ∷ ms) h = by (same_node n m) refl h (number_at n ms)
   where
-    by : (b : Bool) → same_node n m ≡ b → (if b then 0 else suc (number_of n ms)) < suc (length ms)
+    by : (b : Bool) → same_node n m ≡ b → (if b then 0 otherwise suc (number_of n ms)) < suc (length ms)
         → (number_of n ms < length ms → node_at ms (number_of n ms) ≡ n)
-        → node_at (m ∷ ms) (if b then 0 else suc (number_of n ms)) ≡ n
+        → node_at (m ∷ ms) (if b then 0 otherwise suc (number_of n ms)) ≡ n
     by true e h ih = sym (node_is n m e)
     by false e h ih = ih (le_of_suc-le-suc h)
 
@@ -69,7 +69,7 @@ number_snoc n [] = rw (node_self n) (omega arith)
 number_snoc n (m ∷ ms) = by (same_node n m) (number_snoc n ms)
   where
     by : (b : Bool) → number_of n (ms ++ (n ∷ [])) < length (ms ++ (n ∷ []))
-        → (if b then 0 else suc (number_of n (ms ++ (n ∷ [])))) < suc (length (ms ++ (n ∷ [])))
+        → (if b then 0 otherwise suc (number_of n (ms ++ (n ∷ [])))) < suc (length (ms ++ (n ∷ [])))
     by true h = omega arith
     by false h = omega arith
 
@@ -98,7 +98,7 @@ interned_most x nodes =
     ⊎_elim (λ (h : intern x nodes ≡ nodes). omega (arith, ap length h)) (λ (h : intern x nodes ≡ nodes ++ (x ∷ [])). omega (arith, ap length h, length-append nodes (x ∷ [])))
     (interned x nodes).is
 
-pub interned_sums : (x : LutNode) (nodes : List LutNode) → count is_linear (intern x nodes) ≤ count is_linear nodes + (if is_linear x then 1 else 0)
+pub interned_sums : (x : LutNode) (nodes : List LutNode) → count is_linear (intern x nodes) ≤ count is_linear nodes + (if is_linear x then 1 otherwise 0)
 interned_sums x nodes =
     ⊎_elim (λ (h : intern x nodes ≡ nodes). omega (arith, ap (count is_linear) h))
     (λ (h : intern x nodes ≡ nodes ++ (x ∷ [])). omega (arith, ap (count is_linear) h, count_snoc is_linear nodes x))
@@ -125,7 +125,7 @@ unfolding number_of
 number-new n [] h = rw (node_self n)
 number-new n (m ∷ ms) h = by (same_node n m) h (number-new n ms)
   where
-    by : (b : Bool) → suc (length ms) ≤ (if b then 0 else suc (number_of n ms)) → (length ms ≤ number_of n ms → number_of n (ms ++ (n ∷ [])) ≡ length ms)
-        → (if b then 0 else suc (number_of n (ms ++ (n ∷ [])))) ≡ suc (length ms)
+    by : (b : Bool) → suc (length ms) ≤ (if b then 0 otherwise suc (number_of n ms)) → (length ms ≤ number_of n ms → number_of n (ms ++ (n ∷ [])) ≡ length ms)
+        → (if b then 0 otherwise suc (number_of n (ms ++ (n ∷ [])))) ≡ suc (length ms)
     by true h r = absurd (not-suc-le-zero h)
     by false h r = ap suc (r (le_of_suc-le-suc h))

@@ -4,7 +4,7 @@ use Rattle.std.proofs.Common.{subst, arith, leb-true, eqb→eq, le→leb}
 use mathlib.Core.List.{List, [], ◌∷◌}
 use Rattle.std.proofs.Math.Option.{Option, none, some}
 use Prim.Native.Nat.{ℕ, zero, suc, ◌-◌, ◌≤◌}
-use Rattle.laws.specs.Test.{if◌then◌else◌, and_both, both_left, both_right, zero≢one}
+use Rattle.laws.specs.Test.{if◌then◌otherwise◌, and_both, both_left, both_right, zero≢one}
 use Rattle.laws.specs.Lists.{Each}
 use Rattle.rules.specs.declared.Wire.{Wire}
 use Rattle.rules.specs.declared.Wire.TheVariants.{Const, Node}
@@ -75,7 +75,7 @@ unfolding only Gives
 only_gives Q none g a e = absurd (zero≢one (cc))
 only_gives Q (some t) g a e = by (eqb (length t.rest) 0) e
   where
-    by : (b : Bool) → (if b then some t.value else none) ≡ some a → Q a
+    by : (b : Bool) → (if b then some t.value otherwise none) ≡ some a → Q a
     by true f = subst Q (cc) g
     by false f = absurd (zero≢one (cc))
 
@@ -96,7 +96,7 @@ run-bits [] = tt
 run-bits (b ∷ s) = by (is_bit_byte b) (bit_byte b) (run-bits s)
   where
     by : (t : Bool) → (t ≡ true → T (leb (b - 48) 1)) → T (all_bits (bits_from (run is_bit_byte s)))
-        → T (all_bits (bits_from (if t then b ∷ run is_bit_byte s else [])))
+        → T (all_bits (bits_from (if t then b ∷ run is_bit_byte s otherwise [])))
     by true f r = and_both (leb (b - 48) 1) (all_bits (bits_from (run is_bit_byte s))) (f refl) r
     by false f r = tt
 
@@ -106,7 +106,7 @@ bits_gives s = by (is_bits (run is_bit_byte s))
   where
     by : (t : Bool)
         → Gives (λ b. T (all_bits b))
-        (onward (if t then some (record { value = run is_bit_byte s; rest = drop (length (run is_bit_byte s)) s }) else none) (λ w. give (bits_from w)))
+        (onward (if t then some (record { value = run is_bit_byte s; rest = drop (length (run is_bit_byte s)) s }) otherwise none) (λ w. give (bits_from w)))
     by true = run-bits s
     by false = tt
 
@@ -124,7 +124,7 @@ weight_gives s =
     either_gives GoodWeight _ _ (then_gives GoodWeight (word " " s) _ (λ _ r. then_gives GoodWeight (number r) _ (λ n q. by n q (leb 2 n && leb n 64) refl)))
     (omega arith, omega arith)
   where
-    by : (n : ℕ) (q : List ℕ) (t : Bool) → (leb 2 n && leb n 64) ≡ t → Gives GoodWeight ((if t then give n else (λ s. none)) q)
+    by : (n : ℕ) (q : List ℕ) (t : Bool) → (leb 2 n && leb n 64) ≡ t → Gives GoodWeight ((if t then give n otherwise (λ s. none)) q)
     by n q true e = let h = leb-true 2 n (both_left (leb 2 n) (leb n 64) e) in (omega arith, leb-true n 64 (both_right (leb 2 n) (leb n 64) e))
     by n q false e = tt
 

@@ -5,7 +5,7 @@ use Rattle.std.proofs.Common.{sym, subst, ◌∙◌, true≢false, inl, inr}
 use mathlib.Core.List.{List, [], ◌∷◌, ◌++◌}
 use Rattle.std.proofs.Math.Logic.{⊎_elim}
 use native.Mathlib.Omega.{arith}
-use Rattle.laws.specs.Test.{if◌then◌else◌, lt_or_le}
+use Rattle.laws.specs.Test.{if◌then◌otherwise◌, lt_or_le}
 use Rattle.rules.specs.declared.Stats.{Stats}
 use Rattle.rules.specs.Admission.{admitted, admission}
 use Rattle.rules.specs.Edition2.{read_either}
@@ -31,7 +31,7 @@ Chain nodes (j ∷ k ∷ l) i = (member j (needs (node_at nodes k)) ≡ true) ×
 -- How many of these nodes are `boot` nodes.
 unfoldable pub boots_on : List LutNode → List ℕ → ℕ
 boots_on nodes [] = 0
-boots_on nodes (i ∷ l) = (if is_bootstrap (node_at nodes i) then 1 else 0) + boots_on nodes l
+boots_on nodes (i ∷ l) = (if is_bootstrap (node_at nodes i) then 1 otherwise 0) + boots_on nodes l
 
 -- d is the greatest number of `boot` nodes on a chain that ends in node i.
 pub record LongestChain (nodes : List LutNode) (i d : ℕ) : Type 0 where
@@ -80,11 +80,11 @@ deepest_one f (t ∷ ts) = ⊎_elim (λ (l : rest < f t.node). inr (t.node, memb
 
 -- 1 for a `boot` node
 abbrev boot_at : List LutNode → ℕ → ℕ
-boot_at nodes i = if is_bootstrap (node_at nodes i) then 1 else 0
+boot_at nodes i = if is_bootstrap (node_at nodes i) then 1 otherwise 0
 
 module _ (nodes : List LutNode) (o : Ordered nodes) where
   -- a node is as deep as its source, a `boot` deeper by one
-  link : (j : ℕ) (x : LutNode) → member j (needs x) ≡ true → depth nodes j + (if is_bootstrap x then 1 else 0) ≤ node_depth (depth nodes) x
+  link : (j : ℕ) (x : LutNode) → member j (needs x) ≡ true → depth nodes j + (if is_bootstrap x then 1 otherwise 0) ≤ node_depth (depth nodes) x
   unfolding needs node_depth is_bootstrap member
   link j (Input a) h = absurd (true≢false (sym h))
   link j (Linear c ts) h = let r = deepest_least (depth nodes) ts j h in omega arith
@@ -97,8 +97,8 @@ module _ (nodes : List LutNode) (o : Ordered nodes) where
   boot_deep : (i : ℕ) → i < length nodes → boot_at nodes i ≤ depth nodes i
   boot_deep i l = omega (arith, depth_is nodes o i l, own (node_at nodes i))
     where
-      own : (x : LutNode) → (if is_bootstrap x then 1 else 0) ≤ node_depth (depth nodes) x
-      own x = unfold is_bootstrap node_depth in (elim x as (λ x. (if is_bootstrap x then 1 else 0) ≤ node_depth (depth nodes) x) [ Input a ↦ omega arith | Linear c ts ↦ omega arith | Bootstrap j table ↦ omega arith ])
+      own : (x : LutNode) → (if is_bootstrap x then 1 otherwise 0) ≤ node_depth (depth nodes) x
+      own x = unfold is_bootstrap node_depth in (elim x as (λ x. (if is_bootstrap x then 1 otherwise 0) ≤ node_depth (depth nodes) x) [ Input a ↦ omega arith | Linear c ts ↦ omega arith | Bootstrap j table ↦ omega arith ])
 
   -- ---- No chain has more.
 

@@ -7,7 +7,7 @@ use Rattle.std.proofs.Math.Logic.{⊎_elim}
 use Prim.Native.Nat.{ℕ, zero, suc, ◌+◌, ◌≤◌}
 use native.Mathlib.Omega.{arith}
 use Rattle.laws.specs.Select.{select, any}
-use Rattle.laws.specs.Test.{if◌then◌else◌, T-is, is_T, or_cases, or_by_right, both, both_right}
+use Rattle.laws.specs.Test.{if◌then◌otherwise◌, T-is, is_T, or_cases, or_by_right, both, both_right}
 use Rattle.rules.specs.declared.Entry.{Entry}
 use Rattle.rules.specs.declared.Entry.TheVariants.{Zero, One, Unknown}
 use Rattle.rules.specs.Builder.{remains}
@@ -57,7 +57,7 @@ bit_most One a is = omega arith
 bit_most Unknown a h = h
 
 -- ---- a number among those that are selected
-either : (b t r u w : Bool) → (t ≡ true → w ≡ b) → r ≡ (u && w) → (if b then t || r else r) ≡ ((t || u) && w)
+either : (b t r u w : Bool) → (t ≡ true → w ≡ b) → r ≡ (u && w) → (if b then t || r otherwise r) ≡ ((t || u) && w)
 either true true r u w f e = sym (f refl)
 either true false r u w f e = e
 either false true r u w f e = e ∙ rw (f refl) (none u)
@@ -73,7 +73,7 @@ among_selected s f [] = refl
 among_selected s f (x ∷ l) =
     by (f x) ∙ either (f x) (eqb s x) (any (eqb s) (select f l)) (any (eqb s) l) (f s) (λ e. ap f (eqb-true s x e)) (among_selected s f l)
   where
-    by : (b : Bool) → any (eqb s) (if b then x ∷ select f l else select f l) ≡ (if b then eqb s x || any (eqb s) (select f l) else any (eqb s) (select f l))
+    by : (b : Bool) → any (eqb s) (if b then x ∷ select f l otherwise select f l) ≡ (if b then eqb s x || any (eqb s) (select f l) otherwise any (eqb s) (select f l))
     by true = refl
     by false = refl
 

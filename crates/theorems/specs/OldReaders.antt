@@ -2,7 +2,7 @@
 use Rattle.std.specs.Prelude.{◌≡◌, refl, Bool, true, false, List, [], ◌∷◌, ◌++◌, ℕ, eqb, ℤ}
 use Rattle.std.proofs.Common.{ap, ap₂, ◌∙◌, eqb-true}
 use Rattle.std.proofs.Math.Option.{Option, none, some, some-injective}
-use Rattle.laws.specs.Test.{if◌then◌else◌, is_some, zero≢one}
+use Rattle.laws.specs.Test.{if◌then◌otherwise◌, is_some, zero≢one}
 use Rattle.rules.specs.Edition2.{is_edition2}
 use Rattle.rules.specs.Form.{bytes, Piece, before, lines, onward, either, only, exactly, in_line, out_line_lem, Condition, Refused, on_line, read_lines}
 use Rattle.rules.specs.NetworkText.{NetworkLine, NetPrefix, net_line, lin_line, boot_line, network_line, text_conditions, admission_conditions, with_network_line, network_ended, no_network, read_network, read_admitted}
@@ -25,7 +25,7 @@ word_back [] s p e = ap (λ (q : Piece (Unit {0})). q.rest) (some-injective _ p 
 word_back (w ∷ ws) [] p e = absurd (zero≢one (cc))
 word_back (w ∷ ws) (b ∷ s) p e = by (eqb b w) refl e (word_back ws s p)
   where
-    by : (c : Bool) → eqb b w ≡ c → (if c then exactly ws s else none) ≡ some p → (exactly ws s ≡ some p → s ≡ ws ++ p.rest) → b ∷ s ≡ w ∷ (ws ++ p.rest)
+    by : (c : Bool) → eqb b w ≡ c → (if c then exactly ws s otherwise none) ≡ some p → (exactly ws s ≡ some p → s ≡ ws ++ p.rest) → b ∷ s ≡ w ∷ (ws ++ p.rest)
     by true f e r = ap₂ {C = List ℕ} (λ x l. x ∷ l) (eqb-true b w f) (r e)
     by false f e r = absurd (zero≢one (cc))
 

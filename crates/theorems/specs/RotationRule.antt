@@ -15,7 +15,7 @@ use Rattle.std.proofs.Math.Seq.{drop-length, take-length}
 use Rattle.std.specs.Int.Signed.{quot_z}
 use Rattle.laws.specs.Integer.{plus, minus, add_parts, sub_parts, ints, plus_neg, minus_neg}
 use Rattle.laws.specs.Tabulate.{tabulate, tabulate-at, tabulate-length}
-use Rattle.laws.specs.Test.{if◌then◌else◌, is_some, allb, allb-at, allb-all, lt_or_le, eqb_of, T-is}
+use Rattle.laws.specs.Test.{if◌then◌otherwise◌, is_some, allb, allb-at, allb-all, lt_or_le, eqb_of, T-is}
 use Rattle.rules.specs.Rotation.{turn, turned, Rotatable, pair_sum, same_sum, centre, rotatable, coefficient, rotated_by, rotated}
 
 -- ---- v turns, for v up to P and past it
@@ -46,7 +46,7 @@ turned_high P v s e l h =
     ∙ rw (turned-plus, whole, turned_low (v - P) (map neg_ℤ s) (rw length-map (omega arith))) (get_or-map neg_ℤ s (v - P) (pos 0))
 
 -- ---- the decision, by its tests
-by_some : (b : Bool) (c : ℕ) → is_some (if b then some c else none) ≡ b
+by_some : (b : Bool) (c : ℕ) → is_some (if b then some c otherwise none) ≡ b
 by_some true c = refl
 by_some false c = refl
 
@@ -59,7 +59,7 @@ module _ (P : ℕ) (bits : List ℕ) where
   unfolding centre
   centre_long h = rw (lt-leb (length bits) P (omega arith), lt-ltb (2 * P) (length bits) h)
 
-  centre_pairs : P < length bits → length bits ≤ 2 * P → centre P bits ≡ (if allb (length bits - P) (same_sum P bits) then some (pair_sum P bits 0) else none)
+  centre_pairs : P < length bits → length bits ≤ 2 * P → centre P bits ≡ (if allb (length bits - P) (same_sum P bits) then some (pair_sum P bits 0) otherwise none)
   unfolding centre
   centre_pairs l h = rw (lt-leb (length bits) P l, le-ltb (2 * P) (length bits) h)
 

@@ -4,38 +4,38 @@ use Rattle.std.proofs.Common.{⊎_elim, not-suc-le-zero, le_of_suc-le-suc, add-o
 use Rattle.std.proofs.Math.Seq.{drop-cons}
 use Rattle.std.specs.Int.Signed.{lt_z}
 use Rattle.laws.specs.Integer.{ints, abs_parts, sub_parts, one_part_zero}
-use Rattle.laws.specs.Test.{if◌then◌else◌, if_both, decide}
+use Rattle.laws.specs.Test.{if◌then◌otherwise◌, if_both, decide}
 use Rattle.rules.specs.Span.{least_from, greatest_from, least, greatest, span}
 
 -- the smaller and the larger of two
 module _ (m v : ℤ) where
-  smaller : ((if lt_z v m then v else m) ≤ℤ m) × ((if lt_z v m then v else m) ≤ℤ v)
+  smaller : ((if lt_z v m then v otherwise m) ≤ℤ m) × ((if lt_z v m then v otherwise m) ≤ℤ v)
   smaller = ⊎_elim (λ e. rw e (omega (arith, ints))) (λ e. rw e (omega (arith, ints))) (decide (lt_z v m))
 
-  larger : (m ≤ℤ (if lt_z m v then v else m)) × (v ≤ℤ (if lt_z m v then v else m))
+  larger : (m ≤ℤ (if lt_z m v then v otherwise m)) × (v ≤ℤ (if lt_z m v then v otherwise m))
   larger = ⊎_elim (λ e. rw e (omega (arith, ints))) (λ e. rw e (omega (arith, ints))) (decide (lt_z m v))
 
 least_from_le : (m : ℤ) (vs : List ℤ) → least_from m vs ≤ℤ m
 unfolding least_from
 least_from_le m [] = omega (arith, ints)
-least_from_le m (v ∷ vs) = omega (arith, ints, least_from_le (if lt_z v m then v else m) vs, (smaller m v).0)
+least_from_le m (v ∷ vs) = omega (arith, ints, least_from_le (if lt_z v m then v otherwise m) vs, (smaller m v).0)
 
 least_from-at : (m : ℤ) (vs : List ℤ) (i : ℕ) → i < length vs → least_from m vs ≤ℤ get_or vs i (pos 0)
 unfolding least_from
 least_from-at m [] i h = absurd (not-suc-le-zero h)
-least_from-at m (v ∷ vs) zero h = omega (arith, ints, least_from_le (if lt_z v m then v else m) vs, (smaller m v).1)
-least_from-at m (v ∷ vs) (suc i) h = least_from-at (if lt_z v m then v else m) vs i (le_of_suc-le-suc h)
+least_from-at m (v ∷ vs) zero h = omega (arith, ints, least_from_le (if lt_z v m then v otherwise m) vs, (smaller m v).1)
+least_from-at m (v ∷ vs) (suc i) h = least_from-at (if lt_z v m then v otherwise m) vs i (le_of_suc-le-suc h)
 
 le_greatest_from : (m : ℤ) (vs : List ℤ) → m ≤ℤ greatest_from m vs
 unfolding greatest_from
 le_greatest_from m [] = omega (arith, ints)
-le_greatest_from m (v ∷ vs) = omega (arith, ints, le_greatest_from (if lt_z m v then v else m) vs, (larger m v).0)
+le_greatest_from m (v ∷ vs) = omega (arith, ints, le_greatest_from (if lt_z m v then v otherwise m) vs, (larger m v).0)
 
 at-greatest_from : (m : ℤ) (vs : List ℤ) (i : ℕ) → i < length vs → get_or vs i (pos 0) ≤ℤ greatest_from m vs
 unfolding greatest_from
 at-greatest_from m [] i h = absurd (not-suc-le-zero h)
-at-greatest_from m (v ∷ vs) zero h = omega (arith, ints, le_greatest_from (if lt_z m v then v else m) vs, (larger m v).1)
-at-greatest_from m (v ∷ vs) (suc i) h = at-greatest_from (if lt_z m v then v else m) vs i (le_of_suc-le-suc h)
+at-greatest_from m (v ∷ vs) zero h = omega (arith, ints, le_greatest_from (if lt_z m v then v otherwise m) vs, (larger m v).1)
+at-greatest_from m (v ∷ vs) (suc i) h = at-greatest_from (if lt_z m v then v otherwise m) vs i (le_of_suc-le-suc h)
 
 pub least_le : (values : List ℤ) (i : ℕ) → i < length values → least values ≤ℤ get_or values i (pos 0)
 unfolding least
@@ -53,12 +53,12 @@ le_greatest (v ∷ vs) (suc i) h = at-greatest_from v vs i (le_of_suc-le-suc h)
 least_from_bound : (b m : ℤ) (vs : List ℤ) → b ≤ℤ m → ((i : ℕ) → i < length vs → b ≤ℤ get_or vs i (pos 0)) → b ≤ℤ least_from m vs
 unfolding least_from
 least_from_bound b m [] h f = h
-least_from_bound b m (v ∷ vs) h f = least_from_bound b (if lt_z v m then v else m) vs (if_both (λ x. b ≤ℤ x) (lt_z v m) (f 0 (omega arith)) h) (λ i l. f (suc i) (omega arith))
+least_from_bound b m (v ∷ vs) h f = least_from_bound b (if lt_z v m then v otherwise m) vs (if_both (λ x. b ≤ℤ x) (lt_z v m) (f 0 (omega arith)) h) (λ i l. f (suc i) (omega arith))
 
 greatest_from_bound : (b m : ℤ) (vs : List ℤ) → m ≤ℤ b → ((i : ℕ) → i < length vs → get_or vs i (pos 0) ≤ℤ b) → greatest_from m vs ≤ℤ b
 unfolding greatest_from
 greatest_from_bound b m [] h f = h
-greatest_from_bound b m (v ∷ vs) h f = greatest_from_bound b (if lt_z m v then v else m) vs (if_both (λ x. x ≤ℤ b) (lt_z m v) (f 0 (omega arith)) h) (λ i l. f (suc i) (omega arith))
+greatest_from_bound b m (v ∷ vs) h f = greatest_from_bound b (if lt_z m v then v otherwise m) vs (if_both (λ x. x ≤ℤ b) (lt_z m v) (f 0 (omega arith)) h) (λ i l. f (suc i) (omega arith))
 
 pub least_bound : (b : ℤ) (values : List ℤ) → 0 < length values → ((i : ℕ) → i < length values → b ≤ℤ get_or values i (pos 0)) → b ≤ℤ least values
 unfolding least
@@ -98,12 +98,12 @@ greatest_start [] h = absurd (not-suc-le-zero h)
 greatest_start (v ∷ vs) h = refl
 
 module _ (values : List ℤ) (m : ℤ) (i : ℕ) where
-  pub least-turn : (x r : ℤ) → i < length values → x ≡ get_or values i (pos 0) → r ≡ (if lt_z x m then x else m)
+  pub least-turn : (x r : ℤ) → i < length values → x ≡ get_or values i (pos 0) → r ≡ (if lt_z x m then x otherwise m)
       → least_from r (drop (i + 1) values) ≡ least_from m (drop i values)
   unfolding least_from
   least-turn x r h e f = rw (add-one, drop-cons values i (pos 0) h, f, e)
 
-  pub greatest-turn : (x r : ℤ) → i < length values → x ≡ get_or values i (pos 0) → r ≡ (if lt_z m x then x else m)
+  pub greatest-turn : (x r : ℤ) → i < length values → x ≡ get_or values i (pos 0) → r ≡ (if lt_z m x then x otherwise m)
       → greatest_from r (drop (i + 1) values) ≡ greatest_from m (drop i values)
   unfolding greatest_from
   greatest-turn x r h e f = rw (add-one, drop-cons values i (pos 0) h, f, e)

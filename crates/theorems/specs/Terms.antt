@@ -5,7 +5,7 @@ use Rattle.std.proofs.Common.{sym, ap, ◌∙◌, arith, eqb-true}
 use Rattle.std.proofs.lemmas.Bool.{not-false}
 use Rattle.std.proofs.lemmas.List.{length-map}
 use Rattle.laws.specs.Select.{select}
-use Rattle.laws.specs.Test.{if◌then◌else◌}
+use Rattle.laws.specs.Test.{if◌then◌otherwise◌}
 use Rattle.rules.specs.Network.{Term}
 use Rattle.rules.specs.Store.{is_used}
 use Rattle.rules.specs.NetworkText.{sources}
@@ -47,8 +47,8 @@ coefs_used (c ∷ cs) [] e = absurd (omega arith)
 coefs_used (c ∷ cs) (n ∷ ns) e = by (not (eqb (nat_abs c) 0)) (coefs_used cs ns (omega arith))
   where
     by : (b : Bool) → coefs (select is_used (terms_over cs ns)) ≡ select is_nonzero cs
-        → coefs (if b then record { coef = c; node = n } ∷ select is_used (terms_over cs ns) else select is_used (terms_over cs ns))
-        ≡ (if b then c ∷ select is_nonzero cs else select is_nonzero cs)
+        → coefs (if b then record { coef = c; node = n } ∷ select is_used (terms_over cs ns) otherwise select is_used (terms_over cs ns))
+        ≡ (if b then c ∷ select is_nonzero cs otherwise select is_nonzero cs)
     by true r = ap {B = List ℤ} (λ l. c ∷ l) r
     by false r = r
 

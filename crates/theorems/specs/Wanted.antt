@@ -6,7 +6,7 @@ use Rattle.std.proofs.Math.Bool.{true, false}
 use Rattle.std.proofs.Math.Logic.{⊎_elim}
 use Prim.Native.Nat.{ℕ, zero, suc, ◌≤◌, ◌<◌}
 use native.Mathlib.Omega.{arith}
-use Rattle.laws.specs.Test.{if◌then◌else◌, if_both, lt_or_le}
+use Rattle.laws.specs.Test.{if◌then◌otherwise◌, if_both, lt_or_le}
 use Rattle.rules.specs.Network.{LutNode, member, node_at}
 use Rattle.rules.specs.Store.{needs, wanted_below}
 use Rattle.theorems.specs.EarlierNodes.{Ordered}
@@ -25,7 +25,7 @@ module _ (nodes : List LutNode) (earlier : Ordered nodes) where
   wanted_above zero w j l g h = h
   wanted_above (suc i) w j l g h = by (member i w) (wanted_above i _ j (omega arith) (omega arith) h)
     where
-      by : (b : Bool) → member j (if b then needs (node_at nodes i) ++ w else w) ≡ true → member j w ≡ true
+      by : (b : Bool) → member j (if b then needs (node_at nodes i) ++ w otherwise w) ≡ true → member j w ≡ true
       by true k =
           ⊎_elim (λ (e : member j (needs (node_at nodes i)) ≡ true). let r = earlier i l j e in absurd (omega arith)) (λ e. e)
           (member-either j (needs (node_at nodes i)) w k)
@@ -37,8 +37,8 @@ module _ (nodes : List LutNode) (earlier : Ordered nodes) where
   unfolding wanted_below
   wanted_last i w l h j k = by (member i w) refl h
     where
-      by : (b : Bool) → member i w ≡ b → member i (wanted_below i nodes (if b then needs (node_at nodes i) ++ w else w)) ≡ true
-          → member j (wanted_below i nodes (if b then needs (node_at nodes i) ++ w else w)) ≡ true
+      by : (b : Bool) → member i w ≡ b → member i (wanted_below i nodes (if b then needs (node_at nodes i) ++ w otherwise w)) ≡ true
+          → member j (wanted_below i nodes (if b then needs (node_at nodes i) ++ w otherwise w)) ≡ true
       by true e m = wanted_stays nodes i (needs (node_at nodes i) ++ w) j (member-left j (needs (node_at nodes i)) w k)
       by false e m = absurd (true≢false (sym (wanted_above i w i (omega arith) (omega arith) m) ∙ e))
 

@@ -10,7 +10,7 @@ use Rattle.std.proofs.Math.Seq.{take_all}
 use Rattle.laws.specs.Digits.{digits, digits-length}
 use Rattle.laws.specs.Integer.{ints, abs_parts, add_parts}
 use Rattle.laws.specs.Select.{select, any}
-use Rattle.laws.specs.Test.{if◌then◌else◌}
+use Rattle.laws.specs.Test.{if◌then◌otherwise◌}
 use Rattle.rules.specs.Composition.{assigned}
 use Rattle.rules.specs.Cone.{row_from, linear_table}
 use Rattle.rules.specs.Network.{Term, LutNode, norm}
@@ -36,7 +36,7 @@ weigh_selected f (t ∷ ts) = by (is_used t) refl (weigh_selected f ts)
     used = select is_used ts
 
     by : (u : Bool) → is_used t ≡ u → weigh (coefs used) (map f (sources used)) ≡ weigh (coefs ts) (map f (sources ts))
-        → weigh (coefs (if u then t ∷ used else used)) (map f (sources (if u then t ∷ used else used))) ≡ weigh (t.coef ∷ coefs ts) (f t.node ∷ map f (sources ts))
+        → weigh (coefs (if u then t ∷ used otherwise used)) (map f (sources (if u then t ∷ used otherwise used))) ≡ weigh (t.coef ∷ coefs ts) (f t.node ∷ map f (sources ts))
     by true e r = weigh-rest t.coef (coefs used) (coefs ts) (f t.node) (map f (sources used)) (map f (sources ts)) r
     by false e r = r ∙ sym (weigh_unused t.coef (coefs ts) (f t.node) (map f (sources ts)) (unused_zero t e))
 
@@ -80,7 +80,7 @@ any_selected p (t ∷ ts) = by (is_used t) refl (any_selected p ts) (any_selecte
 
     by : (u : Bool) → is_used t ≡ u → any p (linear_table (coefs used)) ≡ any p (linear_table (coefs ts))
         → any (λ v. p (t.coef +ℤ v)) (linear_table (coefs used)) ≡ any (λ v. p (t.coef +ℤ v)) (linear_table (coefs ts))
-        → any p (linear_table (coefs (if u then t ∷ used else used))) ≡ any p (linear_table (t.coef ∷ coefs ts))
+        → any p (linear_table (coefs (if u then t ∷ used otherwise used))) ≡ any p (linear_table (t.coef ∷ coefs ts))
     by true e r s = any-values p t.coef (coefs used) ∙ rw (r, s) (sym (any-values p t.coef (coefs ts)))
     by false e r s =
         r ∙ sym (any-values p t.coef (coefs ts) ∙ rw (any_zero p t.coef (unused_zero t e) (linear_table (coefs ts))) (either_same (any p (linear_table (coefs ts)))))
@@ -94,7 +94,7 @@ module _ (F : List Term → ℕ) (none : (t : Term) (ts : List Term) → nat_abs
   used_same [] = refl
   used_same (t ∷ ts) = by (is_used t) refl (used_same ts)
     where
-      by : (u : Bool) → is_used t ≡ u → F (select is_used ts) ≡ F ts → F (if u then t ∷ select is_used ts else select is_used ts) ≡ F (t ∷ ts)
+      by : (u : Bool) → is_used t ≡ u → F (select is_used ts) ≡ F ts → F (if u then t ∷ select is_used ts otherwise select is_used ts) ≡ F (t ∷ ts)
       by true e r = same t (select is_used ts) ts r
       by false e r = r ∙ sym (none t ts (unused_zero t e))
 

@@ -5,7 +5,7 @@ use borrow.Author.Tests.{eq-eqb, ne_eqb}
 use Rattle.std.proofs.Common.{drop_of_length-le}
 use Rattle.std.proofs.Math.ListN.{get_or-eq_default}
 use Rattle.std.proofs.Math.Seq.{drop-cons}
-use Rattle.laws.specs.Test.{if◌then◌else◌}
+use Rattle.laws.specs.Test.{if◌then◌otherwise◌}
 use Rattle.vectors.specs.declared.Token.{Token}
 
 unfoldable pub is_digit : ℕ → Bool
@@ -27,19 +27,19 @@ module _ (b : ℕ) (r : Bool) (e : r ≡ is_digit b) where
 -- From the place i on: where the first byte stands that starts a number, or the end.
 unfoldable pub skip_from : ℕ → List ℕ → ℕ
 skip_from i [] = i
-skip_from i (b ∷ s) = let r = skip_from (i + 1) s in if starts_number b then i else r
+skip_from i (b ∷ s) = let r = skip_from (i + 1) s in if starts_number b then i otherwise r
 
 unfoldable pub skipped : List ℕ → ℕ → ℕ
 skipped text i = skip_from i (drop i text)
 
 -- One digit more, which is the byte modulo 16; where that would not fit, the value stays.
 abbrev pub with_digit : ℕ → ℕ → ℕ
-with_digit v b = if ltb v 1000000000000000000 then 10 * v + b % 16 else v
+with_digit v b = if ltb v 1000000000000000000 then 10 * v + b % 16 otherwise v
 
 -- The digits from the place i on, behind those that make v.
 unfoldable pub digits_from : Bool → ℕ → ℕ → List ℕ → Token
 digits_from n v i [] = record { value = v; negative = n; next = i }
-digits_from n v i (b ∷ s) = let r = digits_from n (with_digit v b) (i + 1) s in if is_digit b then r else record { value = v; negative = n; next = i }
+digits_from n v i (b ∷ s) = let r = digits_from n (with_digit v b) (i + 1) s in if is_digit b then r otherwise record { value = v; negative = n; next = i }
 
 unfoldable pub digits_at : List ℕ → Bool → ℕ → ℕ → Token
 digits_at text n v i = digits_from n v i (drop i text)
@@ -48,14 +48,14 @@ digits_at text n v i = digits_from n v i (drop i text)
 unfoldable pub next_token : List ℕ → ℕ → Token
 next_token text from =
     let at = skipped text from in
-    if eqb (get_or text at 0) 45 then digits_at text true 0 (at + 1) else digits_at text false 0 at
+    if eqb (get_or text at 0) 45 then digits_at text true 0 (at + 1) otherwise digits_at text false 0 at
 
 -- A 32-bit value; the least one where a number is too large.
 unfoldable pub signed_of : Token → ℤ
 signed_of t =
     if ltb 2147483647 t.value then negsuc 2147483647
-    else if t.negative then neg_ℤ (pos t.value)
-    else pos t.value
+    otherwise if t.negative then neg_ℤ (pos t.value)
+    otherwise pos t.value
 
 module _ (text : List ℕ) (i : ℕ) where
   module _ (h : i < length text) where

@@ -5,18 +5,18 @@ use Rattle.std.proofs.Common.{◌∙◌, arith}
 use Rattle.std.proofs.lemmas.List.{length-map}
 use Rattle.std.proofs.Math.ListN.{get_or-map}
 use Rattle.laws.specs.Front.{front, front_zero, front_get, front-all, front-step}
-use Rattle.laws.specs.Test.{if◌then◌else◌}
+use Rattle.laws.specs.Test.{if◌then◌otherwise◌}
 use Rattle.vectors.specs.declared.Token.{Token}
 use Rattle.vectors.specs.Token.{skipped, next_token}
 use Rattle.vectors.specs.Tokens.{tokens_from, place_after, tokens_length, token_at}
 
 -- A byte, 255 where a number is too large.
 unfoldable pub byte_of : Token → ℕ
-byte_of t = if ltb t.value 256 then t.value else 255
+byte_of t = if ltb t.value 256 then t.value otherwise 255
 
 -- A byte 0 or 1 as a digit.
 unfoldable pub shown_byte : ℕ → ℕ
-shown_byte b = if ltb b 2 then 48 + b else b
+shown_byte b = if ltb b 2 then 48 + b otherwise b
 
 -- Behind a count and as many numbers, at most 64.
 unfoldable pub after_list : List ℕ → ℕ → ℕ

@@ -8,7 +8,7 @@ use Rattle.std.proofs.Math.ListN.{length, get_or, take, length-map}
 use Rattle.std.proofs.Math.Seq.{ext_get_or}
 use Rattle.laws.specs.Over.{over, take-over}
 use Rattle.laws.specs.Tail.{take-replicate}
-use Rattle.laws.specs.Test.{if◌then◌else◌}
+use Rattle.laws.specs.Test.{if◌then◌otherwise◌}
 use Rattle.rules.specs.Builder.{known_entries, enter}
 use Rattle.rules.specs.Composition.{union_support}
 use Rattle.rules.specs.Cone as rules
@@ -91,7 +91,7 @@ pub known_same : (ws vs : List ℤ) (truth known : List ℕ) (rows n size : ℕ)
 known_same ws vs truth known rows n size e f g h = rw (← e, ← f) (rw (← e) at (rw g at h))
 
 pub known_rows : (values : List ℤ) (truth part known : List ℕ) (low : ℤ) (size : ℕ) (one : Bool) → low ≡ least values → size ≡ span values → size ≤ 32 → part ≡ take size known
-    → (if one then some part else none) ≡ enter low values truth (take size (replicate 32 2)) → one ≡ true → known_entries values truth ≡ some (take size known)
+    → (if one then some part otherwise none) ≡ enter low values truth (take size (replicate 32 2)) → one ≡ true → known_entries values truth ≡ some (take size known)
 unfolding known_entries
 known_rows values truth part known low size one e f l g h t =
     let k : some part ≡ enter low values truth (take size (replicate 32 2)) = rw t at h in

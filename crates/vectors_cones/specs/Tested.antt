@@ -5,7 +5,7 @@ use Rattle.std.proofs.Math.ListN.{get_or-eq_default}
 use Rattle.std.specs.Int.Signed.{lt_z}
 use Rattle.std.specs.Int.{w32, w64}
 use Rattle.laws.specs.Integer.{plus, minus, abs_parts, one_part_zero, lt_z_false}
-use Rattle.laws.specs.Test.{if◌then◌else◌, eq-or-ne, lt_or_le}
+use Rattle.laws.specs.Test.{if◌then◌otherwise◌, eq-or-ne, lt_or_le}
 use Rattle.rules.specs.Network.{member}
 use Rattle.rules.specs.NetworkText.{all_different}
 use Rattle.scale.specs.Limits.{Within}
@@ -69,4 +69,4 @@ all-different l i e h = positions_different l (λ k q. h k (omega arith))
 
 -- a test that failed says nothing
 pub never : {X : Type 0} → false ≡ true → X
-never e = absurd (subst (λ b. if b then Unit {0} else ⊥) (sym e) tt)
+never e = absurd (subst (λ b. if b then Unit {0} otherwise ⊥) (sym e) tt)

@@ -5,14 +5,14 @@ use Rattle.std.proofs.Common.{subst, ◌∙◌, le-leb, eq-eqb, ne_eqb}
 use Rattle.std.proofs.lemmas.Bool.{lt-leb}
 use Rattle.laws.specs.Front.{front, front-all, front-step}
 use Rattle.laws.specs.Tabulate.{tabulate, tabulate-length, tabulate-at}
-use Rattle.laws.specs.Test.{if◌then◌else◌, allb, allb_fails, allb_more, allb_none}
+use Rattle.laws.specs.Test.{if◌then◌otherwise◌, allb, allb_fails, allb_more, allb_none}
 
 unfoldable pub untouched : ℕ → List ℕ
 untouched n = tabulate n (λ _. 165)
 
 -- A byte at a place before `from`, or one that is as it was.
 abbrev pub left_at : ℕ → ℕ → ℕ → Bool
-left_at from b i = if ltb i from then true else eqb b 165
+left_at from b i = if ltb i from then true otherwise eqb b 165
 
 unfoldable pub kept_at : List ℕ → ℕ → ℕ → Bool
 kept_at out from i = left_at from (get_or out i 0) i
@@ -26,7 +26,7 @@ same_at network out i = eqb (get_or network i 0) (get_or out i 0)
 
 -- The buffer begins with the network.
 unfoldable pub begins : List ℕ → List ℕ → Bool
-begins network out = if leb (length network) (length out) then allb (length network) (same_at network out) else false
+begins network out = if leb (length network) (length out) then allb (length network) (same_at network out) otherwise false
 
 -- ---- A loop that fills byte after byte.
 module _ (l t : List ℕ) (i : ℕ) where

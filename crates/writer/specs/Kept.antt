@@ -4,7 +4,7 @@ use Rattle.std.proofs.Common.{sym, ap, ap₂, subst, ◌∙◌, ⊎_elim, add-ze
 use Rattle.std.proofs.Math.Nat.{zero-add}
 use native.Mathlib.Omega.{arith}
 use Rattle.std.proofs.Math.ListN.{get_or}
-use Rattle.laws.specs.Test.{if◌then◌else◌, decide}
+use Rattle.laws.specs.Test.{if◌then◌otherwise◌, decide}
 use Rattle.rules.specs.Network.{Term, LutNode, Input, Linear, Bootstrap, member, node_at}
 use Rattle.rules.specs.NetworkText.{sources}
 use Rattle.rules.specs.Store.{needs, wanted_below, renumbered, renumbered_term, renumbered_node, kept_from}
@@ -16,7 +16,7 @@ use Rattle.writer.specs.Live.{new_number, new_term, new_node, live_from, live_no
 
 -- `live` numbers the nodes that are kept
 unfoldable pub Numbered : List ℕ → List ℕ → ℕ → Type 0
-Numbered kept live count = (i : ℕ) → i < count → get_or live i 0 ≡ (if member i kept then renumbered kept i + 1 else 0)
+Numbered kept live count = (i : ℕ) → i < count → get_or live i 0 ≡ (if member i kept then renumbered kept i + 1 otherwise 0)
 
 -- what a kept node needs is kept
 pub record Closed (kept bytes : List ℕ) (count : ℕ) : Type 0 where
@@ -66,23 +66,23 @@ same_node kept live (Bootstrap i table) h = ap (λ k. Bootstrap k table) (h i (m
 -- ---- laws: the nodes
 
 same_from : (kept live : List ℕ) (i : ℕ) (xs : List LutNode)
-    → ((k : ℕ) → k < length xs → get_or live (i + k) 0 ≡ (if member (i + k) kept then renumbered kept (i + k) + 1 else 0))
+    → ((k : ℕ) → k < length xs → get_or live (i + k) 0 ≡ (if member (i + k) kept then renumbered kept (i + k) + 1 otherwise 0))
     → ((k : ℕ) → k < length xs → member (i + k) kept ≡ true → new_node live (node_at xs k) ≡ renumbered_node kept (node_at xs k))
     → live_from live i xs ≡ kept_from kept i xs
 unfolding live_from kept_from node_at
 same_from kept live i [] f g = refl
 same_from kept live i (x ∷ xs) f g =
     by (member i kept) refl (rw add-zero at (f 0 (omega arith))) (λ m. g 0 (omega arith) (rw add-zero m))
-    (same_from kept live (i + 1) xs (λ k l. subst (λ v. get_or live v 0 ≡ (if member v kept then renumbered kept v + 1 else 0)) (up k) (f (suc k) (omega arith)))
+    (same_from kept live (i + 1) xs (λ k l. subst (λ v. get_or live v 0 ≡ (if member v kept then renumbered kept v + 1 otherwise 0)) (up k) (f (suc k) (omega arith)))
     (λ k l m. g (suc k) (omega arith) (subst (λ v. member v kept ≡ true) (sym (up k)) m)))
   where
     up : (k : ℕ) → i + suc k ≡ i + 1 + k
     up k = omega arith
 
-    by : (b : Bool) → member i kept ≡ b → get_or live i 0 ≡ (if b then renumbered kept i + 1 else 0) → (member i kept ≡ true → new_node live x ≡ renumbered_node kept x)
+    by : (b : Bool) → member i kept ≡ b → get_or live i 0 ≡ (if b then renumbered kept i + 1 otherwise 0) → (member i kept ≡ true → new_node live x ≡ renumbered_node kept x)
         → live_from live (i + 1) xs ≡ kept_from kept (i + 1) xs
-        → (if eqb (get_or live i 0) 0 then live_from live (i + 1) xs else new_node live x ∷ live_from live (i + 1) xs)
-        ≡ (if b then renumbered_node kept x ∷ kept_from kept (i + 1) xs else kept_from kept (i + 1) xs)
+        → (if eqb (get_or live i 0) 0 then live_from live (i + 1) xs otherwise new_node live x ∷ live_from live (i + 1) xs)
+        ≡ (if b then renumbered_node kept x ∷ kept_from kept (i + 1) xs otherwise kept_from kept (i + 1) xs)
     by true m e s r = rw (ne_eqb (get_or live i 0) 0 (λ z. omega arith)) (ap₂ {C = List LutNode} (λ y l. y ∷ l) (s m) r)
     by false m e s r = rw (eq-eqb (get_or live i 0) 0 e) r
 

@@ -2,7 +2,7 @@
 use Rattle.std.specs.Prelude.{◌≡◌, refl, Bool, true, false, List, [], ◌∷◌, ◌++◌, map, ℕ, suc, ◌+◌, ◌-◌, ◌<◌, ◌≤◌, eqb, ℤ, pos, nat_abs, length, get_or, drop}
 use Rattle.std.proofs.Common.{sym, ap, ap₂, ◌∙◌, arith, eq-eqb, ne_eqb, drop_of_length-le, drop-cons}
 use Rattle.std.proofs.Math.Numerals.{add-one}
-use Rattle.laws.specs.Test.{if◌then◌else◌}
+use Rattle.laws.specs.Test.{if◌then◌otherwise◌}
 use Rattle.rules.specs.Form.{bytes}
 use Rattle.rules.specs.Network.{Term, LutNode, Input, Linear, Bootstrap, is_linear, weight_of}
 use Rattle.rules.specs.Store.{needs, terms_of}
@@ -28,7 +28,7 @@ new_node live (Bootstrap i table) = Bootstrap (new_number live i) table
 -- the live ones of the nodes from number i on
 unfoldable pub live_from : List ℕ → ℕ → List LutNode → List LutNode
 live_from live i [] = []
-live_from live i (n ∷ ns) = let r = live_from live (i + 1) ns in if eqb (get_or live i 0) 0 then r else new_node live n ∷ r
+live_from live i (n ∷ ns) = let r = live_from live (i + 1) ns in if eqb (get_or live i 0) 0 then r otherwise new_node live n ∷ r
 
 unfoldable pub live_nodes : List ℕ → List ℕ → ℕ → List LutNode
 live_nodes live bytes count = live_from live 0 (store_of bytes count)
@@ -131,7 +131,7 @@ module _ (live : List ℕ) (n : LutNode) (b : Boot live n) {l : List ℕ} (e : l
 
 -- the line of node i, none where it is not live
 unfoldable pub line_at : List ℕ → List ℕ → ℕ → List ℕ
-line_at live bytes i = if eqb (get_or live i 0) 0 then [] else node_text (new_node live (node_of bytes i))
+line_at live bytes i = if eqb (get_or live i 0) 0 then [] otherwise node_text (new_node live (node_of bytes i))
 
 -- the lines from node i on
 unfoldable pub lines_left : List ℕ → List ℕ → ℕ → ℕ → List ℕ
@@ -146,12 +146,12 @@ unfolding line_at
 its_line live bytes i e = rw (ne_eqb (get_or live i 0) 0 e)
 
 lines_cons : (live : List ℕ) (i : ℕ) (x : LutNode) (xs : List LutNode)
-    → nodes_text (live_from live i (x ∷ xs)) ≡ (if eqb (get_or live i 0) 0 then [] else node_text (new_node live x)) ++ nodes_text (live_from live (i + 1) xs)
+    → nodes_text (live_from live i (x ∷ xs)) ≡ (if eqb (get_or live i 0) 0 then [] otherwise node_text (new_node live x)) ++ nodes_text (live_from live (i + 1) xs)
 unfolding live_from nodes_text
 lines_cons live i x xs = by (eqb (get_or live i 0) 0)
   where
-    by : (b : Bool) → nodes_text (if b then live_from live (i + 1) xs else new_node live x ∷ live_from live (i + 1) xs)
-        ≡ (if b then [] else node_text (new_node live x)) ++ nodes_text (live_from live (i + 1) xs)
+    by : (b : Bool) → nodes_text (if b then live_from live (i + 1) xs otherwise new_node live x ∷ live_from live (i + 1) xs)
+        ≡ (if b then [] otherwise node_text (new_node live x)) ++ nodes_text (live_from live (i + 1) xs)
     by true = refl
     by false = refl
 

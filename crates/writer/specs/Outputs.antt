@@ -4,7 +4,7 @@ use Rattle.std.proofs.Math.Path.{sym, ap}
 use Rattle.std.proofs.Common.{◌∙◌, add-one, arith, lt-ltb, le-ltb, drop_of_length-le, drop-cons}
 use Rattle.std.proofs.Math.Logic.{⊎_elim}
 use Rattle.laws.specs.Tabulate.{tabulate, tabulate-length, tabulate-at, tabulate_same, map-tabulate}
-use Rattle.laws.specs.Test.{if◌then◌else◌, lt_or_le}
+use Rattle.laws.specs.Test.{if◌then◌otherwise◌, lt_or_le}
 use Rattle.rules.specs.declared.Wire.{Wire}
 use Rattle.rules.specs.declared.Wire.TheVariants.{Const, Node}
 use Rattle.rules.specs.Circuit.{Output}
@@ -18,7 +18,7 @@ use Rattle.writer.specs.Live.{new_number}
 use Rattle.writer.specs.Kept.{Numbered, kept-number, new-kept}
 
 unfoldable pub new_wire : List ℕ → ℕ → Wire
-new_wire live n = if ltb n 1000 then Node (new_number live n) else Const (n - 1000)
+new_wire live n = if ltb n 1000 then Node (new_number live n) otherwise Const (n - 1000)
 
 -- the output's line
 unfoldable pub new_output : List ℕ → List ℕ → ℕ → ℕ → ℕ → List ℕ

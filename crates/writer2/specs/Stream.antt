@@ -1,7 +1,7 @@
 -- Edition 2 written node by node. What is open: 0 where no `many` line is, else the line's node and one more.
 use Rattle.std.specs.Prelude.{◌≡◌, refl, Bool, true, false, List, [], ◌∷◌, ◌++◌, ℕ, zero, suc, eqb}
 use Rattle.std.proofs.Common.{sym, ap, ◌∙◌, append_assoc, ⊎_elim, arith, eq-eqb, ne_eqb}
-use Rattle.laws.specs.Test.{if◌then◌else◌, eq-or-ne}
+use Rattle.laws.specs.Test.{if◌then◌otherwise◌, eq-or-ne}
 use Rattle.rules.specs.Converter.{join_table, node_lines, tables_text, line2_text, lines2_text}
 use Rattle.rules.specs.Edition2.{Table, Line2, Plain, Many}
 use Rattle.rules.specs.Form.{bytes}
@@ -17,7 +17,7 @@ closing (suc j) = bytes ")\n"
 
 -- what stands before a table on node i
 unfoldable pub opening : ℕ → ℕ → List ℕ
-opening o i = if eqb o (suc i) then [] else closing o ++ many_text i
+opening o i = if eqb o (suc i) then [] otherwise closing o ++ many_text i
 
 -- a node behind what is open
 unfoldable pub piece : ℕ → ℕ → LutNode → List ℕ
@@ -41,7 +41,7 @@ stream P o (x ∷ xs) = piece P o x ++ stream P (open_behind x) xs
 unfoldable goes_on : ℕ → List Line2 → List ℕ
 goes_on j [] = bytes ")\n"
 goes_on j (Plain l ∷ ls) = bytes ")\n" ++ lines2_text (Plain l ∷ ls)
-goes_on j (Many i ts ∷ ls) = if eqb j i then tables_text ts ++ (bytes ")\n" ++ lines2_text ls) else bytes ")\n" ++ lines2_text (Many i ts ∷ ls)
+goes_on j (Many i ts ∷ ls) = if eqb j i then tables_text ts ++ (bytes ")\n" ++ lines2_text ls) otherwise bytes ")\n" ++ lines2_text (Many i ts ∷ ls)
 
 unfoldable behind_open : ℕ → List Line2 → List ℕ
 behind_open zero ls = lines2_text ls
@@ -115,10 +115,10 @@ table_behind o i t ls = ap (λ (l : List ℕ). (opening o i ++ table_text t.bits
             ap (λ (l : List ℕ). (l ++ table) ++ (tables_text b.rest ++ later)) (open_same (suc j) i (ap suc e))
             ∙ sym (append_assoc table (tables_text b.rest) later)
             ∙ ap (λ (l : List ℕ). l ++ later) (sym (tables_more t b.rest))
-            ∙ sym (ap (λ (c : Bool). if c then tables_text (t ∷ b.rest) ++ later else bytes ")\n" ++ lines2_text (Many i (t ∷ b.rest) ∷ b.more)) (eq-eqb j i e))
+            ∙ sym (ap (λ (c : Bool). if c then tables_text (t ∷ b.rest) ++ later otherwise bytes ")\n" ++ lines2_text (Many i (t ∷ b.rest) ∷ b.more)) (eq-eqb j i e))
 
         other : (j : ℕ) → (j ≡ i → ⊥) → goes_on j (Many i (t ∷ b.rest) ∷ b.more) ≡ bytes ")\n" ++ lines2_text (Many i (t ∷ b.rest) ∷ b.more)
-        other j e = ap (λ (c : Bool). if c then tables_text (t ∷ b.rest) ++ later else bytes ")\n" ++ lines2_text (Many i (t ∷ b.rest) ∷ b.more)) (ne_eqb j i e)
+        other j e = ap (λ (c : Bool). if c then tables_text (t ∷ b.rest) ++ later otherwise bytes ")\n" ++ lines2_text (Many i (t ∷ b.rest) ∷ b.more)) (ne_eqb j i e)
 
 stream_is : (P o : ℕ) (ns : List LutNode) → stream P o ns ≡ behind_open o (node_lines P ns)
 unfolding stream piece open_behind closing behind_open goes_on node_lines lines2_text line2_text

@@ -2,7 +2,7 @@ use Rattle.std.proofs.Common.{sym, ap, ◌∙◌}
 use mathlib.Core.Bool.{false≢true}
 use mathlib.Core.Option.{none, some}
 use borrow.Author.Tests.{not-true, not-false}
-use Rattle.laws.specs.Test.{if◌then◌else◌}
+use Rattle.laws.specs.Test.{if◌then◌otherwise◌}
 use Rattle.rules.specs.Composition.{simplify_cone}
 use Rattle.cone.specs.View.{cone_of}
 use Rattle.attempt.specs.Merged.{merged_of, merged_by_lem}
@@ -14,7 +14,7 @@ pub returns-then-not-best : goal.returns-then-not-best
 unfolding tried_of merged_by_lem
 returns-then-not-best c =
     let A = c.args in
-    record { is = sym (ap (λ t. if t then some (simplify_cone (cone_of (merged_of A.basis A.best))) else none) (not-true A.best.found c.if-not-best.true)); cone = λ e. absurd (false≢true e) }
+    record { is = sym (ap (λ t. if t then some (simplify_cone (cone_of (merged_of A.basis A.best))) otherwise none) (not-true A.best.found c.if-not-best.true)); cone = λ e. absurd (false≢true e) }
 
 pub merged-cone-requires : goal.merged-cone-requires
 merged-cone-requires c = c.requires (not-false c.args.best.found c.if-not-best.false)
@@ -24,6 +24,6 @@ unfolding tried_of merged_by_lem
 returns c =
     let A = c.args in record {
       is = ap some c.merged-cone.ensures.1
-          ∙ sym (ap (λ t. if t then some (simplify_cone (cone_of (merged_of A.basis A.best))) else none) (not-false A.best.found c.if-not-best.false));
+          ∙ sym (ap (λ t. if t then some (simplify_cone (cone_of (merged_of A.basis A.best))) otherwise none) (not-false A.best.found c.if-not-best.false));
       cone = λ e. record { cone = c.merged-cone.ensures.0; is = c.merged-cone.ensures.1 };
     }

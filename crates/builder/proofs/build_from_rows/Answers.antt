@@ -2,7 +2,7 @@ use Rattle.std.proofs.Common.{◌≡◌, sym, ap, subst, ◌∙◌, Bool, true, 
 use mathlib.Core.Option.{none, some}
 use lib.ListN.{length-replicate}
 use Rattle.laws.specs.Over.{over}
-use Rattle.laws.specs.Test.{if◌then◌else◌}
+use Rattle.laws.specs.Test.{if◌then◌otherwise◌}
 use Rattle.rules.specs.Builder.{Entries, completion, enter, known_entries, with_table, no_table, Built, built, from_table, from_known}
 use Rattle.rules.specs.Rotation.{rotatable, centre_of}
 use Rattle.rules.specs.Runs.{all_bits}
@@ -15,10 +15,10 @@ use Rattle.builder.proofs.build_from_rows.Goals.{Else-not-enter, Start}
 -- `builder::build_from_rows` meets its contract.
 -- what was entered: r says whether the rows agree, k are the known entries after them
 module _ (low : ℤ) (values : List ℤ) (truths known k : List ℕ) (r : Bool)
-    (e : (if r then some k else none) ≡ enter low values truths known) (unknown : known ≡ replicate (span values) 2) where
+    (e : (if r then some k otherwise none) ≡ enter low values truths known) (unknown : known ≡ replicate (span values) 2) where
   known_entered : r ≡ true → Entries k
   known_entered f =
-      let found : (if r then some k else none) ≡ some k = rw f in
+      let found : (if r then some k otherwise none) ≡ some k = rw f in
       (entered_entries low values truths known k (sym e ∙ found) (subst Entries (sym unknown) (unknown_entries (span values)))).0
 
   -- the reply to it
@@ -32,10 +32,10 @@ module _ (low : ℤ) (values : List ℤ) (truths known k : List ℕ) (r : Bool)
     all_entered o f g = rw (← is-low, ← unknown, ← e, f) g
 
 -- what was found: r says whether a completion was, t is the table after the search
-module _ (P : ℕ) (known t : List ℕ) (r : Bool) (e : (if r then some t else none) ≡ completion P known) where
+module _ (P : ℕ) (known t : List ℕ) (r : Bool) (e : (if r then some t otherwise none) ≡ completion P known) where
   found_turns : Entries known → r ≡ true → T (all_bits t) × T (rotatable P t)
   found_turns entries f =
-      let found : (if r then some t else none) ≡ some t = rw f in
+      let found : (if r then some t otherwise none) ≡ some t = rw f in
       let is = completion_is known entries P t (sym e ∙ found) in
       (completes_bits known t is.0, is.1)
 
@@ -46,7 +46,7 @@ module _ (P : ℕ) (known t : List ℕ) (r : Bool) (e : (if r then some t else n
     no-completion f = rw (← e, f)
 
     completed : (o : Built) (c : ℕ) → r ≡ true → c ≡ centre_of P t
-        → o ≡ (if ltb (length b) (length t) then built (no_table 34) b else built (with_table (length t) c) (over t b)) → o ≡ from_table P b (completion P known)
+        → o ≡ (if ltb (length b) (length t) then built (no_table 34) b otherwise built (with_table (length t) c) (over t b)) → o ≡ from_table P b (completion P known)
     unfolding from_table
     completed o c f is g = rw (← e, f, ← is) g
 

@@ -1,13 +1,13 @@
 use Rattle.std.proofs.Common.{◌≡◌, List, ℕ, ◌<◌, ◌≤◌, lt-ltb, le-ltb, ltb, length}
 use Rattle.laws.specs.Over.{over}
-use Rattle.laws.specs.Test.{if◌then◌else◌}
+use Rattle.laws.specs.Test.{if◌then◌otherwise◌}
 use Rattle.rules.specs.Builder.{with_table, no_table, Built, built}
 use Rattle.builder.proofs.write_table.Goals as goal
 
 -- `builder::write_table` meets its contract.
 module _ (c : ℕ) (t b : List ℕ) where
   abbrev answer : Built
-  answer = if ltb (length b) (length t) then built (no_table 34) b else built (with_table (length t) c) (over t b)
+  answer = if ltb (length b) (length t) then built (no_table 34) b otherwise built (with_table (length t) c) (over t b)
 
   short_buffer : length b < length t → built (no_table 34) b ≡ answer
   short_buffer h = rw (lt-ltb (length b) (length t) h)

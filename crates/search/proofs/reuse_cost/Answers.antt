@@ -1,6 +1,6 @@
 use Rattle.std.proofs.Common.{refl, sym, ap, ◌∙◌, ℕ, length, take}
 use borrow.Author.Tests.{not-true, not-false}
-use Rattle.laws.specs.Test.{if◌then◌else◌}
+use Rattle.laws.specs.Test.{if◌then◌otherwise◌}
 use Rattle.nodes.specs.View.{store_of}
 use Rattle.merged_rows.specs.declared.energy.Moments.{Moments}
 use Rattle.search.specs.Search.{Context, context}
@@ -22,10 +22,10 @@ has_bootstrap-requires c =
 
 pub returns-then-has_bootstrap : goal.returns-then-has_bootstrap
 returns-then-has_bootstrap c m =
-    ap {B = ℕ} (λ q. if q then 0 else 1) (sym c.if-has_bootstrap.true)
+    ap {B = ℕ} (λ q. if q then 0 otherwise 1) (sym c.if-has_bootstrap.true)
     ∙ reuse_found _ _ c.args.sources _ _ c.sum_of-t.ensures (context_of (goal.at.returns-then-has_bootstrap c).Start m) refl refl refl c.requires.1.1.0 (not-false _ c.if-not-s.false) _ c.has_bootstrap.ensures
 
 pub returns : goal.returns
 returns c m =
-    ap {B = ℕ} (λ q. if q then 0 else 1) (sym c.if-has_bootstrap.false)
+    ap {B = ℕ} (λ q. if q then 0 otherwise 1) (sym c.if-has_bootstrap.false)
     ∙ reuse_found _ _ c.args.sources _ _ c.sum_of-t.ensures (context_of (goal.at.returns c).Start m) refl refl refl c.requires.1.1.0 (not-false _ c.if-not-s.false) _ c.has_bootstrap.ensures

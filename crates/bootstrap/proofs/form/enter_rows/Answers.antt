@@ -3,7 +3,7 @@ use mathlib.Core.Option.{none, some}
 use lib.ListN.{length-replicate}
 use Rattle.laws.specs.Integer.{read_back-at}
 use Rattle.laws.specs.Tail.{head_length, take-replicate}
-use Rattle.laws.specs.Test.{if◌then◌else◌}
+use Rattle.laws.specs.Test.{if◌then◌otherwise◌}
 use Rattle.rules.specs.Builder.{enter, known_entries}
 use Rattle.rules.specs.Span.{least, span}
 use Rattle.theorems.specs.Rows.{entered_entries, unknown_entries}
@@ -16,7 +16,7 @@ module _ (n : ℕ) (low : ℤ) (values : List ℤ) (truth out rest : List ℕ) (
   unfolding known_entries
   unknown = ap (enter low values truth) (take-replicate n 32 2 short) ∙ ap₂ (λ (z : ℤ) (k : ℕ). enter z values truth (replicate k 2)) l e
 
-  entries_are : (ok : Bool) → (if ok then some out else none) ≡ enter low values truth (take n (replicate 32 2)) → entries_of n (record { ok = ok; known = out ++ rest }) ≡ known_entries values truth
+  entries_are : (ok : Bool) → (if ok then some out otherwise none) ≡ enter low values truth (take n (replicate 32 2)) → entries_of n (record { ok = ok; known = out ++ rest }) ≡ known_entries values truth
   unfolding entries_of
   entries_are true f =
       let g = sym (f ∙ ap (enter low values truth) (take-replicate n 32 2 short)) in

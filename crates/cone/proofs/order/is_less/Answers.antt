@@ -1,12 +1,12 @@
 use Rattle.std.proofs.Common.{◌≡◌, refl, Bool, true, false, ◌≤◌, ◌<◌, lt-ltb, le-ltb, ltb}
-use Rattle.laws.specs.Test.{if◌then◌else◌}
+use Rattle.laws.specs.Test.{if◌then◌otherwise◌}
 use Rattle.rules.specs.Cone.{less}
 use Rattle.cone.specs.declared.order.OrderKey.{OrderKey}
 use Rattle.cone.specs.Order.{key_of}
 use Rattle.cone.proofs.order.is_less.Goals as goal
 
 -- `cone::order::is_less` meets its contract.
-last : (t u : Bool) → t ≡ (if t then true else if u then false else false)
+last : (t u : Bool) → t ≡ (if t then true otherwise if u then false otherwise false)
 last true u = refl
 last false true = refl
 last false false = refl
