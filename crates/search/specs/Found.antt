@@ -29,7 +29,8 @@ use Rattle.search.specs.declared.Ranges.{Ranges}
 use Rattle.merged_rows.specs.declared.energy.Moments.{Moments}
 use Rattle.scale_pair.specs.declared.pair.Pair.{Pair}
 use Rattle.scale_pair.specs.declared.score.Score.{Score}
-use Rattle.merged_rows.specs.EnergyMoments.{by_moments, energy_by_moments}
+use Rattle.merged_rows.specs.EnergyMoments.{by_moments}
+use Rattle.merged_rows.proofs.EnergyMoments.{energy_by_moments}
 use Rattle.merged_rows.specs.EnergyRows.{moments_of, moments_compacted}
 use Rattle.merged_rows.specs.MergedValues.{merged_value, merged-values, merged-coefficients}
 use Rattle.scale_pair.specs.Pair.{Scaling, merged_row, merged, weighed, measured, no_pair, pair_of, scaling_at}
