@@ -141,14 +141,14 @@ fn put_bits(out: &mut [u8], at: usize, values: &[u8]) -> usize {
     to
 }
 
-fn answer_admission(text: &[u8]) {
+fn answer_admission(rt: &impl Print, text: &[u8]) {
     let mut out = [0u8; 8192];
     let r = admission::admit(text);
     let n = put_admission(&mut out, r);
-    end_line(&mut out, n);
+    end_line(rt, &mut out, n);
 }
 
-fn answer_reader(text: &[u8]) {
+fn answer_reader(rt: &impl Print, text: &[u8]) {
     let mut out = [0u8; 8192];
     let mut gates = [0u8; 576];
     let mut ports = [0usize; 192];
@@ -156,43 +156,43 @@ fn answer_reader(text: &[u8]) {
     match r {
         Reading::Refused(number, line) => {
             let n = put_refusal(&mut out, number, line);
-            end_line(&mut out, n);
+            end_line(rt, &mut out, n);
         }
         Reading::Good(c) => {
             let a = put_all(&mut out, 0, b"0 ");
             let n = put_circuit(&mut out, a, c, text, &gates, &ports);
-            end_line(&mut out, n);
+            end_line(rt, &mut out, n);
         }
     }
 }
 
-fn network_run(text: &[u8], bits: &[u8], values: &mut [i64]) {
+fn network_run(rt: &impl Print, text: &[u8], bits: &[u8], values: &mut [i64]) {
     let mut out = [0u8; 8192];
     let r = network_run::run_network(text, bits, values);
     let a = put_run(&mut out, r);
     let n = put_values(&mut out, a, values);
-    end_line(&mut out, n);
+    end_line(rt, &mut out, n);
 }
 
-fn circuit_run(text: &[u8], bits: &[u8], values: &mut [u8]) {
+fn circuit_run(rt: &impl Print, text: &[u8], bits: &[u8], values: &mut [u8]) {
     let mut out = [0u8; 8192];
     let r = circuit_run::run_circuit(text, bits, values);
     let a = put_run(&mut out, r);
     let n = put_bits(&mut out, a, values);
-    end_line(&mut out, n);
+    end_line(rt, &mut out, n);
 }
 
-fn answer_run(kind: u8, text: &[u8], bits: &[u8], count: usize) {
+fn answer_run(rt: &impl Print, kind: u8, text: &[u8], bits: &[u8], count: usize) {
     if 64 < count {
         return;
     }
     if kind == b'N' {
         let mut values = [7i64; 64];
-        network_run(text, bits, &mut values[0..count]);
+        network_run(rt, text, bits, &mut values[0..count]);
         return;
     }
     let mut values = [7u8; 64];
-    circuit_run(text, bits, &mut values[0..count]);
+    circuit_run(rt, text, bits, &mut values[0..count]);
 }
 
 // Where the BITS of a header end: `-` stands for none.
@@ -207,13 +207,13 @@ fn word_end(s: &[u8], at: usize, n: usize) -> usize
 }
 
 // A run, whose header goes on at `at`.
-fn answer_long(kind: u8, head: &[u8], at: usize, text: &[u8])
+fn answer_long(rt: &impl Print, kind: u8, head: &[u8], at: usize, text: &[u8])
     requires { at ≤ length head.now }
 {
     let mut bits = [0u8; 64];
     let n = take_bits(head, at, &mut bits);
     let count = number_at(head, past(head, word_end(head, at, n)));
-    answer_run(kind, text, &bits[0..n], count.value);
+    answer_run(rt, kind, text, &bits[0..n], count.value);
 }
 
 // How long the text of a case with this header is.
@@ -223,19 +223,19 @@ pub fn size_of(head: &[u8]) -> usize {
 }
 
 // The case with this header and this text.
-pub fn answer(head: &[u8], text: &[u8]) {
+pub fn answer(rt: &impl Print, head: &[u8], text: &[u8]) {
     if head.len() == 0 {
         return;
     }
     let kind = head[0];
     if kind == b'A' {
-        answer_admission(text);
+        answer_admission(rt, text);
         return;
     }
     if kind == b'C' {
-        answer_reader(text);
+        answer_reader(rt, text);
         return;
     }
     let length = number_at(head, past(head, past(head, 0)));
-    answer_long(kind, head, past(head, length.end), text);
+    answer_long(rt, kind, head, past(head, length.end), text);
 }

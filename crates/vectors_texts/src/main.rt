@@ -7,17 +7,18 @@ mod print;
 
 ghost use Rattle.std.specs.Prelude.{◌≡◌, ◌≤◌, length};
 
-use libc::STDIN_FILENO;
+use std::io::Read;
+use vectors::read_full;
 
 // A line of at most 128 bytes, its newline read and left out; how many bytes it has, 0 at the input's end.
-fn read_head(head: &mut [u8; 128]) -> usize
+fn read_head<R: Read>(input: &mut R, head: &mut [u8; 128]) -> usize
     requires { length head.old ≡ 128 }
     ensures { (result ≤ 128) × (length head.new ≡ 128) }
 {
     let mut one = [0u8; 1];
     let mut n = 0;
     while n < 128 {
-        let got = io::read_full(STDIN_FILENO, &mut one);
+        let got = read_full(input, &mut one);
         if got == 0 {
             return n;
         }
@@ -30,16 +31,16 @@ fn read_head(head: &mut [u8; 128]) -> usize
     n
 }
 
-fn read_text(part: &mut [u8]) {
+fn read_text<R: Read>(input: &mut R, part: &mut [u8]) {
     let mut one = [0u8; 1];
-    io::read_full(STDIN_FILENO, part);
-    io::read_full(STDIN_FILENO, &mut one);
+    read_full(input, part);
+    read_full(input, &mut one);
 }
 
 // The next case; false at the input's end.
-fn one_case(room: &mut [u8]) -> bool {
+fn one_case<R: Read>(rt: &impl Print, input: &mut R, room: &mut [u8]) -> bool {
     let mut head = [0u8; 128];
-    let n = read_head(&mut head);
+    let n = read_head(input, &mut head);
     if n == 0 {
         return false;
     }
@@ -47,17 +48,18 @@ fn one_case(room: &mut [u8]) -> bool {
     if room.len() < size {
         return false;
     }
-    read_text(&mut room[0..size]);
-    cases::answer(&head[0..n], &room[0..size]);
+    read_text(input, &mut room[0..size]);
+    cases::answer(rt, &head[0..n], &room[0..size]);
     true
 }
 
 // A proved loop has to end, so the turns are counted down from a number that no run uses up.
-fn main() {
-    let mut room = io::large_buffer();
+fn main(rt: HostRuntime) {
+    let mut input = rt.stdin();
+    let mut room = [0u8; 65536];
     let mut turns = u64::MAX;
     while turns > 0 {
-        if !one_case(&mut room) {
+        if !one_case(&rt, &mut input, &mut room) {
             return;
         }
         turns -= 1;

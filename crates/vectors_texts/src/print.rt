@@ -1,5 +1,5 @@
 // A line of output, put together byte by byte. What is past the buffer is left out.
-use libc::STDOUT_FILENO;
+use itoa::Buffer;
 
 pub fn put(out: &mut [u8], at: usize, b: u8) -> usize {
     if at < out.len() {
@@ -20,9 +20,8 @@ pub fn put_all(out: &mut [u8], at: usize, w: &[u8]) -> usize {
 }
 
 pub fn put_number(out: &mut [u8], at: usize, n: u64) -> usize {
-    let mut digits = [0u8; 20];
-    let k = io::decimal(n, &mut digits);
-    put_all(out, at, &digits[..k])
+    let mut digits = Buffer::new();
+    put_all(out, at, digits.format(n).as_bytes())
 }
 
 // A space and a number.
@@ -54,9 +53,9 @@ pub fn put_value(out: &mut [u8], at: usize, z: i64) -> usize {
 }
 
 // The first n bytes and a newline, written.
-pub fn end_line(out: &mut [u8], at: usize) {
+pub fn end_line(rt: &impl Print, out: &mut [u8], at: usize) {
     let n = put(out, at, b'\n');
     if n <= out.len() {
-        io::write_all(STDOUT_FILENO, &out[0..n]);
+        vectors::put(rt, &out[0..n]);
     }
 }

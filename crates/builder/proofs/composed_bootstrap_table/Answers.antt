@@ -62,7 +62,7 @@ build_from_rows-requires c =
     let room = fits at c.if-m-length.false in
     record {
       values_len = c.if-values-truths.false;
-      low_value = read_back-at w32 _ c.struct_told-1.given.0.1 ∙ c.bounds_of-bounds.ensures.0;
+      low_value = read_back-at w32 c.bounds_of-bounds.result.low (omega arith) ∙ c.bounds_of-bounds.ensures.0;
       known_value = take-replicate c.span_of-length.result 32 2 room ∙ ap (λ n. replicate n 2) (length_is at);
       table_len = length-take-le _ _ room ∙ length_is at;
     }

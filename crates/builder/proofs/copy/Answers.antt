@@ -1,4 +1,4 @@
-use Rattle.std.proofs.Common.{refl, ◌∙◌, ◌-◌, arith, rules}
+use Rattle.std.proofs.Common.{refl, ◌∙◌, arith, rules}
 use Rattle.laws.specs.Front.{filling_start, filling_step}
 use Rattle.laws.specs.Over.{front-over}
 use Rattle.builder.proofs.copy.Goals as goal

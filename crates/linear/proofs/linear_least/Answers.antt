@@ -1,10 +1,11 @@
-use Rattle.std.proofs.Common.{◌≡◌, ap, ◌∙◌, true, false, ℕ, ◌+◌, ◌-◌, ◌≤◌, add-zero, arith, ℤ, pos, neg_ℤ, ◌+ℤ◌, get_or, drop, w64, to_z, of_z, SFits, to_z-of_z}
+use Rattle.std.proofs.Common.{◌≡◌, ap, ◌∙◌, true, false, List, ℕ, ◌+◌, ◌≤◌, ◌<◌, length, add-zero, arith, ℤ, pos, neg_ℤ, ◌+ℤ◌, get_or, drop, w64, to_z, of_z, SFits, to_z-of_z}
 use lib.Signed.{lt_z}
-use Rattle.laws.specs.Integer.{read_back, plus, minus, abs_parts, add_parts, one_part_zero, lt_z_true, lt_z_false, fits_abs, ints, plus_neg, minus_neg}
+use Rattle.laws.specs.Integer.{plus, minus, abs_parts, add_parts, one_part_zero, lt_z_true, lt_z_false, fits_abs, ints, plus_neg, minus_neg}
+use Rattle.scale.specs.Limits.{Within}
 use Rattle.linear.specs.Span.{lower_on, lower_end, lower-small}
 use Rattle.theorems.specs.LinearTables.{least_table, lower}
 use Rattle.linear.proofs.linear_least.Goals as goal
-use Rattle.linear.proofs.linear_least.Goals.{After-c-1, Start, then-c-lt0, else-c-lt0}
+use Rattle.linear.proofs.linear_least.Goals.{Start, then-c-lt0, else-c-lt0}
 
 -- one coefficient more
 module _ (s c : ℤ) (l l' t : ℕ) (below : plus s ≡ 0) (sum : minus s + l ≡ t) (on : l ≡ minus c + l') where
@@ -31,11 +32,9 @@ unfolding plus minus
 whole s z t p m e = omega (arith, ints, plus_neg (pos t), minus_neg (pos t))
 
 -- the coefficient that is read, among those that are left
-on : (c : After-c-1) → let o = c.loop-i in
-    lower (drop o.i c.args.coefs.now) ≡ minus (to_z w64 (of_z w64 (get_or c.args.coefs.now o.i (pos 0)))) + lower (drop (o.i + 1) c.args.coefs.now)
-on c =
-    let o = c.loop-i in
-    simp (read_back (get_or c.args.coefs.now o.i (pos 0)) c.c-1.given) (lower_on c.args.coefs.now o.i c.loop-i-test.true)
+on : (cs : List ℤ) (i : ℕ) → i < length cs → Within 1984 cs
+    → lower (drop i cs) ≡ minus (to_z w64 (of_z w64 (get_or cs i (pos 0)))) + lower (drop (i + 1) cs)
+on cs i h w = simp (to_z-of_z {w = w64} (fits_abs (get_or cs i (pos 0)) (omega (arith, w i)))) (lower_on cs i h)
 
 all_small : (c : Start) → lower c.args.coefs.now ≤ 21824
 all_small c = omega (arith, c.requires.0, lower-small 1984 c.args.coefs.now c.requires.1)
@@ -46,12 +45,12 @@ loop-i-init c = (omega arith, none_yet _)
 pub overflow_add-sum : goal.overflow_add-sum
 overflow_add-sum c =
     let o = c.loop-i in
-    fits _ _ _ _ _ o.invariant.1.0 o.invariant.1.1 (on (goal.at.overflow_add-sum c).After-c-1) c.if-c-lt0.true (all_small (goal.at.overflow_add-sum c).Start)
+    fits _ _ _ _ _ o.invariant.1.0 o.invariant.1.1 (on c.args.coefs.now o.i (omega arith) c.requires.1) c.if-c-lt0.true (all_small (goal.at.overflow_add-sum c).Start)
 
 pub loop-i-preserved : goal.loop-i-preserved
 loop-i-preserved c =
     let o = c.loop-i in
-    let here = on (goal.at.loop-i-preserved c).After-c-1 in
+    let here = on c.args.coefs.now o.i (omega arith) c.requires.1 in
     let small = all_small (goal.at.loop-i-preserved c).Start in
     elim c.if-c-lt0.branch [
       | then-c-lt0 w ↦ (omega arith, stored _ _ _ _ w.sum-is (fits _ _ _ _ _ o.invariant.1.0 o.invariant.1.1 here w.if-c-lt0.true small) (added _ _ _ _ _ o.invariant.1.0 o.invariant.1.1 here w.if-c-lt0.true))

@@ -1,4 +1,4 @@
-use Rattle.std.proofs.Common.{◌≡◌, ◌+◌, ◌-◌, arith, pos, get_or, drop, w64, to_z-of_z}
+use Rattle.std.proofs.Common.{◌≡◌, ◌+◌, arith, pos, get_or, drop, w64, to_z-of_z}
 use Rattle.laws.specs.Integer.{fits_abs}
 use Rattle.linear.specs.Span.{total_on, total_end, total-small}
 use Rattle.theorems.specs.LinearTables.{span_table, total}

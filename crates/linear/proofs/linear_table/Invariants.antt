@@ -1,4 +1,4 @@
-use Rattle.std.proofs.Common.{◌≡◌, ◌-◌, ◌≤◌, length, drop}
+use Rattle.std.proofs.Common.{◌≡◌, ◌≤◌, length, drop}
 use Rattle.laws.specs.Over.{over}
 use Rattle.rules.specs.Cone.{linear_table}
 use Rattle.linear.proofs.linear_table.Given as goal

@@ -1,4 +1,4 @@
-use Rattle.std.proofs.Common.{arith, rules, ◌≡◌, refl, ap, ◌∙◌, List, ◌++◌, append_assoc, ℕ, ◌+◌, ◌-◌, ◌≤◌, ◌<◌, length, get_or, set, take, length-set, length-append, get_or-take, length-take-le, ℤ, pos, add-one, w32}
+use Rattle.std.proofs.Common.{arith, rules, ◌≡◌, refl, ap, ◌∙◌, List, ◌++◌, append_assoc, ℕ, ◌+◌, ◌≤◌, ◌<◌, length, get_or, set, take, length-set, length-append, get_or-take, length-take-le, ℤ, pos, add-one, w32}
 use lib.ListN.{get_or-append}
 use lib.Seq.{paste, paste-zero, paste-suc}
 use Rattle.laws.specs.Over.{over}
@@ -26,7 +26,7 @@ loop-i-preserved c =
     let o = c.loop-i in (
       omega arith,
       simp length-set o.invariant.1,
-      turn c.args.table.now o.table c.args.count o.i (omega arith) c.requires o.invariant.2 _ (read_back-at w32 _ c.table-1.given),
+      turn c.args.table.now o.table c.args.count o.i (omega arith) c.requires o.invariant.2 _ (read_back-at w32 (get_or o.table o.i (pos 0)) (omega arith)),
     )
 
 pub returns : goal.returns

@@ -1,4 +1,4 @@
-use Rattle.std.proofs.Common.{rules, ◌≡◌, refl, sym, ◌∙◌, List, ℕ, ◌+◌, ◌-◌, ◌≤◌, ◌<◌, length, get_or, set, take, length-set, w32, to_z, of_z, SFits, ℤ, pos, nat_abs, ◌+ℤ◌, get_or-take, length-take-le, arith, to_z-of_z}
+use Rattle.std.proofs.Common.{rules, ◌≡◌, refl, sym, ◌∙◌, List, ℕ, ◌+◌, ◌≤◌, ◌<◌, length, get_or, set, take, length-set, w32, to_z, of_z, SFits, ℤ, pos, nat_abs, ◌+ℤ◌, get_or-take, length-take-le, arith, to_z-of_z}
 use lib.ListN.{length-map, get_or-map}
 use Rattle.laws.specs.Front.{front, front_zero, front_get, front-set}
 use Rattle.linear.specs.Table.{shifted}

@@ -6,6 +6,7 @@ use Rattle.scale.proofs.coefficients_norm2.Goals as goal
 pub loop-i-preserved : goal.loop-i-preserved
 loop-i-preserved c =
     let i = c.loop-i.i in
+    -- the coefficient that is read
     let back = to_z-of_z {w = w64} (fits_abs (get_or c.args.coefs.now i (pos 0)) (omega (arith, c.requires.1.1 i))) in
     let added = simp back at c.weighted_square-sum.ensures.value in
     let h : i < length c.args.weights.now = omega (arith, c.requires.1.0, c.requires.0) in (

@@ -30,6 +30,7 @@ turned : (c : After-gcd_i64-g) → let cs = c.args.coefs.now in let r = c.gcd_i6
     (∣ of_z w64 r ∣ < 2 ^ 63) × (read (of_z w64 r) ≡ pos ∣ of_z w64 r ∣) × (gcd_from ∣ of_z w64 r ∣ (drop (i + 1) cs) ≡ gcd_from 0 cs)
 turned c =
     let o = c.loop-i in
+    -- the coefficient that is read
     let back = to_z-of_z {w = w64} (fits_abs (get_or c.args.coefs.now o.i (pos 0)) (c.requires o.i)) in
     turn c.args.coefs.now o.i o.g-bits c.gcd_i64-g.result (omega arith) c.gcd_i64-g.type_inv (simp back at c.gcd_i64-g.ensures) o.invariant.same_gcd
 

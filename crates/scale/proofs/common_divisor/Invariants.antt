@@ -1,5 +1,4 @@
 use Rattle.std.proofs.Common.{◌≡◌, ◌-◌, ◌≤◌, ◌<◌, ◌^◌, pos, nat_abs, length, drop}
-use Rattle.laws.specs.Gcd.{gcd}
 use Rattle.rules.specs.Scale.{gcd_from}
 use Rattle.scale.proofs.common_divisor.Given as goal
 

@@ -1,4 +1,4 @@
-use Rattle.std.proofs.Common.{◌≡◌, refl, sym, ◌∙◌, List, ℕ, ◌+◌, ◌-◌, ◌<◌, arith, ℤ, pos, length, get_or, set, length-set, w64, to_z, of_z, SFits, to_z-of_z, rules}
+use Rattle.std.proofs.Common.{◌≡◌, refl, sym, ◌∙◌, List, ℕ, ◌+◌, ◌<◌, arith, ℤ, pos, length, get_or, set, length-set, w64, to_z, of_z, SFits, to_z-of_z, rules}
 use lib.Signed.{quot_z}
 use lib.ListN.{length-map, get_or-map}
 use Rattle.laws.specs.Integer.{fits_abs, quot_fits, abs_bits}

@@ -1,4 +1,4 @@
-use Rattle.std.proofs.Common.{◌≡◌, ◌-◌, ◌≤◌, length, w64, to_z}
+use Rattle.std.proofs.Common.{◌≡◌, ◌-◌, ◌≤◌, length}
 use Rattle.laws.specs.Front.{front}
 use Rattle.rules.specs.Scale.{quotients}
 use Rattle.scale.proofs.divide_all.Given as goal

@@ -1,4 +1,4 @@
-use Rattle.std.proofs.Common.{arith, ◌≡◌, refl, sym, ap, ◌∙◌, false, List, ◌∷◌, ℕ, zero, suc, ◌+◌, ◌≤◌, ◌<◌, ◌-◌, not-suc-le-zero, add-one, ℤ, pos, negsuc, nat_abs, length, drop, get_or, drop_of_length-le, drop-cons, w64, to_z}
+use Rattle.std.proofs.Common.{arith, ◌≡◌, refl, sym, ap, ◌∙◌, false, List, ◌∷◌, ℕ, zero, suc, ◌+◌, ◌≤◌, ◌<◌, not-suc-le-zero, add-one, ℤ, pos, negsuc, nat_abs, length, drop, get_or, drop_of_length-le, drop-cons, w64, to_z}
 use lib.Signed.{lt_z}
 use Rattle.laws.specs.Integer.{bits_abs, read_back, plus, minus, false_lt_z}
 use Rattle.rules.specs.Scale.{starts_negative}
@@ -27,12 +27,12 @@ none l i h = rw (drop_of_length-le l {i = i} h)
 pub returns-then-c-ne0 : goal.returns-then-c-ne0
 returns-then-c-ne0 c =
     let o = c.loop-i in
-    sign c.args.coefs.now o.i _ (read_back _ c.c-1.given) (omega arith) (bits_abs _ c.if-c-ne0.true) ∙ o.invariant.1
+    sign c.args.coefs.now o.i _ (read_back (get_or c.args.coefs.now o.i (pos 0)) (omega arith)) (omega arith) (bits_abs _ c.if-c-ne0.true) ∙ o.invariant.1
 
 pub loop-i-preserved : goal.loop-i-preserved
 loop-i-preserved c =
     let o = c.loop-i in
-    (omega arith, pass c.args.coefs.now o.i _ (read_back _ c.c-1.given) (omega arith) (ap (to_z w64) c.if-c-ne0.false) ∙ o.invariant.1)
+    (omega arith, pass c.args.coefs.now o.i _ (read_back (get_or c.args.coefs.now o.i (pos 0)) (omega arith)) (omega arith) (ap (to_z w64) c.if-c-ne0.false) ∙ o.invariant.1)
 
 pub returns : goal.returns
 returns c =

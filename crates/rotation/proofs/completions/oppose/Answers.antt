@@ -1,4 +1,4 @@
-use Rattle.std.proofs.Common.{sym, ◌∙◌, ◌-◌, arith, rules}
+use Rattle.std.proofs.Common.{sym, ◌∙◌, arith, rules}
 use Rattle.laws.specs.Front.{filling_start, filling_step, filling-all}
 use Rattle.rules.specs.Builder.{opposed}
 use Rattle.theorems.specs.Completions.{opposed-length, opposed-at}

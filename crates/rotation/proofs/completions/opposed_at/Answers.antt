@@ -2,6 +2,7 @@ use Rattle.std.proofs.Common.{sym, ◌∙◌, arith}
 use Rattle.theorems.specs.Completions.{opposed_at_low, opposed_at_high, opposed_at_alone}
 use Rattle.rotation.proofs.completions.opposed_at.Goals as goal
 
+-- `rotation::completions::opposed_at` meets its contract.
 pub returns-then-size-known : goal.returns-then-size-known
 returns-then-size-known c = c.against.ensures ∙ sym (opposed_at_low _ _ _ (omega arith))
 

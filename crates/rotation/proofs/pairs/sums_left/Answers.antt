@@ -1,4 +1,4 @@
-use Rattle.std.proofs.Common.{sym, ◌∙◌, ◌+◌, ◌-◌, arith, rules}
+use Rattle.std.proofs.Common.{sym, ◌∙◌, ◌+◌, arith, rules}
 use Rattle.theorems.specs.Completions.{SumsTo, sums_none, sums_more, sums_gone, sums_all}
 use Rattle.rotation.proofs.pairs.sums_left.Goals as goal
 use Rattle.rotation.proofs.pairs.sums_left.Goals.{After-both-left}

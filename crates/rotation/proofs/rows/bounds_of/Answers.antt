@@ -1,4 +1,4 @@
-use Rattle.std.proofs.Common.{sym, ap, ◌∙◌, ◌+◌, ◌-◌, arith, drop, w32, to_z}
+use Rattle.std.proofs.Common.{sym, ap, ◌∙◌, ◌+◌, arith, drop, get_or, pos, w32, to_z}
 use Rattle.laws.specs.Integer.{read_back-at}
 use Rattle.rules.specs.Span.{least_from, greatest_from}
 use Rattle.theorems.specs.Spans.{least_start, greatest_start, least-turn, greatest-turn, least_end, greatest_end}
@@ -8,8 +8,8 @@ pub loop-i-init : goal.loop-i-init
 loop-i-init c =
     let values = c.args.values.now in (
       omega arith,
-      ap (λ m. least_from m (drop 1 values)) (read_back-at w32 _ c.low-1.given) ∙ least_start values c.requires,
-      ap (λ m. greatest_from m (drop 1 values)) (read_back-at w32 _ c.high-1.given) ∙ greatest_start values c.requires,
+      ap (λ m. least_from m (drop 1 values)) (read_back-at w32 (get_or values 0 (pos 0)) (omega arith)) ∙ least_start values c.requires,
+      ap (λ m. greatest_from m (drop 1 values)) (read_back-at w32 (get_or values 0 (pos 0)) (omega arith)) ∙ greatest_start values c.requires,
     )
 
 pub loop-i-preserved : goal.loop-i-preserved
@@ -18,10 +18,10 @@ loop-i-preserved c =
     let values = c.args.values.now in (
       omega arith,
       ap (λ m. least_from m (drop (o.i + 1) values)) (read_back-at w32 _ c.smaller-low.type_inv)
-          ∙ least-turn values (to_z w32 o.low-bits) o.i _ _ (omega arith) (read_back-at w32 _ c.smaller-arg-1.given) c.smaller-low.ensures
+          ∙ least-turn values (to_z w32 o.low-bits) o.i _ _ (omega arith) (read_back-at w32 (get_or values o.i (pos 0)) (omega arith)) c.smaller-low.ensures
           ∙ o.invariant.1,
       ap (λ m. greatest_from m (drop (o.i + 1) values)) (read_back-at w32 _ c.larger-high.type_inv)
-          ∙ greatest-turn values (to_z w32 o.high-bits) o.i _ _ (omega arith) (read_back-at w32 _ c.larger-arg-1.given) c.larger-high.ensures
+          ∙ greatest-turn values (to_z w32 o.high-bits) o.i _ _ (omega arith) (read_back-at w32 (get_or values o.i (pos 0)) (omega arith)) c.larger-high.ensures
           ∙ o.invariant.2,
     )
 

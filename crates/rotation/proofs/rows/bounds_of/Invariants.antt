@@ -1,4 +1,4 @@
-use Rattle.std.proofs.Common.{◌≡◌, ◌-◌, ◌≤◌, length, drop, w32, to_z}
+use Rattle.std.proofs.Common.{◌≡◌, ◌-◌, ◌≤◌, length, drop}
 use Rattle.rules.specs.Span.{least_from, greatest_from, least, greatest}
 use Rattle.rotation.proofs.rows.bounds_of.Given as goal
 

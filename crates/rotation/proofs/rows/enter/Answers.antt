@@ -1,4 +1,4 @@
-use Rattle.std.proofs.Common.{◌≡◌, refl, sym, ap, ap₂, ◌∙◌, ℕ, ◌-◌, ◌<◌, arith, rules, pos, nat_abs, ◌-ℤ◌, length, get_or, length-set, to_z-of_z, w32}
+use Rattle.std.proofs.Common.{◌≡◌, refl, sym, ap, ap₂, ◌∙◌, ℕ, ◌<◌, arith, rules, pos, nat_abs, ◌-ℤ◌, length, get_or, length-set, to_z-of_z, w32}
 use Rattle.laws.specs.Integer.{le_same, read_back-at}
 use Rattle.rules.specs.Builder.{enter}
 use Rattle.rules.specs.Span.{least}
@@ -16,7 +16,7 @@ module _ (c : After-offset-k) where
   at : c.offset-k.result ≡ offset (least c.args.values.now) c.args.values.now turn
   at =
       c.offset-k.ensures.0
-      ∙ ap₂ (λ v l. nat_abs (v -ℤ l)) (read_back-at w32 (get_or c.args.values.now turn (pos 0)) c.offset-arg-1.given) (to_z-of_z c.ranges.low ∙ c.requires.low_value)
+      ∙ ap₂ (λ v l. nat_abs (v -ℤ l)) (read_back-at w32 (get_or c.args.values.now turn (pos 0)) (omega arith)) (to_z-of_z c.ranges.low ∙ c.requires.low_value)
 
   index : c.offset-k.result < length c.loop-i.known
   index = omega (arith, at, offset_lt c.args.values.now turn (omega arith))
@@ -28,7 +28,7 @@ pub offset-k-requires : goal.offset-k-requires
 offset-k-requires c =
     let i = c.loop-i.i in
     le_same _ _ (least c.args.values.now) (get_or c.args.values.now i (pos 0)) (to_z-of_z c.ranges.low ∙ c.requires.low_value)
-    (read_back-at w32 (get_or c.args.values.now i (pos 0)) c.offset-arg-1.given) (least_le c.args.values.now i (omega arith))
+    (read_back-at w32 (get_or c.args.values.now i (pos 0)) (omega arith)) (least_le c.args.values.now i (omega arith))
 
 pub returns-then-not-agrees : goal.returns-then-not-agrees
 returns-then-not-agrees c =

@@ -1,4 +1,4 @@
-use Rattle.std.proofs.Common.{ap, ap₂, ◌∙◌, ◌+◌, nat_abs, ◌-ℤ◌, w32}
+use Rattle.std.proofs.Common.{arith, ap, ap₂, ◌∙◌, ◌+◌, nat_abs, ◌-ℤ◌, w32}
 use Rattle.laws.specs.Integer.{read_back-at}
 use Rattle.rotation.proofs.rows.span_of.Goals as goal
 
@@ -6,6 +6,5 @@ use Rattle.rotation.proofs.rows.span_of.Goals as goal
 pub returns : goal.returns
 returns c =
     let b = c.args.bounds in
-    let fits = c.struct_told-2-1.given in
     ap (λ n. n + 1)
-    (c.offset.ensures.0 ∙ ap₂ (λ v l. nat_abs (v -ℤ l)) (read_back-at w32 b.high fits.1.0.1) (read_back-at w32 b.low fits.0.1))
+    (c.offset.ensures.0 ∙ ap₂ (λ v l. nat_abs (v -ℤ l)) (read_back-at w32 b.high (omega arith)) (read_back-at w32 b.low (omega arith)))

@@ -1,17 +1,8 @@
+use Rattle.std.proofs.Common.{true, false, ◌≡◌, ◌<◌, ◌^◌, to_z-of_z, SFits, Fits, w64, ℤ, pos, negsuc, nat_abs, ◌+ℤ◌, ◌-ℤ◌, T, arith}
 use Rattle.laws.specs.Integer.{plus, minus, abs_parts, add_parts, sub_parts, one_part_zero, fits_abs, lt_z_true, lt_z_false}
-use mathlib.Core.Bool.{true, false}
-use mathlib.Core.Path.{◌≡◌}
-use Prim.Native.Nat.{◌<◌, ◌^◌}
-use mir.Facts.{to_z-of_z}
-use mir.Val.{SFits, Fits}
-use mir.Syntax.{w64}
 use lib.Signed.{lt_z, non_neg}
-use lib.IntN.{ℤ, pos, negsuc, nat_abs, ◌+ℤ◌, ◌-ℤ◌}
-use lib.Dec.{T}
-use native.Mathlib.Omega.{arith}
-use borrow.Author.Rules.{rules}
-use Rattle.vectors_texts.proofs.print.magnitude.Statement.{statement}
-use Rattle.vectors_texts.proofs.print.magnitude.Tie as tie
+use Rattle.vectors_texts.proofs.print.magnitude.Goals as goal
+use Rattle.vectors_texts.proofs.print.magnitude.Goals.{Then-z-lt0}
 
 -- below 0: one more, and its opposite
 module _ (z : ℤ) (h : lt_z z (pos 0) ≡ true) (f : SFits w64 z) where
@@ -46,44 +37,26 @@ unfolding plus minus
 not-below (pos a) h f = (tt, record { fits = omega (arith, f.sfits) })
 not-below (negsuc a) h f = absurd (omega (arith, lt_z_false (negsuc a) (pos 0) h))
 
-below : (c : tie.Then1) → lt_z c.before.args.z (pos 0) ≡ true
-below c = simp (to_z-of_z c.before.ranges.z) at c.if1.true
+below : (c : Then-z-lt0) → lt_z c.args.z (pos 0) ≡ true
+below c = simp (to_z-of_z c.ranges.z) at c.if-z-lt0.true
 
--- src/print.rt:36:19
-add-result : tie.Need-overflow-add-result
-add-result c = let f = c.before.ranges.z in simp (to_z-of_z f) (next_fits _ (below c) f)
+pub overflow_add-result : goal.overflow_add-result
+overflow_add-result c = let f = c.ranges.z in simp (to_z-of_z f) (next_fits _ (below c) f)
 
--- src/print.rt:36:17
-sub-result : tie.Need-overflow-sub-result
-sub-result c = let f = c.before.ranges.z in simp (to_z-of_z f, to_z-of_z (next_fits _ (below c) f)) (other_fits _ (below c) f)
+pub overflow_sub-result : goal.overflow_sub-result
+overflow_sub-result c = let f = c.ranges.z in simp (to_z-of_z f, to_z-of_z (next_fits _ (below c) f)) (other_fits _ (below c) f)
 
--- src/print.rt:36:16
-cast-result : tie.Need-overflow-cast-result
-cast-result c =
-    let f = c.before.ranges.z in
+pub overflow_cast-result : goal.overflow_cast-result
+overflow_cast-result c =
+    let f = c.ranges.z in
     simp (to_z-of_z f, to_z-of_z (next_fits _ (below c) f), to_z-of_z (other_fits _ (below c) f)) (other_non_neg _ (below c) f, record { fits = omega (arith, other_size _ (below c) f) })
 
--- src/print.rt:36:16
-add-result-2 : tie.Need-overflow-add-result-2
-add-result-2 c =
-    let f = c.before.ranges.z in
+pub overflow_add-result-then-z-lt0 : goal.overflow_add-result-then-z-lt0
+overflow_add-result-then-z-lt0 c =
+    let f = c.ranges.z in
     simp (to_z-of_z f, to_z-of_z (next_fits _ (below c) f), to_z-of_z (other_fits _ (below c) f)) (record { fits = omega (arith, other_size _ (below c) f) })
 
--- src/print.rt:36:9
-returns : tie.Need-returns
-returns c = search rules
-
--- src/print.rt:38:5
-cast-result-2 : tie.Need-overflow-cast-result-2
-cast-result-2 c =
-    let f = c.before.ranges.z in
-    simp (to_z-of_z f) (not-below _ (simp (to_z-of_z f) at c.if1.false) f)
-
--- src/print.rt:34:1
-returns-2 : tie.Need-returns-2
-returns-2 c = search rules
-
-pub magnitude-spec : {M : Type 1} → statement M
-magnitude-spec =
-    tie.close
-    (tie.spec add-result sub-result cast-result add-result-2 returns cast-result-2 returns-2)
+pub overflow_cast-result-2 : goal.overflow_cast-result-2
+overflow_cast-result-2 c =
+    let f = c.ranges.z in
+    simp (to_z-of_z f) (not-below _ (simp (to_z-of_z f) at c.if-z-lt0.false) f)
