@@ -41,7 +41,7 @@ pub fn is_lut_valid(s: Settings, cone: Cone) -> bool
     rotation::is_known_lut_valid(&known[..span], s.p)
 }
 
-// validate_cone without its encoding check, which no cone of a mapping fails (`never-ten`).
+// validate_cone without its encoding check, which no cone of a mapping fails (`never_ten`).
 pub fn validate_cone(s: Settings, nodes: &[u8; 27552], cone: Cone) -> Validity
     requires { IsCone cone × AreNodes nodes.now (cone_of cone).support }
     ensures { (count : ℕ) → Below count (cone_of cone) → validity_of (cone_of cone) result ≡ validate_cone s (store_of nodes.now count) (cone_of cone) }

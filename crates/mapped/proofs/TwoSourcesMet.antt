@@ -1,4 +1,4 @@
--- A gate that `two-sources-refused` speaks of: an AND of two inputs, under Basic with M = P = 16.
+-- A gate that `two_sources_refused` speaks of: an AND of two inputs, under Basic with M = P = 16.
 use Rattle.std.specs.Prelude.{◌≡◌, refl, false, List, [], ◌∷◌, ℕ, ◌+◌, ◌*◌, ◌≤◌, eqb, get_or}
 use Rattle.std.proofs.Common.{sym, ◌∙◌, arith, ne_eqb}
 use Rattle.laws.specs.Test.{if◌then◌otherwise◌, if_both, zero≢one}

@@ -99,7 +99,7 @@ pub record IsNode (bytes : List ℕ) (i : ℕ) : Type 0 where
   pub fine : Fine i (node_of bytes i)
   pub kept : record_at bytes i ≡ record_of (node_of bytes i)
 
--- these nodes: each with the depth that its sources give (`recorded-depth`: which the definition gives them)
+-- these nodes: each with the depth that its sources give (`recorded_depth`: which the definition gives them)
 pub record IsStore (bytes : List ℕ) (count : ℕ) : Type 0 where
   pub long : length bytes ≡ 27552
   pub most : count ≤ 672

@@ -1,4 +1,4 @@
-// A node read from its record. Each asks that the node stands in the store (`is-node` says so of the nodes below the count).
+// A node read from its record. Each asks that the node stands in the store (`is_node` says so of the nodes below the count).
 ghost use Rattle.std.specs.Prelude.{◌≡◌, true, false, ◌<◌, pos, length, get_or};
 ghost use Rattle.rules.specs.Network.{is_linear, weight_of};
 ghost use Rattle.rules.specs.Store.{needs, terms_of};

@@ -31,7 +31,7 @@ fn term_norm(nodes: &[u8; 27552], i: usize, k: usize) -> usize
     source_norm(nodes, source, coef_of(nodes, i, k))
 }
 
-// Its sources stand before it (`norm-among`: its norm stays as nodes come after it).
+// Its sources stand before it (`norm_among`: its norm stays as nodes come after it).
 pub fn node_norm(nodes: &[u8; 27552], i: usize) -> u64
     requires { IsStore nodes.now (i + 1) }
     ensures { result ≡ node_norm (store_of nodes.now i) (node_of nodes.now i) }

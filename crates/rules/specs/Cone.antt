@@ -77,7 +77,7 @@ encoding P c = completed P (known_entries (values c) c.truth)
 unfoldable pub is_lut_valid : Settings → Cone → Bool
 is_lut_valid s c = let r = is_some (encoding s.p c) in leb (cone_span c) s.m && r
 
--- bootstrap_table: the encoding's. Each cone that is built within the limits has one (`never-ten`, crates/mapped), so the last filling is not tested.
+-- bootstrap_table: the encoding's. Each cone that is built within the limits has one (`never_ten`, crates/mapped), so the last filling is not tested.
 unfoldable pub bootstrap_table : ℕ → Cone → List ℕ
 bootstrap_table P c = last_tried P (Option.get_or (known_entries (values c) c.truth) [])
 
@@ -99,7 +99,7 @@ abbrev pub ◌>>=◌ : {A B : Type 0} → Result A → (A → Result B) → Resu
 ok a >>= f = f a
 err k >>= f = err k
 
--- validate_cone without its encoding check, which no cone that is built fails (`never-ten`).
+-- validate_cone without its encoding check, which no cone that is built fails (`never_ten`).
 unfoldable pub validate_cone : Settings → List LutNode → Cone → Result Cone
 validate_cone s nodes c = if within_norm s (norm2 nodes c) then ok c otherwise err 8
 

@@ -1,4 +1,4 @@
--- What the search finds is what `findCandidate` finds.
+-- What the search finds is what `find_candidate` finds.
 use Rattle.std.specs.Prelude.{◌≡◌, Bool, ◌&&◌, ℕ, suc, ◌+◌, ◌-◌, ◌≤◌, ◌<◌, leb, ℤ, nat_abs, ◌-ℤ◌, ◌*ℤ◌, length, get_or, set, take, replicate}
 use Rattle.std.proofs.Math.Path.{refl, sym, ap, ap₂, subst}
 use Rattle.std.proofs.Common.{◌∙◌, true≢false, arith, leb-true, length-set, take_at}

@@ -1,4 +1,4 @@
--- `findCandidate` pair by pair: the best so far is taken from one scale pair to the next, b within a.
+-- `find_candidate` pair by pair: the best so far is taken from one scale pair to the next, b within a.
 use Rattle.std.specs.Prelude.{◌≡◌, Bool, ◌-ℤ◌}
 use Rattle.std.proofs.Math.Path.{refl, sym, ap}
 use Rattle.std.proofs.Common.{◌∙◌, zero-add, arith}

@@ -4,7 +4,7 @@ use Rattle.std.proofs.Math.ListN.{get_or-append, get_or-eq_default}
 use Rattle.std.proofs.Math.Seq.{get_or_at, drop-cons}
 use Rattle.rules.specs.Network.{LutNode, Input, node_at}
 
--- What `nodeAt` gives where there is no node.
+-- What `node_at` gives where there is no node.
 abbrev pub no_input : LutNode
 no_input = Input (record { name = []; weight = 1 })
 

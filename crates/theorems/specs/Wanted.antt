@@ -1,4 +1,4 @@
--- What `wantedBelow` gives: what was wanted stays, and where nodes need earlier ones it is closed.
+-- What `wanted_below` gives: what was wanted stays, and where nodes need earlier ones it is closed.
 use Rattle.std.specs.Prelude.{◌≡◌, Bool, List, ◌++◌, length}
 use Rattle.std.proofs.Math.Path.{refl}
 use Rattle.std.proofs.Common.{sym, subst, ◌∙◌, true≢false}
