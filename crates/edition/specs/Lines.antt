@@ -16,7 +16,6 @@ use Rattle.many_text.specs.Lines.{refusal2}
 use Rattle.network.specs.Step.{no_lines, lines_start, ended_unstarted, ended_good}
 use Rattle.network.specs.Verdict.{conditions_of, numbered}
 use Rattle.network.specs.View.{outputs_of, net_of, network_of, prefix_of, Holds}
-use Rattle.network.specs.declared.Reading.TheVariants.{Good, Refused}
 use Rattle.network.specs.declared.put.Step.{Step}
 use Rattle.edition.specs.Step.{Stepped2}
 

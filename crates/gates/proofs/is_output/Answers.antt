@@ -1,4 +1,4 @@
-use Rattle.std.proofs.Common.{◌-◌, not-suc-le-zero, arith, rules}
+use Rattle.std.proofs.Common.{not-suc-le-zero, arith, rules}
 use Rattle.gates.specs.Gates.{named_here, named_nowhere, others_too}
 use Rattle.gates.proofs.is_output.Goals as goal
 

@@ -20,7 +20,7 @@ returns-then-r-eq255 c =
     let g = c.requires.1.1.1 in
     let w = c.requires.1.1.0 in
     let a = c.cone_at-left.ensures ∙ ap (cone_in _) c.slot_of-l.ensures in
-    (unary_is _ _ _ _ _ _ w g _ _ a (sym c.slot_of-r.ensures ∙ c.if-r-eq255.true) _ c.map_unary.ensures.0, c.map_unary.ensures.1)
+    record { is = unary_is _ _ _ _ _ _ w g _ _ a (sym c.slot_of-r.ensures ∙ c.if-r-eq255.true) _ c.map_unary.ensures.is; stands = c.map_unary.ensures.stands }
 
 pub cone_at-right-requires : goal.cone_at-right-requires
 cone_at-right-requires c =
@@ -43,4 +43,4 @@ returns c =
     let a = c.cone_at-left.ensures ∙ ap (cone_in _) c.slot_of-l.ensures in
     let d = c.cone_at-right.ensures ∙ ap (cone_in _) c.slot_of-r.ensures in
     let n = not_255 _ _ c.slot_of-r.ensures c.if-r-eq255.false in
-    (two_is _ _ _ _ _ _ w g _ _ _ a d n _ c.answers_of-gate.ensures _ c.map_two.ensures.0, c.map_two.ensures.1)
+    record { is = two_is _ _ _ _ _ _ w g _ _ _ a d n _ c.answers_of-gate.ensures _ c.map_two.ensures.is; stands = c.map_two.ensures.stands }

@@ -1,4 +1,4 @@
-use Rattle.std.proofs.Common.{refl, ◌∙◌, ◌-◌, arith, rules}
+use Rattle.std.proofs.Common.{refl, ◌∙◌, arith, rules}
 use Rattle.bootstrap.specs.View.{centres_same, centres_then}
 use Rattle.gates.specs.Gates.{gates_refused, gates-step, gates_done, works_none, works_done, walk_start, wired_at}
 use Rattle.gates.proofs.map_gates.Goals as goal
@@ -27,20 +27,23 @@ pub returns-then-w-ne0 : goal.returns-then-w-ne0
 returns-then-w-ne0 c =
     let o = c.loop-i in
     let i = c.loop-i-test.true in
-    (λ text. gates_refused _ _ _ _ _ _ _ i _ _ _ (c.map_one-w.ensures.0 _ _ (c.is_forced-force.ensures text)) c.if-w-ne0.true ∙ o.invariant.1.1.1 text, works_none _ _ _ _ _ _ c.if-w-ne0.true)
+    record {
+      is = λ text. gates_refused _ _ _ _ _ _ _ i _ _ _ (c.map_one-w.ensures.is _ _ (c.is_forced-force.ensures text)) c.if-w-ne0.true ∙ o.invariant.1.1.1 text;
+      works = works_none _ _ _ _ _ _ c.if-w-ne0.true;
+    }
 
 pub loop-i-preserved : goal.loop-i-preserved
 loop-i-preserved c =
     let o = c.loop-i in
     let i = c.loop-i-test.true in
-    let works = c.map_one-w.ensures.1 in
+    let works = c.map_one-w.ensures.works in
     let most = works.most c.if-w-ne0.false in (
       search rules,
       (
         wired_at _ _ _ _ _ (omega arith) (works.wired c.if-w-ne0.false),
         (
           (omega (arith, most, o.invariant.1.1.0.0), centres_then o.invariant.1.1.0.1 (works.centred c.if-w-ne0.false)),
-          λ text. gates-step _ _ _ _ _ _ _ i _ _ _ (c.map_one-w.ensures.0 _ _ (c.is_forced-force.ensures text)) c.if-w-ne0.false ∙ o.invariant.1.1.1 text,
+          λ text. gates-step _ _ _ _ _ _ _ i _ _ _ (c.map_one-w.ensures.is _ _ (c.is_forced-force.ensures text)) c.if-w-ne0.false ∙ o.invariant.1.1.1 text,
         ),
       ),
     )
@@ -48,4 +51,7 @@ loop-i-preserved c =
 pub returns : goal.returns
 returns c =
     let o = c.loop-i in
-    (λ text. gates_done _ _ _ _ _ _ _ _ _ _ c.loop-i-test.false o.invariant.0 refl refl ∙ o.invariant.1.1.1 text, works_done _ _ _ _ _ _ _ c.loop-i-test.false o.invariant.0 o.invariant.1.0 o.invariant.1.1.0.0 o.invariant.1.1.0.1 refl)
+    record {
+      is = λ text. gates_done _ _ _ _ _ _ _ _ _ _ c.loop-i-test.false o.invariant.0 refl refl ∙ o.invariant.1.1.1 text;
+      works = works_done _ _ _ _ _ _ _ c.loop-i-test.false o.invariant.0 o.invariant.1.0 o.invariant.1.1.0.0 o.invariant.1.1.0.1 refl;
+    }

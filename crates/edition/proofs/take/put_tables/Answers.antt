@@ -1,4 +1,4 @@
-use Rattle.std.proofs.Common.{◌-◌, arith}
+use Rattle.std.proofs.Common.{arith}
 use Rattle.many_text.specs.Tables.{table_less, table_inside}
 use Rattle.edition.specs.Put.{puts_start, puts_all, puts_ready, puts_next}
 use Rattle.edition.proofs.take.put_tables.Goals as goal

@@ -6,4 +6,4 @@ pub bootstrap_in-b-requires : goal.bootstrap_in-b-requires
 bootstrap_in-b-requires c = (c.requires.0, (c.requires.1.store, (left-fits c.requires.1, c.requires.1.both.left)))
 
 pub returns : goal.returns
-returns c = let q = c.bootstrap_in-b in (left_is c.args.s _ _ q.result c.args.w q.ensures.0, left_steps c.requires.1 _ q.result q.ensures.1)
+returns c = let q = c.bootstrap_in-b in record { is = left_is c.args.s _ _ q.result c.args.w q.ensures.is; steps = left_steps c.requires.1 _ q.result q.ensures.spends }

@@ -6,4 +6,4 @@ pub bootstrap_in-b-requires : goal.bootstrap_in-b-requires
 bootstrap_in-b-requires c = (c.requires.0, (c.requires.1.store, (right-fits c.requires.1, c.requires.1.both.right)))
 
 pub returns : goal.returns
-returns c = let q = c.bootstrap_in-b in (right_is c.args.s _ _ q.result c.args.w q.ensures.0, right_steps c.requires.1 _ q.result q.ensures.1)
+returns c = let q = c.bootstrap_in-b in record { is = right_is c.args.s _ _ q.result c.args.w q.ensures.is; steps = right_steps c.requires.1 _ q.result q.ensures.spends }

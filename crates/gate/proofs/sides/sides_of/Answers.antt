@@ -14,7 +14,13 @@ test : (c : After-is_less) → let a = c.args in
 test c count l r = sym (c.is_less.ensures ∙ ap₂ {C = Bool} less (c.cone_order_key.ensures count l) (c.cone_order_key-2.ensures count r))
 
 pub returns-then-is_less : goal.returns-then-is_less
-returns-then-is_less c = let a = c.args in let w = c.switch_inputs in (λ count l r. sides_switched a.left a.right a.gate _ _ (test (goal.at.returns-then-is_less c).After-is_less count l r ∙ c.if-is_less.true) (w.ensures.0 _), same_switched a.left a.right a.gate _ w.ensures.0 w.ensures.1)
+returns-then-is_less c = let a = c.args in let w = c.switch_inputs in record {
+  is = λ count l r. sides_switched a.left a.right a.gate _ _ (test (goal.at.returns-then-is_less c).After-is_less count l r ∙ c.if-is_less.true) (w.ensures.is _);
+  same = same_switched a.left a.right a.gate _ w.ensures.is w.ensures.places;
+}
 
 pub returns : goal.returns
-returns c = let a = c.args in (λ count l r. sides_kept a.left a.right a.gate _ (test (goal.at.returns c).After-is_less count l r ∙ c.if-is_less.false), same_kept a.left a.right a.gate)
+returns c = let a = c.args in record {
+  is = λ count l r. sides_kept a.left a.right a.gate _ (test (goal.at.returns c).After-is_less count l r ∙ c.if-is_less.false);
+  same = same_kept a.left a.right a.gate;
+}

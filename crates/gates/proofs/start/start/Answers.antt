@@ -1,4 +1,4 @@
-use Rattle.std.proofs.Common.{◌≡◌, subst, ◌-◌, arith, rules}
+use Rattle.std.proofs.Common.{◌≡◌, subst, arith, rules}
 use Rattle.gates.specs.Start.{Started, inputs-first, started_none}
 use Rattle.gates.proofs.start.start.Goals as goal
 
