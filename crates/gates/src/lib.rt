@@ -79,6 +79,7 @@ fn is_output(ports: &[usize; 192], outs: usize, id: usize) -> bool
 }
 
 // Basic bootstraps every gate; with one table a sum, the gates that an output names are.
+#[tactic(auto, unfolding(rules::specs::Mapper::is_forced, crate::specs::Gates::named))]
 fn is_forced(s: Settings, ports: &[usize; 192], outs: usize, id: usize) -> bool
     requires { (length ports.now ≡ 192) × ((outs ≤ 32) × (id < 1000)) }
     ensures { (text : List ℕ) → result ≡ is_forced s (outputs_in text ports.now outs) id }

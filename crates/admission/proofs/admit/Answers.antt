@@ -4,14 +4,14 @@ use Rattle.admission.proofs.admit.Goals as goal
 pub stats_of-requires : goal.stats_of-requires
 stats_of-requires c =
     let A = c.args in
-    admit_held A.text.now c.read-r.new.1.0 c.read-r.new.1.1.0 _ c.read-r.ensures.0 _ c.in-Good.is c.read-r.ensures.1
+    admit_held A.text.now c.read-r.new.nodes c.read-r.new.ports _ c.read-r.ensures.is _ c.in-Good.is c.read-r.ensures.held
 
 pub returns-in-Refused : goal.returns-in-Refused
 returns-in-Refused c =
     let A = c.args in
-    admit_refused A.text.now c.read-r.new.1.0 c.read-r.new.1.1.0 _ c.read-r.ensures.0 _ _ c.in-Refused.is
+    admit_refused A.text.now c.read-r.new.nodes c.read-r.new.ports _ c.read-r.ensures.is _ _ c.in-Refused.is
 
 pub returns-in-Good : goal.returns-in-Good
 returns-in-Good c =
     let A = c.args in
-    admit_good A.text.now c.read-r.new.1.0 c.read-r.new.1.1.0 _ c.read-r.ensures.0 _ c.in-Good.is _ (c.stats_of.ensures _ (admit_centred A.text.now c.read-r.new.1.0 c.read-r.new.1.1.0 _ c.read-r.ensures.0 _ c.in-Good.is c.read-r.ensures.1))
+    admit_good A.text.now c.read-r.new.nodes c.read-r.new.ports _ c.read-r.ensures.is _ c.in-Good.is _ (c.stats_of.ensures _ (admit_centred A.text.now c.read-r.new.nodes c.read-r.new.ports _ c.read-r.ensures.is _ c.in-Good.is c.read-r.ensures.held))

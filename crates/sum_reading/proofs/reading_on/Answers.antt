@@ -9,10 +9,10 @@ use Rattle.sum_reading.proofs.reading_on.Goals as goal
 use Rattle.sum_reading.proofs.reading_on.Goals.{After-constant_of, After-size_of-n}
 
 -- as many coefficients as terms
-many : (c : After-size_of-n) → c.type_size.result ≡ length (terms_of (node_of c.args.nodes.now c.args.i))
-many c = c.type_size.ensures ∙ as_many (node_of c.args.nodes.now c.args.i) c.requires.1
+many : (c : After-size_of-n) → c.size_of-n.result ≡ length (terms_of (node_of c.args.nodes.now c.args.i))
+many c = c.size_of-n.ensures ∙ as_many (node_of c.args.nodes.now c.args.i) c.requires.1
 
-few : (c : After-size_of-n) → c.type_size.result ≤ 11
+few : (c : After-size_of-n) → c.size_of-n.result ≤ 11
 few c = omega (arith, many c, few_terms c.args.i (node_of c.args.nodes.now c.args.i) c.requires.0.fine)
 
 rest-is : (c : After-constant_of) → to_z w64 (of_z w64 c.wide-wanted.result) -ℤ to_z w64 (of_z w64 c.constant_of.result) ≡ c.args.value -ℤ constant_of (node_of c.args.nodes.now c.args.i)
@@ -39,5 +39,8 @@ shown-requires c = few (goal.at.shown-requires c).After-size_of-n
 
 pub returns : goal.returns
 returns c =
+    let x = node_of c.args.nodes.now c.args.i in
+    let e = rest-is (goal.at.returns c).After-constant_of in
+    let fits = subst (SFits w64) (sym e) (rest-fits c.args.value (constant_of x) c.ranges.value (constant_small c.args.i x c.requires.0.fine c.requires.1)) in
     c.shown.ensures
-    ∙ sum-answer (node_of c.args.nodes.now c.args.i) c.args.value _ c.type_size.result c.first_row-row.result _ c.requires.1 (many (goal.at.returns c).After-size_of-n) c.coefs_of-coefs.ensures (to_z-of_z (sub-rest (goal.at.returns c).After-constant_of) ∙ rest-is (goal.at.returns c).After-constant_of) c.first_row-row.ensures
+    ∙ sum-answer x c.args.value _ c.size_of-n.result c.first_row-row.result _ c.requires.1 (many (goal.at.returns c).After-size_of-n) c.coefs_of-coefs.ensures (to_z-of_z {w = w64} fits ∙ e) c.first_row-row.ensures

@@ -2,7 +2,6 @@ use Rattle.std.proofs.Common.{refl}
 use Rattle.rules.specs.SumReading.{sum_answer}
 use Rattle.sum_reading.proofs.refused.Goals as goal
 
--- `sum_reading::refused` meets its contract.
 pub returns : goal.returns
 unfolding sum_answer
 returns c = refl

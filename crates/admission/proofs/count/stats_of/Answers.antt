@@ -1,4 +1,4 @@
-use Rattle.std.proofs.Common.{◌-◌, arith}
+use Rattle.std.proofs.Common.{arith}
 use Rattle.nodes.specs.View.{is_node, store_below}
 use Rattle.admission.specs.Count.{counting_start, counting_long, counting_room, counting_next, counting_done}
 use Rattle.admission.proofs.count.stats_of.Goals as goal
@@ -19,7 +19,7 @@ loop-i-preserved c =
     let o = c.loop-i in
     let h = c.loop-i-test.true in
     let n = c.count_node-counted.ensures in
-    (omega (arith, h), counting_next o.invariant.1 c.requires h n.0 n.1 c.depth_of.ensures c.count_depth-s.ensures)
+    (omega (arith, h), counting_next o.invariant.1 c.requires h n.stats n.taken c.depth_of.ensures c.count_depth-s.ensures)
 
 pub returns : goal.returns
 returns c =

@@ -2,7 +2,6 @@ use Rattle.std.proofs.Common.{◌-◌, ◌≤◌}
 use Rattle.admission.specs.Count.{Counting}
 use Rattle.admission.proofs.count.stats_of.Given as goal
 
--- `admission::count::stats_of` meets its contract.
 abbrev pub invariant-loop-i : goal.invariant-loop-i
 invariant-loop-i l = (l.i ≤ l.count) × Counting l.nodes l.count l.outputs l.taken l.s l.i
 

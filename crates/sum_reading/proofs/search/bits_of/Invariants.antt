@@ -3,7 +3,7 @@ use Rattle.laws.specs.Digits.{digits}
 use Rattle.laws.specs.Front.{Filling}
 use Rattle.sum_reading.proofs.search.bits_of.Given as goal
 
--- `sum_reading::search::bits_of` meets its contract: the first k places hold the first k digits.
+-- the first k places hold the first k digits
 abbrev pub invariant-loop-k : goal.invariant-loop-k
 invariant-loop-k l = (l.k ≤ l.n) × Filling (digits l.n l.row) (replicate 11 0) l.bits l.k
 

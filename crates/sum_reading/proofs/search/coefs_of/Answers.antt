@@ -1,4 +1,4 @@
-use Rattle.std.proofs.Common.{◌≡◌, refl, sym, ◌∙◌, List, ℕ, ◌+◌, ◌-◌, ◌<◌, arith, ℤ, pos, length, get_or, take, set, length-set}
+use Rattle.std.proofs.Common.{◌≡◌, refl, sym, ◌∙◌, List, ℕ, ◌+◌, ◌<◌, arith, ℤ, pos, length, get_or, take, set, length-set}
 use lib.ListN.{length-map, get_or-map}
 use Rattle.laws.specs.Front.{taken_step, taken-all}
 use Rattle.laws.specs.Integer.{read_back}

@@ -4,7 +4,7 @@ use Rattle.theorems.specs.Terms.{coefs}
 use Rattle.nodes.specs.View.{node_of}
 use Rattle.sum_reading.proofs.search.coefs_of.Given as goal
 
--- `sum_reading::search::coefs_of` meets its contract: the first k places hold the first k coefficients.
+-- the first k places hold the first k coefficients
 abbrev pub invariant-loop-k : goal.invariant-loop-k
 invariant-loop-k l = (l.k ≤ l.n) × (length l.coefs ≡ 11) × (take l.k l.coefs ≡ take l.k (coefs (terms_of (node_of l.nodes l.i))))
 

@@ -1,8 +1,8 @@
-use Rattle.std.proofs.Common.{◌≡◌, ◌+◌, ◌-◌, ◌≤◌, length, drop, to_z, w64}
+use Rattle.std.proofs.Common.{◌≡◌, ◌+◌, ◌-◌, ◌≤◌, length, drop}
 use Rattle.sum_reading.specs.Rows.{first_place}
 use Rattle.sum_reading.proofs.search.first_place.Given as goal
 
--- `sum_reading::search::first_place` meets its contract: the values passed are others.
+-- the values passed are others
 abbrev pub invariant-loop-i : goal.invariant-loop-i
 invariant-loop-i l = (l.i ≤ length l.values) × (l.i + first_place l.wanted (drop l.i l.values) ≡ first_place l.wanted l.values)
 

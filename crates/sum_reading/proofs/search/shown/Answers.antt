@@ -7,7 +7,6 @@ use Rattle.rules.specs.SumReading.{sum_answer, shown}
 use Rattle.sum_reading.specs.Rows.{row_reading}
 use Rattle.sum_reading.proofs.search.shown.Goals as goal
 
--- `sum_reading::search::shown` meets its contract.
 module _ (n row : ℕ) where
   some_bits : (bits : List ℕ) → bits ≡ over (digits n row) (replicate 11 0) → row < 2 ^ n
       → ◌≡◌ {A = SumAnswer} (record { reply = Reply.Shown n; bits = bits }) (sum_answer (shown (row_reading n row)))
@@ -20,7 +19,7 @@ module _ (n row : ℕ) where
 
 pub returns-then-row-rows_of : goal.returns-then-row-rows_of
 returns-then-row-rows_of c =
-    some_bits c.args.n c.args.row c.bits_of.result c.bits_of.ensures (omega (arith, c.rows_of_lem.ensures))
+    some_bits c.args.n c.args.row c.bits_of.result c.bits_of.ensures (omega (arith, c.rows_of.ensures))
 
 pub returns : goal.returns
-returns c = no_bits c.args.n c.args.row (omega (arith, c.rows_of_lem.ensures))
+returns c = no_bits c.args.n c.args.row (omega (arith, c.rows_of.ensures))
