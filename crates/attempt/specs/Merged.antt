@@ -48,8 +48,8 @@ pub record Mergeable (basis : Basis) (best : Score) : Type 0 where
   pub cone : IsCone (merged_of basis best)
 
 -- What is made of the pair, if there is one.
-unfoldable pub merged_by_lem : Basis → Score → Option C.Cone
-merged_by_lem basis best = if best.found then some (simplify_cone (cone_of (merged_of basis best))) otherwise none
+unfoldable pub merged_by : Basis → Score → Option C.Cone
+merged_by basis best = if best.found then some (simplify_cone (cone_of (merged_of basis best))) otherwise none
 
 pub record MergedTo (basis : Basis) (best : Score) (c : Cone) : Type 0 where
   pub cone : IsCone c
@@ -189,9 +189,9 @@ module _ (left right : C.Cone) (truth : List ℕ) (basis : Basis) (best : Score)
 -- it is the definition's
 module _ (s : Settings) (nodes : List LutNode) (left right : C.Cone) (truth : List ℕ) (basis : Basis) (best : Score) (is : IsBasis left right basis)
     (rows : Rows (take basis.n basis.left) (take basis.n basis.right)) (t_long : length truth ≡ 2 ^ basis.n) (finds : Finds s nodes left right truth best) where
-  pub merged_by : merged_by_lem basis best ≡ map merge_cones (find_candidate s nodes (union_support left.support right.support) left right truth)
-  unfolding merged_by_lem candidate_of merge_cones
-  merged_by =
+  pub merged_by_lem : merged_by basis best ≡ map merge_cones (find_candidate s nodes (union_support left.support right.support) left right truth)
+  unfolding merged_by candidate_of merge_cones
+  merged_by_lem =
       ⊎_elim
       (λ (e : best.found ≡ true).
       ap (λ t. if t then some (simplify_cone (cone_of (merged_of basis best))) otherwise none) e

@@ -37,7 +37,7 @@ use Rattle.search.specs.Reuse.{Stored}
 use Rattle.merged_rows.specs.RowsCompacted.{sum_over, Compacted}
 use Rattle.merged_rows.specs.RowsFrame.{InFrame, Framed, Moved, tables_framed}
 use Rattle.search.specs.Search.{Ready}
-use Rattle.attempt.specs.Merged.{merged_of, Mergeable, merged_by_lem, MergedTo, merged-support, merged-coefs_long, found_mergeable, merged_by}
+use Rattle.attempt.specs.Merged.{merged_of, Mergeable, merged_by, MergedTo, merged-support, merged-coefs_long, found_mergeable, merged_by_lem}
 use Rattle.cone.specs.Sources.{Near, Below, Stands}
 use Rattle.attempt.specs.Pair.{FrameOf, Tabled, Trial}
 use Rattle.theorems.specs.SettingLimits.{limits_m}
@@ -143,8 +143,8 @@ module _ (s : Settings) (bytes : List ℕ) (count : ℕ) (left right : Cone) (ba
       trial_mergeable e =
           found_mergeable (cone_of left) (cone_of right) (take rows ts) basis best s t.over trial_rows truth_rows (finds.found e) trial_small trial_different trial_near
 
-      pub trial_merged : merged_by_lem basis best ≡ map merge_cones (find_candidate s nodes U (cone_of left) (cone_of right) (take rows ts))
-      trial_merged = merged_by s nodes (cone_of left) (cone_of right) (take rows ts) basis best t.over trial_rows truth_rows finds
+      pub trial_merged : merged_by basis best ≡ map merge_cones (find_candidate s nodes U (cone_of left) (cone_of right) (take rows ts))
+      trial_merged = merged_by_lem s nodes (cone_of left) (cone_of right) (take rows ts) basis best t.over trial_rows truth_rows finds
 
     -- the rows that stand for all rows
     module _ (n : ℕ) (xs' ys' : List ℤ) (ts' counts : List ℕ)

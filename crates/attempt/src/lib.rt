@@ -14,7 +14,7 @@ ghost use Rattle.rules.specs.Cone as C;
 ghost use Rattle.search.specs.Policies.{Attempted, Finds};
 ghost use Rattle.search.specs.Reuse.{Stored};
 ghost use Rattle.search.specs.Search.{Ready};
-ghost use Rattle.attempt.specs.Merged.{merged_of, Mergeable, merged_by_lem, MergedTo};
+ghost use Rattle.attempt.specs.Merged.{merged_of, Mergeable, merged_by, MergedTo};
 ghost use Rattle.attempt.specs.Pair.{FrameOf, Tabled, Trial, gated};
 ghost use Rattle.cone.specs.Sources.{Stands};
 ghost use Rattle.attempt.specs.Tried.{tried_of};
@@ -158,7 +158,7 @@ fn merged(basis: Basis, best: Score) -> Cone
 // The merged cone of the best pair, if there is one.
 fn best_merged(left: Cone, basis: Basis, best: Score) -> Tried
     requires { best.found ≡ true → Mergeable basis best }
-    ensures is { tried_of result ≡ merged_by_lem basis best }
+    ensures is { tried_of result ≡ merged_by basis best }
     ensures cone { result.found ≡ true → MergedTo basis best result.cone }
 {
     if !best.found {

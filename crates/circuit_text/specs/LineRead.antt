@@ -7,7 +7,7 @@ use Rattle.rules.specs.declared.Settings.{Settings}
 use Rattle.rules.specs.declared.Wire.{Wire}
 use Rattle.rules.specs.Circuit.{Output}
 use Rattle.rules.specs.CircuitText.{CircuitLine, FbsLine, InLine, GateLine, OutLine, policy, tables, circuit_line, fbs_line, gate_line}
-use Rattle.rules.specs.Form.{Reader, give, onward, either, bits_from, in_line, out_line_lem}
+use Rattle.rules.specs.Form.{Reader, give, onward, either, bits_from, in_line, out_line}
 use Rattle.text.specs.Capped.{capped, exact_some, exact_none}
 use Rattle.text.specs.Chain.{step, stop, first, second}
 use Rattle.text.specs.FirstLine.{Inner, Closes, no_newline, first_line, inner_give, inner_or, inner_then, inner_word, inner_many, closes_or, closes_then, closes_give, closes_word, whole_found, whole_none, after_is}
@@ -76,7 +76,7 @@ closes_gate =
     closes_then (inner_many (inner_then space (λ _. inner_wire)) takes_spaced) (λ ws. closes_give (λ _. GateLine b ws) (closes_word (41 ∷ []) refl))))))
 
 forms : Reader CircuitLine
-forms s = either (onward (fbs_line s) (λ f. give (FbsLine f))) (either (onward (in_line s) (λ n. give (InLine n))) (either (gate_line s) (onward (out_line_lem s) (λ o. give (OutLine o)))))
+forms s = either (onward (fbs_line s) (λ f. give (FbsLine f))) (either (onward (in_line s) (λ n. give (InLine n))) (either (gate_line s) (onward (out_line s) (λ o. give (OutLine o)))))
 
 closes_forms : Closes forms
 unfolding forms
@@ -120,18 +120,18 @@ module _ (n : ℕ) (s : List ℕ) (a : ℕ) where
             record { same = w.0; placed = (m.0, m.1, w.1) }
 
         module _ (noGate : briefed n (gate_line (drop a s)) ≡ none) where
-          pub out_line : (b c : ℕ) (w : Wire) (e : ℕ)
-              → capped cap_output (out_line_lem (drop a s)) ≡ some (record { value = record { name = take (c - b) (drop b s); wire = w }; rest = drop e s }) → e ≤ length s
+          pub out_line_lem : (b c : ℕ) (w : Wire) (e : ℕ)
+              → capped cap_output (out_line (drop a s)) ≡ some (record { value = record { name = take (c - b) (drop b s); wire = w }; rest = drop e s }) → e ≤ length s
               → Named (length s) b c → LineAt n s a (Out b c w e)
           unfolding forms brief cap_output
-          out_line b c w e h k m =
+          out_line_lem b c w e h k m =
               let x = exact_some cap_output _ h in
               let q = line_found (OutLine x.0) e
               (second _ (stop _ (exact_none cap_settings _ noFbs)) (second _ (stop _ no_in) (second _ (exact_no-line n _ noGate) (step _ x.1 refl)))) k i
               (ap (λ (o : Output). OutBrief o.name o.wire) x.2) in
               record { same = q.0; placed = (m, q.1) }
 
-          pub no_line : capped cap_output (out_line_lem (drop a s)) ≡ none → LineAt n s a Nothing
+          pub no_line : capped cap_output (out_line (drop a s)) ≡ none → LineAt n s a Nothing
           unfolding circuit_line forms kept
           no_line h =
               let none_there : forms (drop a s) ≡ none

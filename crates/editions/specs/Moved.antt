@@ -100,12 +100,12 @@ module _ (to : ℕ → ℕ) where
   unfolding all_inputs
   same_all_inputs xs = rw (same_count xs, same_length xs)
 
-  pub same_names : (xs : List LutNode) → names (map (moved_node to) xs) ≡ names xs
+  pub same_names_lem : (xs : List LutNode) → names (map (moved_node to) xs) ≡ names xs
   unfolding names moved_node
-  same_names [] = refl
-  same_names (Input a ∷ xs) = ap {B = List Name} (λ l. a.name ∷ l) (same_names xs)
-  same_names (Linear c ts ∷ xs) = same_names xs
-  same_names (Bootstrap i table ∷ xs) = same_names xs
+  same_names_lem [] = refl
+  same_names_lem (Input a ∷ xs) = ap {B = List Name} (λ l. a.name ∷ l) (same_names_lem xs)
+  same_names_lem (Linear c ts ∷ xs) = same_names_lem xs
+  same_names_lem (Bootstrap i table ∷ xs) = same_names_lem xs
 
 -- the first k nodes by their numbers
 first-nodes : {B : Type 0} (g : LutNode → B) (k : ℕ) (ns : List LutNode) → k ≤ length ns → tabulate k (λ j. g (node_at ns j)) ≡ map g (take k ns)

@@ -24,7 +24,7 @@ use Rattle.theorems.specs.Readings.{NoneMet}
 use Rattle.theorems.specs.Weights.{sources_within}
 use Rattle.editions.specs.Places.{no_member, not_member, place_within, place_at, place_front, place_same}
 use Rattle.editions.specs.NewOrder.{pass_at, taken-length, taken-node, Ordered, Sorted}
-use Rattle.editions.specs.Moved.{same_good_terms, new-sources, same_linear, same_is_bit, same_fits, same_norm, same_all_inputs, same_names, numbered_nodes, same_weight}
+use Rattle.editions.specs.Moved.{same_good_terms, new-sources, same_linear, same_is_bit, same_fits, same_norm, same_all_inputs, same_names_lem, numbered_nodes, same_weight}
 
 -- ---- At most 672 nodes.
 
@@ -124,7 +124,7 @@ module _ (ns : List LutNode) (to : ℕ → ℕ) (done : List ℕ) (ms : List Lut
               refl,
               (
                 not_of_true (all_inputs ms) (ap all_inputs e ∙ same_all_inputs to (take k ns) ∙ not-false (all_inputs (take k ns)) p.0.1.0),
-                (rw (e, length-map) p.0.1.1.0, (ap (λ l. listed a.name (names l)) e ∙ ap (listed a.name) (same_names to (take k ns)) ∙ p.0.1.1.1.0, tt)),
+                (rw (e, length-map) p.0.1.1.0, (ap (λ l. listed a.name (names l)) e ∙ ap (listed a.name) (same_names_lem to (take k ns)) ∙ p.0.1.1.1.0, tt)),
               ),
             ),
             p.1,

@@ -6,7 +6,7 @@ use Rattle.laws.specs.Lists.{Each}
 use Rattle.rules.specs.Circuit.{Output, Given}
 use Rattle.rules.specs.Converter.{tables_text, line2_text}
 use Rattle.rules.specs.Edition2.{Table, Line2, Many, centre_digit, table, many_line}
-use Rattle.rules.specs.Form.{◌>>◌, many, bytes, word, Piece, Reader, give, onward, exactly, name, number, signed, bits, wire, norm, in_line, out_line_lem, weight}
+use Rattle.rules.specs.Form.{◌>>◌, many, bytes, word, Piece, Reader, give, onward, exactly, name, number, signed, bits, wire, norm, in_line, out_line, weight}
 use Rattle.rules.specs.Network.{Term, LutNode, Input, Linear, Bootstrap}
 use Rattle.rules.specs.NetworkText.{Net, term, lin_line, boot_line}
 use Rattle.rules.specs.Runs.{all_bits}
@@ -47,8 +47,8 @@ in_back s p e =
     give_back (λ (q : Piece Given). (s ≡ node_text (Input q.value) ++ q.rest) × (GoodName q.value.name × GoodWeight q.value.weight)) (record { name = b.0; weight = c.0 }) d.0 p d.2
     (a.1 ∙ ap (λ l. bytes "(in " ++ l) (b.2 ∙ ap (λ l. b.0 ++ l) (c.2 ∙ ap (λ l. weight_text c.0 ++ l) d.1)) ∙ sym (simp append_assoc), (b.3, c.3))
 
-pub out_back : (s : List ℕ) (p : Piece Output) → out_line_lem s ≡ some p → (s ≡ output_text p.value ++ p.rest) × (GoodName p.value.name × WireBit p.value.wire)
-unfolding out_line_lem output_text
+pub out_back : (s : List ℕ) (p : Piece Output) → out_line s ≡ some p → (s ≡ output_text p.value ++ p.rest) × (GoodName p.value.name × WireBit p.value.wire)
+unfolding out_line output_text
 out_back s p e =
     let a = then_word (bytes "(out ") s _ p e in
     let b = then_piece name (λ n. n) GoodName name_back a.0 _ p a.2 in

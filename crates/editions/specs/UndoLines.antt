@@ -4,7 +4,7 @@ use Rattle.std.proofs.Common.{ap, subst, ◌∙◌, append-nil, ⊎_elim}
 use Rattle.std.proofs.Math.Option.{Option, some, some-injective}
 use Rattle.rules.specs.Converter.{line2_text}
 use Rattle.rules.specs.Edition2.{Line2, Plain, net2_line, many_line, line2}
-use Rattle.rules.specs.Form.{bytes, Piece, Reader, give, onward, exactly, in_line, out_line_lem}
+use Rattle.rules.specs.Form.{bytes, Piece, Reader, give, onward, exactly, in_line, out_line}
 use Rattle.rules.specs.Network.{LutNode, Input, Linear, Bootstrap}
 use Rattle.rules.specs.NetworkText.{NetworkLine, NetLine, NodeLine, OutLine, net_line, lin_line, boot_line, network_line}
 use Rattle.rules.specs.Writing.{node_text, output_text}
@@ -70,9 +70,9 @@ line2-back s l e =
     group : many_line s ≡ some p → Undone s l
     group f = let b = many_back s p f in (whole-line s (line2_text l) b.0, b.1)
 
-    output : onward (out_line_lem s) (λ o. give (Plain (OutLine o))) ≡ some p → Undone s l
+    output : onward (out_line s) (λ o. give (Plain (OutLine o))) ≡ some p → Undone s l
     output f =
-        let a = gives_back out_line_lem (λ o. Plain (OutLine o)) s l f in
+        let a = gives_back out_line (λ o. Plain (OutLine o)) s l f in
         let b = out_back s (record { value = a.0; rest = [] }) a.1 in
         subst (Undone s) a.2 (unfold line2_text in (whole-line s (output_text a.0) b.0), unfold LineReads in b.1)
 
@@ -142,8 +142,8 @@ line-back s l e =
         let b = boot_back s (record { value = a.0; rest = [] }) a.1 in
         subst (PlainUndone s) a.2 (node_undone s a.0 b.0 (table_readable a.0 b.1))
 
-    output : onward (out_line_lem s) (λ o. give (OutLine o)) ≡ some p → PlainUndone s l
+    output : onward (out_line s) (λ o. give (OutLine o)) ≡ some p → PlainUndone s l
     output f =
-        let a = gives_back out_line_lem OutLine s l f in
+        let a = gives_back out_line OutLine s l f in
         let b = out_back s (record { value = a.0; rest = [] }) a.1 in
         subst (PlainUndone s) a.2 (unfold line_text in (whole-line s (output_text a.0) b.0), unfold PlainReads in b.1)

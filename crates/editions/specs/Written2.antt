@@ -8,7 +8,7 @@ use Rattle.laws.specs.Lists.{Each}
 use Rattle.rules.specs.Circuit.{Output, Given}
 use Rattle.rules.specs.Converter.{tables_text, line2_text, lines2_text}
 use Rattle.rules.specs.Edition2.{Table, Line2, Plain, Many, net2_line, centre_digit, table, many_line, line2}
-use Rattle.rules.specs.Form.{◌>>◌, many, bytes, word, onward, either, only, gather, up_to, exactly, is_name_byte, is_name, is_digit, is_bit_byte, in_line, out_line_lem, lines}
+use Rattle.rules.specs.Form.{◌>>◌, many, bytes, word, onward, either, only, gather, up_to, exactly, is_name_byte, is_name, is_digit, is_bit_byte, in_line, out_line, lines}
 use Rattle.rules.specs.Network.{Term, Input, Linear, Bootstrap}
 use Rattle.rules.specs.NetworkText.{Net, NetLine, NodeLine, OutLine, lin_line}
 use Rattle.rules.specs.Runs.{all_bits}
@@ -138,7 +138,7 @@ many_line_lem i ts = word_line (bytes "(many ") _ refl (plain-line (digits i) _ 
 
 out_form : (o : Output) → GoodName o.name → WireBit o.wire
     → line2 (bytes "(out " ++ (o.name ++ (bytes " " ++ (wire_text o.wire ++ bytes ")\n")))) ≡ some (Plain (OutLine o))
-unfolding line2 net2_line in_line lin_line many_line out_line_lem onward either only exactly Stops is_name_byte GoodName
+unfolding line2 net2_line in_line lin_line many_line out_line onward either only exactly Stops is_name_byte GoodName
 out_form o g b =
     rw (name_takes o.name (bytes " " ++ (wire_text o.wire ++ bytes ")\n")) (good_bytes o.name g) (T-is (is_name o.name) g.0) refl, wire_takes o.wire (bytes ")\n") b)
 

@@ -4,7 +4,7 @@ use Rattle.std.proofs.Common.{sym, ap, subst, arith}
 use Rattle.std.proofs.Math.Option.{Option, none, some}
 use Rattle.rules.specs.Circuit.{Name, Given, Output}
 use Rattle.rules.specs.declared.Wire.{Wire}
-use Rattle.rules.specs.Form.{Piece, in_line, out_line_lem}
+use Rattle.rules.specs.Form.{Piece, in_line, out_line}
 use Rattle.forms.specs.declared.InRead.{InRead}
 use Rattle.forms.specs.declared.OutRead.{OutRead}
 use Rattle.text.specs.Capped.{capped, capped_none}
@@ -74,10 +74,10 @@ out_taken s (OutRead.At a b w e) = some (record { value = record { name = take (
 out_taken s OutRead.Nothing = none
 
 pub record ReadsOut (s : List ℕ) (at : ℕ) (r : OutRead) : Type 0 where
-  pub reads : Reads (length s) (out_taken s r) (out_end r) (capped cap_output (out_line_lem (drop at s)))
+  pub reads : Reads (length s) (out_taken s r) (out_end r) (capped cap_output (out_line (drop at s)))
   pub named : Named (length s) (out_from r) (out_to r)
 
-pub out_none : (s : List ℕ) (at : ℕ) → out_line_lem (drop at s) ≡ none → ReadsOut s at OutRead.Nothing
+pub out_none : (s : List ℕ) (at : ℕ) → out_line (drop at s) ≡ none → ReadsOut s at OutRead.Nothing
 out_none s at e = record { reads = record { same = capped_none cap_output e; inside = omega arith }; named = omega arith }
 
 -- Where the name stands, once the answer is taken apart.

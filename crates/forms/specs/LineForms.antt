@@ -3,7 +3,7 @@ use Rattle.std.specs.Prelude.{refl, Bool, true, false, ◌&&◌, [], ◌∷◌, 
 use Rattle.std.proofs.Math.Option.{none}
 use Rattle.laws.specs.Test.{if◌then◌otherwise◌}
 use Rattle.rules.specs.declared.Limit.TheVariants.{AtMost}
-use Rattle.rules.specs.Form.{give, name, is_name_byte, is_name, number, is_digit, is_number, bits, is_bit_byte, is_bits, wire, norm, up_to4096, from2_to64, weight, in_line, out_line_lem}
+use Rattle.rules.specs.Form.{give, name, is_name_byte, is_name, number, is_digit, is_number, bits, is_bit_byte, is_bits, wire, norm, up_to4096, from2_to64, weight, in_line, out_line}
 use Rattle.text.specs.FirstLine.{Inner, Closes, no_newline, inner_give, inner_or, inner_then, inner_word, inner_run, closes_then, closes_give, closes_word}
 
 pub inner_name : Inner name
@@ -43,8 +43,8 @@ closes_in =
     closes_then (inner_word _ refl) (λ _. closes_then inner_name (λ n. closes_then inner_weight (λ w.
     closes_give (λ _. record { name = n; weight = w }) (closes_word (41 ∷ []) refl))))
 
-pub closes_out : Closes out_line_lem
-unfolding out_line_lem no_newline
+pub closes_out : Closes out_line
+unfolding out_line no_newline
 closes_out =
     closes_then (inner_word _ refl) (λ _. closes_then inner_name (λ n. closes_then (inner_word _ refl) (λ _. closes_then inner_wire (λ w.
     closes_give (λ _. record { name = n; wire = w }) (closes_word (41 ∷ []) refl)))))

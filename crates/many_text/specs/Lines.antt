@@ -11,7 +11,7 @@ use Rattle.rules.specs.declared.Limit.{Limit}
 use Rattle.rules.specs.Builder.{table_limits}
 use Rattle.rules.specs.Circuit.{Given, Output}
 use Rattle.rules.specs.Edition2.{Line2, Plain, Many, net2_line, many_line, line2, too_long, text_conditions2, conditions2}
-use Rattle.rules.specs.Form.{Piece, Reader, give, onward, either, only, exactly, bytes, ◌>>=◌, ◌>>◌, word, number, many, in_line, out_line_lem}
+use Rattle.rules.specs.Form.{Piece, Reader, give, onward, either, only, exactly, bytes, ◌>>=◌, ◌>>◌, word, number, many, in_line, out_line}
 use Rattle.rules.specs.Network.{LutNode, Input}
 use Rattle.rules.specs.NetworkText.{Net, NetworkLine, NetLine, NodeLine, OutLine, NetPrefix, net_line, lin_line, boot_line, network_line, started, ending, text_conditions}
 use Rattle.text.specs.Cap.{cap_table}
@@ -208,8 +208,8 @@ module _ (l : List ℕ) (no-net2 : net2_line l ≡ none) where
     unfolding many_line
     other_many k = stop _ (clashes w (bytes "(many ") l k e)
 
-    other_out : clash w (bytes "(out ") ≡ true → out_line_lem l ≡ none
-    unfolding out_line_lem
+    other_out : clash w (bytes "(out ") ≡ true → out_line l ≡ none
+    unfolding out_line
     other_out k = stop _ (clashes w (bytes "(out ") l k e)
 
     no-form : clash w (bytes "(in ") ≡ true → clash w (bytes "(lin ") ≡ true → clash w (bytes "(many ") ≡ true → clash w (bytes "(out ") ≡ true → LineRead l Lines.Bad
@@ -243,7 +243,7 @@ module _ (l : List ℕ) (no-net2 : net2_line l ≡ none) where
   -- the plain text's line
   pub plain-line : exactly (bytes "(many ") l ≡ none → exactly (bytes "(net ") l ≡ none → exactly (bytes "(boot ") l ≡ none → line2 l ≡ plain_of (network_line l)
   unfolding line2 network_line many_line net_line boot_line onward either plain_of only
-  plain-line a b c = rw (no-net2, a, b, c) (by (in_line l) (lin_line l) (out_line_lem l))
+  plain-line a b c = rw (no-net2, a, b, c) (by (in_line l) (lin_line l) (out_line l))
     where
       last : (v : NetworkLine) (b : Bool) → (if b then some (Plain v) otherwise none) ≡ plain_of (if b then some v otherwise none)
       last v true = refl

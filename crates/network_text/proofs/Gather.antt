@@ -101,9 +101,9 @@ module _ (l : List ℕ) (at : ℕ) (c : ℤ) (t : Terms) (i : ℕ) (ts : List Te
       }
 
   -- a further term that is none of a good sum
-  bad_sum : good_next l t z a e ≡ false → (d : ℤ) (ws : List Term) → good_sum d ((ts ++ ((exact l i next v z read).0 ∷ [])) ++ ws) ≡ false
+  bad_sum_lem : good_next l t z a e ≡ false → (d : ℤ) (ws : List Term) → good_sum d ((ts ++ ((exact l i next v z read).0 ∷ [])) ++ ws) ≡ false
   unfolding good_next
-  bad_sum g d ws = ⊎_elim (λ (h : t.lin.n < 11). by (good_coef z) refl (rw (lt-leb 11 t.lin.n h) at g)) full (lt_or_le t.lin.n 11)
+  bad_sum_lem g d ws = ⊎_elim (λ (h : t.lin.n < 11). by (good_coef z) refl (rw (lt-leb 11 t.lin.n h) at g)) full (lt_or_le t.lin.n 11)
     where
       x : (u : Term) × (spaced_term (drop i l) ≡ some (record { value = u; rest = drop next l })) × (z ≡ cap_signed u.coef) × (v ≡ u.node)
       x = exact l i next v z read
@@ -131,7 +131,7 @@ module _ (l : List ℕ) (at : ℕ) (c : ℤ) (t : Terms) (i : ℕ) (ts : List Te
     where
       by : (o : Option (Piece (List Term))) → ahead (ts ++ ((exact l i next v z read).0 ∷ [])) o ≡ some (record { value = us; rest = y }) → good_sum d us ≡ false
       by none f = absurd (none-ne-some _ f)
-      by (some p) f = subst (λ (r : Piece (List Term)). good_sum d r.value ≡ false) (some-injective _ _ f) (bad_sum g d p.value)
+      by (some p) f = subst (λ (r : Piece (List Term)). good_sum d r.value ≡ false) (some-injective _ _ f) (bad_sum_lem g d p.value)
 
 -- ---- What the loop over the terms answers.
 

@@ -12,7 +12,7 @@ use Rattle.rules.specs.declared.Limit.{Limit}
 use Rattle.rules.specs.declared.Wire.{Wire}
 use Rattle.rules.specs.Builder.{table_limits}
 use Rattle.rules.specs.Circuit.{Output}
-use Rattle.rules.specs.Form.{exactly, bytes, bits_from, in_line, out_line_lem}
+use Rattle.rules.specs.Form.{exactly, bytes, bits_from, in_line, out_line}
 use Rattle.rules.specs.Network.{LutNode, Input, Linear, Bootstrap}
 use Rattle.rules.specs.NetworkText.{Net, NetworkLine, NetLine, NodeLine, OutLine, net_line, boot_line, network_line}
 use Rattle.text.specs.Cap.{cap_table}
@@ -61,7 +61,7 @@ pub record OutIs (l : List ℕ) (a e : ℕ) (w : Wire) (end : ℕ) : Type 0 wher
   pub no_in : in_line l ≡ none
   pub no_lin : exactly (bytes "(lin ") l ≡ none
   pub no_boot : boot_line l ≡ none
-  pub piece : capped cap_output (out_line_lem l) ≡ some (record { value = record { name = take (e - a) (drop a l); wire = w }; rest = drop end l })
+  pub piece : capped cap_output (out_line l) ≡ some (record { value = record { name = take (e - a) (drop a l); wire = w }; rest = drop end l })
   pub named : Named (length l) a e
   pub inside : end ≤ length l
 
@@ -210,11 +210,11 @@ module _ {l : List ℕ} {i a e end : ℕ} (h : BootIs l i a e end) where
 -- ---- `out`
 
 module _ {l : List ℕ} {a e : ℕ} {w : Wire} {end : ℕ} (h : OutIs l a e w end) where
-  pub out : (o : Output) × (out_line_lem l ≡ some (record { value = o; rest = drop end l })) × (record { name = take (e - a) (drop a l); wire = w } ≡ cap_output o)
-  out = exact_some cap_output (out_line_lem l) h.piece
+  pub out : (o : Output) × (out_line l ≡ some (record { value = o; rest = drop end l })) × (record { name = take (e - a) (drop a l); wire = w } ≡ cap_output o)
+  out = exact_some cap_output (out_line l) h.piece
 
-  pub out_line : network_line l ≡ ended (OutLine out.0) (drop end l)
-  out_line = line_out l h.no-net h.no_in h.no_lin h.no_boot out.1
+  pub out_line_lem : network_line l ≡ ended (OutLine out.0) (drop end l)
+  out_line_lem = line_out l h.no-net h.no_in h.no_lin h.no_boot out.1
 
   pub out_is : {r : Read} → end ≡ length l → r ≡ plain_read (Out a e w) → LineRead l r
   unfolding good_line good_form plain_read line_of line_in
@@ -223,12 +223,12 @@ module _ {l : List ℕ} {a e : ℕ} {w : Wire} {end : ℕ} (h : OutIs l a e w en
       rw q
       (record {
         same = ap (λ o. some (OutLine o)) x.2
-            ∙ sym (ap good_line (out_line ∙ whole-line l (OutLine x.0) end h.inside k));
+            ∙ sym (ap good_line (out_line_lem ∙ whole-line l (OutLine x.0) end h.inside k));
         small = small_none (pos 0) (omega arith);
         within = h.named;
       })
 
 -- ---- None of them.
 
-pub none_is : {l : List ℕ} {r : Read} → net_line l ≡ none → in_line l ≡ none → exactly (bytes "(lin ") l ≡ none → boot_line l ≡ none → out_line_lem l ≡ none → r ≡ plain_read Bad → LineRead l r
+pub none_is : {l : List ℕ} {r : Read} → net_line l ≡ none → in_line l ≡ none → exactly (bytes "(lin ") l ≡ none → boot_line l ≡ none → out_line l ≡ none → r ≡ plain_read Bad → LineRead l r
 none_is {l} a b c d e q = bad_line l q (no_line l (line_none l a b c d e) refl)

@@ -6,7 +6,7 @@ use Rattle.std.proofs.Math.Option.{Option, none, some, some-injective, none-ne-s
 use Rattle.laws.specs.Test.{if◌then◌otherwise◌, eq-or-ne}
 use Rattle.rules.specs.declared.Limit.{Limit}
 use Rattle.rules.specs.Circuit.{Given, Output}
-use Rattle.rules.specs.Form.{Piece, give, onward, either, only, exactly, bytes, run, run_of, bits, is_bits, is_bit_byte, bits_from, in_line, out_line_lem}
+use Rattle.rules.specs.Form.{Piece, give, onward, either, only, exactly, bytes, run, run_of, bits, is_bits, is_bit_byte, bits_from, in_line, out_line}
 use Rattle.rules.specs.Network.{LutNode, Input, Linear, Bootstrap}
 use Rattle.rules.specs.NetworkText.{Net, NetworkLine, NetLine, NodeLine, OutLine, net_line, lin_line, boot_line, network_line}
 use Rattle.rules.specs.Runs.{all_bits}
@@ -153,13 +153,13 @@ module _ (l : List ℕ) where
 
     module _ (no_in : in_line l ≡ none) where
       pub line_lin : {x : List ℕ} → exactly (bytes "(lin ") l ≡ some (record { value = tt; rest = x }) → network_line l ≡ sum_line x
-      unfolding network_line lin_line boot_line out_line_lem sum_line lin_rest clash spaced_term
+      unfolding network_line lin_line boot_line out_line sum_line lin_rest clash spaced_term
       line_lin {x} e =
           ap only
           (second _ (stop _ no-net)
           (second _ (stop _ no_in) (ap₂ either (ap (λ o. onward o (λ n. give (NodeLine n))) (step _ e refl)) others ∙ either_none (onward (lin_rest x) (λ n. give (NodeLine n))))))
         where
-          others : either (onward (boot_line l) (λ n. give (NodeLine n))) (onward (out_line_lem l) (λ o. give (OutLine o))) ≡ none
+          others : either (onward (boot_line l) (λ n. give (NodeLine n))) (onward (out_line l) (λ o. give (OutLine o))) ≡ none
           others = second _ (stop _ (stop _ (clashes (bytes "(lin ") (bytes "(boot ") l refl e))) (stop _ (stop _ (clashes (bytes "(lin ") (bytes "(out ") l refl e)))
 
       module _ (no_lin : exactly (bytes "(lin ") l ≡ none) where
@@ -172,10 +172,10 @@ module _ (l : List ℕ) where
         line_boot e = ap only (second _ (stop _ no-net) (second _ (stop _ no_in) (second _ lin_none (first _ (step _ e refl)))))
 
         module _ (no_boot : boot_line l ≡ none) where
-          pub line_out : {o : Output} {x : List ℕ} → out_line_lem l ≡ some (record { value = o; rest = x }) → network_line l ≡ ended (OutLine o) x
+          pub line_out : {o : Output} {x : List ℕ} → out_line l ≡ some (record { value = o; rest = x }) → network_line l ≡ ended (OutLine o) x
           unfolding network_line ended only
           line_out e = ap only (second _ (stop _ no-net) (second _ (stop _ no_in) (second _ lin_none (second _ (stop _ no_boot) (step _ e refl)))))
 
-          pub line_none : out_line_lem l ≡ none → network_line l ≡ none
+          pub line_none : out_line l ≡ none → network_line l ≡ none
           unfolding network_line only
           line_none e = ap only (second _ (stop _ no-net) (second _ (stop _ no_in) (second _ lin_none (second _ (stop _ no_boot) (stop _ e)))))

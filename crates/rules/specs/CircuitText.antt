@@ -9,7 +9,7 @@ use Rattle.rules.specs.declared.Wire.{Wire}
 use Rattle.rules.specs.declared.Wire.TheVariants.{Const, Node}
 use Rattle.rules.specs.Builder.{table_limits}
 use Rattle.rules.specs.Circuit.{Name, Given, given_names, Gate, Output, Circuit}
-use Rattle.rules.specs.Form.{Reader, give, ◌>>=◌, ◌>>◌, ◌or◌, whole, many, word, number, name, bits, wire, norm, in_line, out_line_lem, lines, Condition, ◌when◌, Reading, Good, Refused, read_lines}
+use Rattle.rules.specs.Form.{Reader, give, ◌>>=◌, ◌>>◌, ◌or◌, whole, many, word, number, name, bits, wire, norm, in_line, out_line, lines, Condition, ◌when◌, Reading, Good, Refused, read_lines}
 
 -- ---- The forms.
 
@@ -58,7 +58,7 @@ gate_line = do
 unfoldable pub circuit_line : List ℕ → Option CircuitLine
 circuit_line =
     whole
-    ((fbs_line >>= (λ s. give (FbsLine s))) or (in_line >>= (λ n. give (InLine n))) or gate_line or (out_line_lem >>= (λ o. give (OutLine o))))
+    ((fbs_line >>= (λ s. give (FbsLine s))) or (in_line >>= (λ n. give (InLine n))) or gate_line or (out_line >>= (λ o. give (OutLine o))))
 
 -- ---- What can be wrong with a line, against the lines before it.
 

@@ -3,7 +3,7 @@ use Rattle.std.specs.Prelude.{Bool, ◌||◌, not, List, [], ◌∷◌, ◌++◌
 use Rattle.std.proofs.Math.Option.{Option}
 use Rattle.laws.specs.Select.{any}
 use Rattle.laws.specs.Test.{if◌then◌otherwise◌, is_some}
-use Rattle.rules.specs.Form.{Reader, give, ◌>>=◌, ◌>>◌, ◌or◌, whole, many, word, number, bits, norm, in_line, out_line_lem, lines, Condition, ◌when◌, Reading, read_lines}
+use Rattle.rules.specs.Form.{Reader, give, ◌>>=◌, ◌>>◌, ◌or◌, whole, many, word, number, bits, norm, in_line, out_line, lines, Condition, ◌when◌, Reading, read_lines}
 use Rattle.rules.specs.Network.{LutNode, Input, Bootstrap, Network, node_at, member, boot_sources}
 use Rattle.rules.specs.NetworkText.{Net, NetworkLine, NetLine, NodeLine, OutLine, NetPrefix, lin_line, started, ending, unknown, settings_of, fits_table, text_conditions, safety_conditions, with_network_line, network_ended, no_network, read_network, read_admitted}
 use Rattle.rules.specs.Rotation.{rotatable, centre_of}
@@ -60,7 +60,7 @@ line2 =
     or (in_line >>= (λ n. give (Plain (NodeLine (Input n)))))
     or (lin_line >>= (λ n. give (Plain (NodeLine n))))
     or many_line
-    or (out_line_lem >>= (λ o. give (Plain (OutLine o)))))
+    or (out_line >>= (λ o. give (Plain (OutLine o)))))
 
 -- ---- What can be wrong with a line, against the lines before it.
 

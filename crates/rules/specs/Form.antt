@@ -216,8 +216,8 @@ in_line = do
   give (record { name = n; weight = w })
 
 -- `(out NAME WIRE)`
-unfoldable pub out_line_lem : Reader Output
-out_line_lem = do
+unfoldable pub out_line : Reader Output
+out_line = do
   word "(out "
   n ← name
   word " "

@@ -11,7 +11,7 @@ use Rattle.rules.specs.declared.Wire.TheVariants.{Const, Node}
 use Rattle.rules.specs.Builder.{table_limits}
 use Rattle.rules.specs.Circuit.{Name, Output}
 use Rattle.rules.specs.CircuitText.{listed, no_node}
-use Rattle.rules.specs.Form.{Reader, give, ◌>>=◌, ◌>>◌, ◌or◌, whole, many, word, number, signed, bits, norm, in_line, out_line_lem, lines, Condition, ◌when◌, Reading, Good, Refused, read_lines}
+use Rattle.rules.specs.Form.{Reader, give, ◌>>=◌, ◌>>◌, ◌or◌, whole, many, word, number, signed, bits, norm, in_line, out_line, lines, Condition, ◌when◌, Reading, Good, Refused, read_lines}
 use Rattle.rules.specs.Network.{Term, LutNode, Input, Linear, Bootstrap, Network, node_at, least_of, greatest_of, node_norm, is_input, is_linear, count, member}
 use Rattle.rules.specs.Rotation.{rotatable}
 
@@ -75,7 +75,7 @@ network_line =
     or (in_line >>= (λ n. give (NodeLine (Input n))))
     or (lin_line >>= (λ n. give (NodeLine n)))
     or (boot_line >>= (λ n. give (NodeLine n)))
-    or (out_line_lem >>= (λ o. give (OutLine o))))
+    or (out_line >>= (λ o. give (OutLine o))))
 
 -- ---- What can be wrong with a line, against the lines before it.
 

@@ -10,7 +10,7 @@ use Rattle.rules.specs.declared.Wire.{Wire}
 use Rattle.rules.specs.declared.Wire.TheVariants.{Const, Node}
 use Rattle.rules.specs.Circuit.{Given, Output}
 use Rattle.rules.specs.Edition2.{Table, Line2, Plain, Many, net2_line, table, many_line, line2}
-use Rattle.rules.specs.Form.{Piece, Reader, give, onward, ◌>>◌, either, only, gather, up_to, many, run, run_of, is_bit_byte, is_bits, bits_from, bits, wire, word, number, from2_to64, weight, out_line_lem, in_line}
+use Rattle.rules.specs.Form.{Piece, Reader, give, onward, ◌>>◌, either, only, gather, up_to, many, run, run_of, is_bit_byte, is_bits, bits_from, bits, wire, word, number, from2_to64, weight, out_line, in_line}
 use Rattle.rules.specs.Network.{LutNode, Input, Linear, Bootstrap}
 use Rattle.rules.specs.NetworkText.{NetworkLine, NetLine, NodeLine, OutLine, net_line, lin_line, boot_line, network_line}
 use Rattle.rules.specs.Runs.{all_bits}
@@ -158,8 +158,8 @@ boot_gives s =
 OutputBit : Output → Type 0
 OutputBit o = WireBit o.wire
 
-out_gives : (s : List ℕ) → Gives OutputBit (out_line_lem s)
-unfolding out_line_lem OutputBit Gives
+out_gives : (s : List ℕ) → Gives OutputBit (out_line s)
+unfolding out_line OutputBit Gives
 out_gives s =
     then_gives OutputBit _ _
     (λ _ s. then_gives OutputBit _ _ (λ n s. then_gives OutputBit _ _
@@ -173,7 +173,7 @@ line-bits s l e =
     (either_gives LineBits _ _ (onward_gives GivenWeight LineBits (in_line s) _ (in_gives s) (λ n s r. r))
     (either_gives LineBits _ _ (onward_gives NodeBits LineBits (lin_line s) _ (lin_gives s) (λ n s r. r))
     (either_gives LineBits _ _ (onward_gives NodeBits LineBits (boot_line s) _ (boot_gives s) (λ n s r. r))
-    (onward_gives OutputBit LineBits (out_line_lem s) _ (out_gives s) (λ n s r. r)))))) l e
+    (onward_gives OutputBit LineBits (out_line s) _ (out_gives s) (λ n s r. r)))))) l e
 
 -- ---- Edition 2.
 
@@ -212,4 +212,4 @@ line2-bits s l e =
     (either_gives Line2Bits _ _ (onward_gives GivenWeight Line2Bits (in_line s) _ (in_gives s) (λ n s r. r))
     (either_gives Line2Bits _ _ (onward_gives NodeBits Line2Bits (lin_line s) _ (lin_gives s) (λ n s r. r))
     (either_gives Line2Bits _ _ (many_gives s)
-    (onward_gives OutputBit Line2Bits (out_line_lem s) _ (out_gives s) (λ n s r. r)))))) l e
+    (onward_gives OutputBit Line2Bits (out_line s) _ (out_gives s) (λ n s r. r)))))) l e

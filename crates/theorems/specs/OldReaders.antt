@@ -4,7 +4,7 @@ use Rattle.std.proofs.Common.{ap, ap₂, ◌∙◌, eqb-true}
 use Rattle.std.proofs.Math.Option.{Option, none, some, some-injective}
 use Rattle.laws.specs.Test.{if◌then◌otherwise◌, is_some, zero≢one}
 use Rattle.rules.specs.Edition2.{is_edition2}
-use Rattle.rules.specs.Form.{bytes, Piece, before, lines, onward, either, only, exactly, in_line, out_line_lem, Condition, Refused, on_line, read_lines}
+use Rattle.rules.specs.Form.{bytes, Piece, before, lines, onward, either, only, exactly, in_line, out_line, Condition, Refused, on_line, read_lines}
 use Rattle.rules.specs.NetworkText.{NetworkLine, NetPrefix, net_line, lin_line, boot_line, network_line, text_conditions, admission_conditions, with_network_line, network_ended, no_network, read_network, read_admitted}
 use Rattle.rules.specs.Outcome.{refused}
 use Rattle.rules.specs.Runs.{Numbered, ran, run_network_on, run_network}
@@ -42,7 +42,7 @@ begins t = by (lines t)
     by ls = let e = before_some 32 ls in (e.0, e.1, unfold before in rw e.2)
 
 no-plain-line : (u : List ℕ) → network_line (bytes "(net2 " ++ u) ≡ none
-unfolding network_line net_line in_line lin_line boot_line out_line_lem onward either only exactly
+unfolding network_line net_line in_line lin_line boot_line out_line onward either only exactly
 no-plain-line u = refl
 
 is_begun : (text : List ℕ) → is_edition2 text ≡ true → (t : List ℕ) × (text ≡ bytes "(net2 " ++ t)

@@ -1,5 +1,5 @@
 use Rattle.std.proofs.Common.{refl}
-use Rattle.rules.specs.Form.{out_line_lem}
+use Rattle.rules.specs.Form.{out_line}
 use Rattle.text.specs.Capped.{capped_some, exact_some, exact_none}
 use Rattle.text.specs.Chain.{step, stop}
 use Rattle.forms.specs.Forms.{cap_output, out_none, cap_output_lem}
@@ -9,7 +9,7 @@ use Rattle.forms.specs.Wire.{cap_wire, wire_taken, wire_end}
 use Rattle.forms.proofs.read_out.Goals as goal
 
 pub returns-in_default : goal.returns-in_default
-unfolding out_line_lem
+unfolding out_line
 returns-in_default c =
     out_none _ _
     (stop _ (found (passed _) c.read_word.ensures c.in_default.is))
@@ -18,7 +18,7 @@ pub read_name-requires : goal.read_name-requires
 read_name-requires c = ends end_of c.read_word.ensures c.in-At.is
 
 pub returns-in_default-read_name : goal.returns-in_default-read_name
-unfolding out_line_lem
+unfolding out_line
 returns-in_default-read_name c =
     out_none _ _
     (step _ (found (passed _) c.read_word.ensures c.in-At.is)
@@ -28,7 +28,7 @@ pub read_word-requires-2 : goal.read_word-requires-2
 read_word-requires-2 c = ends end_of c.read_name.ensures c.in-At-read_name.is
 
 pub returns-in_default-read_word : goal.returns-in_default-read_word
-unfolding out_line_lem
+unfolding out_line
 returns-in_default-read_word c =
     out_none _ _
     (step _ (found (passed _) c.read_word.ensures c.in-At.is)
@@ -39,7 +39,7 @@ pub read_wire-requires : goal.read_wire-requires
 read_wire-requires c = ends end_of c.read_word-2.ensures c.in-At-read_word.is
 
 pub returns-in_default-read_wire : goal.returns-in_default-read_wire
-unfolding out_line_lem
+unfolding out_line
 returns-in_default-read_wire c =
     out_none _ _
     (step _ (found (passed _) c.read_word.ensures c.in-At.is)
@@ -51,7 +51,7 @@ pub read_word-requires-3 : goal.read_word-requires-3
 read_word-requires-3 c = ends wire_end c.read_wire.ensures c.in-At-read_wire.is
 
 pub returns-in_default-read_word-2 : goal.returns-in_default-read_word-2
-unfolding out_line_lem
+unfolding out_line
 returns-in_default-read_word-2 c =
     let x = exact_some cap_wire _ (found (wire_taken _) c.read_wire.ensures c.in-At-read_wire.is) in
     out_none _ _
@@ -62,7 +62,7 @@ returns-in_default-read_word-2 c =
     (stop _ (found (passed _) c.read_word-3.ensures c.in_default-read_word-2.is))))))
 
 pub returns : goal.returns
-unfolding out_line_lem
+unfolding out_line
 returns c =
     let x = exact_some cap_wire _ (found (wire_taken _) c.read_wire.ensures c.in-At-read_wire.is) in
     record {

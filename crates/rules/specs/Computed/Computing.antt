@@ -28,7 +28,7 @@ use Rattle.rules.specs.Writing
 
 -- from a text to a circuit
 unfoldable pub reading : Unit {0}
-unfolding Form.before Form.lines Form.onward Form.either Form.only Form.gather Form.up_to Form.exactly Form.run Form.run_of Form.judged Form.on_line Form.read_lines Form.is_name_byte Form.is_name Form.name Form.is_digit Form.is_number Form.value_from Form.number Form.is_bit_byte Form.is_bits Form.bits_from Form.bits Form.wire Form.up_to4096 Form.norm Form.from2_to64 Form.weight Form.in_line Form.out_line_lem CircuitText.policy CircuitText.tables CircuitText.fbs_line CircuitText.gate_line CircuitText.circuit_line CircuitText.in_limits CircuitText.some? CircuitText.same_name CircuitText.listed CircuitText.node_count CircuitText.no_node CircuitText.any_no_node CircuitText.matching Circuit.given_names CircuitText.conditions CircuitText.with_line CircuitText.with_settings CircuitText.ended CircuitText.nothing CircuitText.read_circuit
+unfolding Form.before Form.lines Form.onward Form.either Form.only Form.gather Form.up_to Form.exactly Form.run Form.run_of Form.judged Form.on_line Form.read_lines Form.is_name_byte Form.is_name Form.name Form.is_digit Form.is_number Form.value_from Form.number Form.is_bit_byte Form.is_bits Form.bits_from Form.bits Form.wire Form.up_to4096 Form.norm Form.from2_to64 Form.weight Form.in_line Form.out_line CircuitText.policy CircuitText.tables CircuitText.fbs_line CircuitText.gate_line CircuitText.circuit_line CircuitText.in_limits CircuitText.some? CircuitText.same_name CircuitText.listed CircuitText.node_count CircuitText.no_node CircuitText.any_no_node CircuitText.matching Circuit.given_names CircuitText.conditions CircuitText.with_line CircuitText.with_settings CircuitText.ended CircuitText.nothing CircuitText.read_circuit
 reading = tt
 
 -- values, scale pairs and tables
