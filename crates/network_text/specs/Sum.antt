@@ -50,8 +50,8 @@ pub record TermsRead (l : List ℕ) (at : ℕ) (c : ℤ) (r : Gathered) : Type 0
 unfoldable pub closed : List ℕ → Bool
 closed s = is_some (only (exactly (bytes ")\n") s))
 
-unfoldable pub bad_sum_lem : LinRead
-bad_sum_lem = record { good = false; lin = no_terms (pos 0) }
+unfoldable pub bad_sum : LinRead
+bad_sum = record { good = false; lin = no_terms (pos 0) }
 
 -- What stands behind `(lin `.
 unfoldable pub lin_rest : Reader LutNode
@@ -71,8 +71,8 @@ pub record SumRead (l : List ℕ) (at : ℕ) (r : LinRead) : Type 0 where
   pub same : sum_of r ≡ good_line (sum_line (drop at l))
   pub small : Small r.lin
 
-pub no-sum : (l : List ℕ) (at : ℕ) (r : LinRead) → r ≡ bad_sum_lem → none ≡ good_line (sum_line (drop at l)) → SumRead l at r
-unfolding bad_sum_lem sum_of
+pub no-sum : (l : List ℕ) (at : ℕ) (r : LinRead) → r ≡ bad_sum → none ≡ good_line (sum_line (drop at l)) → SumRead l at r
+unfolding bad_sum sum_of
 no-sum l at r e h = rw e (record { same = h; small = small_none (pos 0) (omega arith) })
 
 -- ---- The ways in which a line is no good sum.
@@ -83,9 +83,9 @@ module _ (s : List ℕ) where
   no_constant e = sym (ap (λ o. good_line (only o)) (stop _ (stop _ e)))
 
   module _ (c : ℤ) (x : List ℕ) (e : signed s ≡ some (record { value = c; rest = x })) where
-    pub bad_sum : ((us : List Term) (y : List ℕ) → many spaced_term x ≡ some (record { value = us; rest = y }) → good_sum c us ≡ false) → none ≡ good_line (sum_line s)
+    pub sum_is_bad : ((us : List Term) (y : List ℕ) → many spaced_term x ≡ some (record { value = us; rest = y }) → good_sum c us ≡ false) → none ≡ good_line (sum_line s)
     unfolding sum_line lin_rest good_line good_form only onward
-    bad_sum h = rw e (by (many spaced_term x) refl)
+    sum_is_bad h = rw e (by (many spaced_term x) refl)
       where
         close : Option (Piece (Unit {0})) → List Term → Option (Piece NetworkLine)
         close o ts = onward (onward o (λ _. give (Linear c ts))) (λ n. give (NodeLine n))
@@ -130,7 +130,7 @@ module _ (s : List ℕ) where
 
       pub no-terms : length ts ≡ 0 → none ≡ good_line (sum_line s)
       unfolding good_sum
-      no-terms h = bad_sum (λ us z f. subst (λ (vs : List Term). good_sum c vs ≡ false) (ap (λ (p : Piece (List Term)). p.value) (some-injective _ _ (sym m ∙ f))) (rw (h) (and-false (small c && good_terms ts))))
+      no-terms h = sum_is_bad (λ us z f. subst (λ (vs : List Term). good_sum c vs ≡ false) (ap (λ (p : Piece (List Term)). p.value) (some-injective _ _ (sym m ∙ f))) (rw (h) (and-false (small c && good_terms ts))))
 
 -- CONST is judged by what was read of it.
 module _ (c : ℤ) where
@@ -189,7 +189,7 @@ terms-first {l} {at} c h k e = ([], rw e (kept_start l at c h k))
 -- ---- What `read_sum` answers, test by test.
 
 pub sum_nothing : {l : List ℕ} {at : ℕ} {v : Signed} {r : LinRead} → Reads (length l) (signed_taken l v) (signed_end v) (capped cap_signed (signed (drop at l))) → v ≡ Nothing
-    → r ≡ bad_sum_lem → SumRead l at r
+    → r ≡ bad_sum → SumRead l at r
 sum_nothing {l} {at} {r = r} R q e = no-sum l at r e (no_constant (drop at l) (exact_none cap_signed (signed (drop at l)) (found (signed_taken l) R q)))
 
 module _ (l : List ℕ) (at : ℕ) {v : Signed} {z : ℤ} {a : ℕ} (R : Reads (length l) (signed_taken l v) (signed_end v) (capped cap_signed (signed (drop at l)))) (q : v ≡ Value z a)
@@ -200,10 +200,10 @@ module _ (l : List ℕ) (at : ℕ) {v : Signed} {z : ℤ} {a : ℕ} (R : Reads (
   back : to_z w64 (of_z w64 z) ≡ z
   back = let x = read in cap_back z x.0 x.2 ∙ sym x.2
 
-  pub sum_large : {r : LinRead} → b ≡ false → r ≡ bad_sum_lem → SumRead l at r
+  pub sum_large : {r : LinRead} → b ≡ false → r ≡ bad_sum → SumRead l at r
   sum_large {r} h e =
       let x = read in
-      no-sum l at r e (bad_sum (drop at l) x.0 (drop a l) x.1 (λ us y _. large_constant x.0 z x.2 (sym (B ∙ ap small back) ∙ h) us))
+      no-sum l at r e (sum_is_bad (drop at l) x.0 (drop a l) x.1 (λ us y _. large_constant x.0 z x.2 (sym (B ∙ ap small back) ∙ h) us))
 
   pub sum_within : b ≡ true → (a ≤ length l) × (nat_abs (to_z w64 (of_z w64 z)) ≤ 31)
   sum_within h =
@@ -211,17 +211,17 @@ module _ (l : List ℕ) (at : ℕ) {v : Signed} {z : ℤ} {a : ℕ} (R : Reads (
       (ends signed_end R q, rw back (small_constant x.0 z x.2 (sym (B ∙ ap small back) ∙ h)).1)
 
   module _ {g : Gathered} (T : TermsRead l a (to_z w64 (of_z w64 z)) g) where
-    pub sum_spoilt : {r : LinRead} → g.good ≡ false → r ≡ bad_sum_lem → SumRead l at r
-    sum_spoilt {r} h e = let x = read in no-sum l at r e (bad_sum (drop at l) x.0 (drop a l) x.1 (λ us y f. T.spoilt h x.0 us y f))
+    pub sum_spoilt : {r : LinRead} → g.good ≡ false → r ≡ bad_sum → SumRead l at r
+    sum_spoilt {r} h e = let x = read in no-sum l at r e (sum_is_bad (drop at l) x.0 (drop a l) x.1 (λ us y f. T.spoilt h x.0 us y f))
 
-    pub sum-empty : {r : LinRead} → g.good ≡ true → g.lin.n ≡ 0 → r ≡ bad_sum_lem → SumRead l at r
+    pub sum-empty : {r : LinRead} → g.good ≡ true → g.lin.n ≡ 0 → r ≡ bad_sum → SumRead l at r
     sum-empty {r} h n e =
         let x = read in
         let w = T.whole h in
         no-sum l at r e (no-terms (drop at l) x.0 (drop a l) x.1 w.0 (drop g.end l) w.1.all (w.1.count ∙ n))
 
     module _ {d : Bool} (D : d ≡ closed (drop g.end l)) (h : g.good ≡ true) where
-      pub sum_open : {r : LinRead} → d ≡ false → r ≡ bad_sum_lem → SumRead l at r
+      pub sum_open : {r : LinRead} → d ≡ false → r ≡ bad_sum → SumRead l at r
       sum_open {r} f e =
           let x = read in
           let w = T.whole h in

@@ -4,7 +4,7 @@ ghost use Rattle.laws.specs.Test.{allb};
 ghost use Rattle.rules.specs.NetworkText.{small};
 ghost use Rattle.network_text.specs.Term.{ReadsTerm};
 ghost use Rattle.network_text.specs.Terms.{no_terms, with_term};
-ghost use Rattle.network_text.specs.Sum.{TermsRead, closed, bad_sum_lem, SumRead};
+ghost use Rattle.network_text.specs.Sum.{TermsRead, closed, bad_sum, SumRead};
 ghost use Rattle.network_text.specs.Places.{good_coef, no_places, with_place, Parts, apart, good_next};
 
 use forms::Signed;
@@ -216,7 +216,7 @@ pub struct LinRead {
 }
 
 fn bad_sum() -> LinRead
-    ensures { result ≡ bad_sum_lem }
+    ensures { result ≡ bad_sum }
 {
     LinRead {
         good: false,
