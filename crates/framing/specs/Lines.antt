@@ -1,5 +1,5 @@
 -- A line that is not ended yet: what it makes of the lines, and whether it will be `(end)`.
-use Rattle.std.specs.Prelude.{◌≡◌, refl, true, false, not, List, [], ◌∷◌, ◌++◌, ℕ, suc, ◌+◌, ◌<◌, ◌≤◌, eqb, get_or, drop}
+use Rattle.std.specs.Prelude.{◌≡◌, refl, true, false, not, List, [], ◌∷◌, ◌++◌, ℕ, suc, ◌<◌, ◌≤◌, eqb, get_or, drop}
 use Rattle.std.proofs.Common.{sym, ap, subst, ◌∙◌, true≢false, append-nil, ⊎_elim, add-one, arith, ne_eqb, drop-cons}
 use Rattle.std.proofs.lemmas.List.{append_cancel_right}
 use Rattle.std.proofs.lemmas.Bool.{not-true}

@@ -9,7 +9,7 @@ use borrow.Author.Tests.{eq-eqb, ne_eqb, le-leb, lt-leb}
 use Rattle.std.proofs.Math.Dec.{leb→le}
 use Rattle.std.proofs.Math.IntN.{nat_abs}
 use Rattle.std.specs.Int.{w64}
-use Rattle.laws.specs.Test.{if◌then◌otherwise◌, is_some, is_T, lt_or_le, eq-or-ne}
+use Rattle.laws.specs.Test.{if◌then◌else◌, is_some, is_T, lt_or_le, eq-or-ne}
 use Rattle.rules.specs.Form.{Piece, Reader, give, onward, only, ◌>>=◌, ◌>>◌, word, exactly, bytes, many, signed}
 use Rattle.rules.specs.Network.{Term, LutNode, Linear}
 use Rattle.rules.specs.NetworkText.{NetworkLine, NodeLine, small, good_terms, good_sum, sources, all_different}
@@ -65,7 +65,7 @@ unfoldable pub sum_line : List ℕ → Option NetworkLine
 sum_line s = only (onward (lin_rest s) (λ n. give (NodeLine n)))
 
 unfoldable pub sum_of : LinRead → Option NetworkLine
-sum_of r = if r.good then some (NodeLine (Linear r.lin.constant (terms_of r.lin))) otherwise none
+sum_of r = if r.good then some (NodeLine (Linear r.lin.constant (terms_of r.lin))) else none
 
 pub record SumRead (l : List ℕ) (at : ℕ) (r : LinRead) : Type 0 where
   pub same : sum_of r ≡ good_line (sum_line (drop at l))
@@ -83,14 +83,14 @@ module _ (s : List ℕ) where
   no_constant e = sym (ap (λ o. good_line (only o)) (stop _ (stop _ e)))
 
   module _ (c : ℤ) (x : List ℕ) (e : signed s ≡ some (record { value = c; rest = x })) where
-    pub bad_sum_lem : ((us : List Term) (y : List ℕ) → many spaced_term x ≡ some (record { value = us; rest = y }) → good_sum c us ≡ false) → none ≡ good_line (sum_line s)
+    pub sum_is_bad : ((us : List Term) (y : List ℕ) → many spaced_term x ≡ some (record { value = us; rest = y }) → good_sum c us ≡ false) → none ≡ good_line (sum_line s)
     unfolding sum_line lin_rest good_line good_form only onward
-    bad_sum_lem h = rw e (by (many spaced_term x) refl)
+    sum_is_bad h = rw e (by (many spaced_term x) refl)
       where
         close : Option (Piece (Unit {0})) → List Term → Option (Piece NetworkLine)
         close o ts = onward (onward o (λ _. give (Linear c ts))) (λ n. give (NodeLine n))
 
-        last : (ts : List Term) (q : Piece (Unit {0})) (b : Bool) → good_sum c ts ≡ false → none ≡ good_line (if b then some (NodeLine (Linear c ts)) otherwise none)
+        last : (ts : List Term) (q : Piece (Unit {0})) (b : Bool) → good_sum c ts ≡ false → none ≡ good_line (if b then some (NodeLine (Linear c ts)) else none)
         last ts q true g = rw g
         last ts q false g = refl
 
@@ -108,7 +108,7 @@ module _ (s : List ℕ) where
       unfolding sum_line lin_rest good_line only onward closed
       not_closed h = rw (e, m) (by (exactly (bytes ")\n") y) h)
         where
-          last : (b : Bool) → is_some {A = Unit {0}} (if b then some tt otherwise none) ≡ false → none ≡ good_line (if b then some (NodeLine (Linear c ts)) otherwise none)
+          last : (b : Bool) → is_some {A = Unit {0}} (if b then some tt else none) ≡ false → none ≡ good_line (if b then some (NodeLine (Linear c ts)) else none)
           last true g = absurd (true≢false g)
           last false g = refl
 
@@ -120,7 +120,7 @@ module _ (s : List ℕ) where
       unfolding sum_line lin_rest good_line good_form only onward closed
       sum_is h k = rw (e, m) (by (exactly (bytes ")\n") y) h)
         where
-          last : (b : Bool) → is_some {A = Unit {0}} (if b then some tt otherwise none) ≡ true → some (NodeLine (Linear c (cap_terms ts))) ≡ good_line (if b then some (NodeLine (Linear c ts)) otherwise none)
+          last : (b : Bool) → is_some {A = Unit {0}} (if b then some tt else none) ≡ true → some (NodeLine (Linear c (cap_terms ts))) ≡ good_line (if b then some (NodeLine (Linear c ts)) else none)
           last true g = rw k
           last false g = absurd (true≢false (sym g))
 
@@ -130,7 +130,7 @@ module _ (s : List ℕ) where
 
       pub no-terms : length ts ≡ 0 → none ≡ good_line (sum_line s)
       unfolding good_sum
-      no-terms h = bad_sum_lem (λ us z f. subst (λ (vs : List Term). good_sum c vs ≡ false) (ap (λ (p : Piece (List Term)). p.value) (some-injective _ _ (sym m ∙ f))) (rw (h) (and-false (small c && good_terms ts))))
+      no-terms h = sum_is_bad (λ us z f. subst (λ (vs : List Term). good_sum c vs ≡ false) (ap (λ (p : Piece (List Term)). p.value) (some-injective _ _ (sym m ∙ f))) (rw (h) (and-false (small c && good_terms ts))))
 
 -- CONST is judged by what was read of it.
 module _ (c : ℤ) where
@@ -203,7 +203,7 @@ module _ (l : List ℕ) (at : ℕ) {v : Signed} {z : ℤ} {a : ℕ} (R : Reads (
   pub sum_large : {r : LinRead} → b ≡ false → r ≡ bad_sum → SumRead l at r
   sum_large {r} h e =
       let x = read in
-      no-sum l at r e (bad_sum_lem (drop at l) x.0 (drop a l) x.1 (λ us y _. large_constant x.0 z x.2 (sym (B ∙ ap small back) ∙ h) us))
+      no-sum l at r e (sum_is_bad (drop at l) x.0 (drop a l) x.1 (λ us y _. large_constant x.0 z x.2 (sym (B ∙ ap small back) ∙ h) us))
 
   pub sum_within : b ≡ true → (a ≤ length l) × (nat_abs (to_z w64 (of_z w64 z)) ≤ 31)
   sum_within h =
@@ -212,7 +212,7 @@ module _ (l : List ℕ) (at : ℕ) {v : Signed} {z : ℤ} {a : ℕ} (R : Reads (
 
   module _ {g : Gathered} (T : TermsRead l a (to_z w64 (of_z w64 z)) g) where
     pub sum_spoilt : {r : LinRead} → g.good ≡ false → r ≡ bad_sum → SumRead l at r
-    sum_spoilt {r} h e = let x = read in no-sum l at r e (bad_sum_lem (drop at l) x.0 (drop a l) x.1 (λ us y f. T.spoilt h x.0 us y f))
+    sum_spoilt {r} h e = let x = read in no-sum l at r e (sum_is_bad (drop at l) x.0 (drop a l) x.1 (λ us y f. T.spoilt h x.0 us y f))
 
     pub sum-empty : {r : LinRead} → g.good ≡ true → g.lin.n ≡ 0 → r ≡ bad_sum → SumRead l at r
     sum-empty {r} h n e =

@@ -1,4 +1,4 @@
-use Rattle.std.proofs.Common.{sym, ◌∙◌, ◌-◌, rules}
+use Rattle.std.proofs.Common.{sym, ◌∙◌, rules}
 use Rattle.bits.specs.Bits.{bits_start, bits-count, rest_next, rest_bad, rest_done}
 use Rattle.bits.proofs.are_bits_for.Goals as goal
 

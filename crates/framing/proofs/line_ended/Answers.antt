@@ -1,4 +1,5 @@
 use Rattle.framing.proofs.line_ended.Goals as goal
 
+-- Both counts are one more.
 pub returns : goal.returns
 returns c = cc

@@ -1,4 +1,4 @@
-use Rattle.std.proofs.Common.{sym, ◌∙◌, ◌-◌, rules}
+use Rattle.std.proofs.Common.{sym, ◌∙◌, rules}
 use Rattle.nodes.specs.View.{is_node}
 use Rattle.many_judge.specs.Sources.{taken_start, taken_here, taken_on, taken_end}
 use Rattle.many_judge.proofs.has_tables.Goals as goal

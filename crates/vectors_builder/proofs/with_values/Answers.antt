@@ -1,9 +1,6 @@
-use Rattle.std.proofs.Common.{refl, sym, ap, ◌∙◌, length-take-le}
+use Rattle.std.proofs.Common.{refl, ap, ◌∙◌, length-take-le}
 use Rattle.vectors_builder.specs.Case.{after_list, list_after}
 use Rattle.vectors_builder.proofs.with_values.Goals as goal
-
-pub slice_bounds-fill_values-end : goal.slice_bounds-fill_values-end
-slice_bounds-fill_values-end g c = sym (length-take-le _ _ c.at_most-count.ensures.within)
 
 pub returns : goal.returns
 returns g c =

@@ -1,4 +1,4 @@
-use Rattle.std.proofs.Common.{refl, sym, ◌∙◌, ◌-◌, arith, rules}
+use Rattle.std.proofs.Common.{refl, sym, ◌∙◌, arith, rules}
 use Rattle.text.specs.Reads.{found, ends}
 use Rattle.forms.specs.Wire.{wire_taken, wire_end}
 use Rattle.circuit_conditions.specs.Wires.{no_wires}

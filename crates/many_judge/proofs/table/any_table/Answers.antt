@@ -1,4 +1,4 @@
-use Rattle.std.proofs.Common.{◌-◌, arith}
+use Rattle.std.proofs.Common.{arith}
 use Rattle.many_text.specs.Tables.{table_less, table_inside}
 use Rattle.many_text.specs.Walk.{here_place}
 use Rattle.many_judge.specs.Faults.{passed_start, passed-all, passed-met, passed_next}

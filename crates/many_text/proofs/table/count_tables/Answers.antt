@@ -1,11 +1,6 @@
 use Rattle.std.proofs.Common.{◌<◌, ◌^◌, length, arith, rules}
 use Rattle.many_text.specs.Tables.{counted_start, counted_all, counted_spoilt, counted_next, table_bits, table_less, table_inside}
 use Rattle.many_text.proofs.table.count_tables.Goals as goal
-use Rattle.many_text.proofs.table.count_tables.Goals.{After-shared_slice_known-1}
-
--- a slice's length is a number of the machine
-long : (c : After-shared_slice_known-1) → length c.args.l.now < 2 ^ 64
-long c = search rules
 
 pub loop-a-init : goal.loop-a-init
 loop-a-init c = counted_start _ _ c.requires
@@ -28,7 +23,9 @@ overflow_add-n c =
     let R = c.read_table-read.ensures in
     let q = c.in-At.is in
     let k = c.loop-a.invariant in
-    record { fits = omega (arith, k.few, table_less R q k.inside, table_inside R q, long (goal.at.overflow_add-n c).After-shared_slice_known-1) }
+    -- a slice's length is a number of the machine
+    let long : length c.args.l.now < 2 ^ 64 = search rules in
+    record { fits = omega (arith, k.few, table_less R q k.inside, table_inside R q) }
 
 pub loop-a-smaller : goal.loop-a-smaller
 loop-a-smaller c =

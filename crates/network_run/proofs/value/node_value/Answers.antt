@@ -1,4 +1,4 @@
-use Rattle.std.proofs.Common.{◌≡◌, sym, ap₂, ◌∙◌, true≢false, ◌<◌, arith, ℕ, List, ℤ, pos, get_or}
+use Rattle.std.proofs.Common.{rules, ◌≡◌, sym, ap₂, ◌∙◌, true≢false, ◌<◌, arith, ℕ, List, ℤ, pos, get_or}
 use Rattle.std.proofs.Math.Option.{Option}
 use Rattle.laws.specs.Integer.{read_back}
 use Rattle.nodes.specs.Kinds.{sum_kind, boot_kind, third_kind}
@@ -62,7 +62,7 @@ returns c =
     let t = c.table_of in
     record {
       is = table_value c.args.bits.now c.args.values.now c.args.i n _ (boot (goal.at.returns c).Else-kind-eq-LINEAR)
-          (simp (read_back (get_or c.args.values.now g.result (pos 0)) c.look_up-arg-1.given) at c.look_up.ensures.0
+          (simp (read_back (get_or c.args.values.now g.result (pos 0)) (search rules)) at c.look_up.ensures.0
           ∙ ap₂ {C = Option ℤ} (λ table j. looked table (get_or c.args.values.now j (pos 0))) t.ensures g.ensures);
       small = λ _. c.look_up.ensures.1;
     }

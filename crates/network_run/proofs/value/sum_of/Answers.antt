@@ -1,4 +1,4 @@
-use Rattle.std.proofs.Common.{◌≡◌, sym, ap, ◌∙◌, ◌+◌, ◌*◌, ◌≤◌, ◌<◌, arith, ℕ, List, ℤ, to_z-of_z, w64, SFits, to_z, pos, nat_abs, ◌+ℤ◌, length, get_or}
+use Rattle.std.proofs.Common.{rules, ◌≡◌, sym, ap, ◌∙◌, ◌+◌, ◌*◌, ◌≤◌, ◌<◌, arith, ℕ, List, ℤ, to_z-of_z, w64, SFits, to_z, pos, nat_abs, ◌+ℤ◌, length, get_or}
 use Rattle.laws.specs.Integer.{read_back, fits_abs}
 use Rattle.rules.specs.Network.{LutNode, sum_from}
 use Rattle.rules.specs.Store.{needs, terms_of}
@@ -59,7 +59,7 @@ term_value-sum-requires c =
     let k = c.loop-k.k in
     let b = below (goal.at.term_value-sum-requires c).In-loop-k in
     let e = c.source_of-source.ensures ∙ (terms_need n k b).1 in
-    simp (read_back c.coef_of-coef.result c.coef_of-coef.type_inv, read_back (get_or c.args.values.now c.source_of-source.result (pos 0)) c.term_value-arg-1.given)
+    simp (read_back c.coef_of-coef.result c.coef_of-coef.type_inv, read_back (get_or c.args.values.now c.source_of-source.result (pos 0)) (search rules))
     (omega (arith, coefficient-small c.args.i n c.requires.0.node.fine k b, ap nat_abs c.coef_of-coef.ensures), omega (arith, c.requires.0.small k b, ap (λ j. nat_abs (get_or c.args.values.now j (pos 0))) e))
 
 pub overflow_add-sum : goal.overflow_add-sum
@@ -78,7 +78,7 @@ loop-k-preserved c =
     let b = below (goal.at.loop-k-preserved c).In-loop-k in
     let value
     = term_is c.args.values.now (terms_of n) o.k x.result f.result g.result f.ensures (g.ensures ∙ (terms_need n o.k b).1)
-    (simp (read_back f.result f.type_inv, read_back (get_or c.args.values.now g.result (pos 0)) c.term_value-arg-1.given) at x.ensures.0) in
+    (simp (read_back f.result f.type_inv, read_back (get_or c.args.values.now g.result (pos 0)) (search rules)) at x.ensures.0) in
     let fits = sum_fits c.args.i o.k n s x.result c.requires.0.node.fine b o.invariant.2 x.ensures.1 in
     simp (read_back x.result x.type_inv, to_z-of_z fits)
     (omega (arith, c.loop-k-test.true), o.invariant.1, sum_size s x.result o.k o.invariant.2 x.ensures.1, o.invariant.3 ∙ sum_next c.args.values.now s (terms_of n) o.k x.result b value)
