@@ -9,7 +9,7 @@ use borrow.Author.Tests.{eq-eqb, ne_eqb, le-leb, lt-leb}
 use Rattle.std.proofs.Math.Dec.{leb→le}
 use Rattle.std.proofs.Math.IntN.{nat_abs}
 use Rattle.std.specs.Int.{w64}
-use Rattle.laws.specs.Test.{if◌then◌else◌, is_some, is_T, lt_or_le, eq-or-ne}
+use Rattle.laws.specs.Test.{if◌then◌otherwise◌, is_some, is_T, lt_or_le, eq-or-ne}
 use Rattle.rules.specs.Form.{Piece, Reader, give, onward, only, ◌>>=◌, ◌>>◌, word, exactly, bytes, many, signed}
 use Rattle.rules.specs.Network.{Term, LutNode, Linear}
 use Rattle.rules.specs.NetworkText.{NetworkLine, NodeLine, small, good_terms, good_sum, sources, all_different}
@@ -65,7 +65,7 @@ unfoldable pub sum_line : List ℕ → Option NetworkLine
 sum_line s = only (onward (lin_rest s) (λ n. give (NodeLine n)))
 
 unfoldable pub sum_of : LinRead → Option NetworkLine
-sum_of r = if r.good then some (NodeLine (Linear r.lin.constant (terms_of r.lin))) else none
+sum_of r = if r.good then some (NodeLine (Linear r.lin.constant (terms_of r.lin))) otherwise none
 
 pub record SumRead (l : List ℕ) (at : ℕ) (r : LinRead) : Type 0 where
   pub same : sum_of r ≡ good_line (sum_line (drop at l))
@@ -90,7 +90,7 @@ module _ (s : List ℕ) where
         close : Option (Piece (Unit {0})) → List Term → Option (Piece NetworkLine)
         close o ts = onward (onward o (λ _. give (Linear c ts))) (λ n. give (NodeLine n))
 
-        last : (ts : List Term) (q : Piece (Unit {0})) (b : Bool) → good_sum c ts ≡ false → none ≡ good_line (if b then some (NodeLine (Linear c ts)) else none)
+        last : (ts : List Term) (q : Piece (Unit {0})) (b : Bool) → good_sum c ts ≡ false → none ≡ good_line (if b then some (NodeLine (Linear c ts)) otherwise none)
         last ts q true g = rw g
         last ts q false g = refl
 
@@ -108,7 +108,7 @@ module _ (s : List ℕ) where
       unfolding sum_line lin_rest good_line only onward closed
       not_closed h = rw (e, m) (by (exactly (bytes ")\n") y) h)
         where
-          last : (b : Bool) → is_some {A = Unit {0}} (if b then some tt else none) ≡ false → none ≡ good_line (if b then some (NodeLine (Linear c ts)) else none)
+          last : (b : Bool) → is_some {A = Unit {0}} (if b then some tt otherwise none) ≡ false → none ≡ good_line (if b then some (NodeLine (Linear c ts)) otherwise none)
           last true g = absurd (true≢false g)
           last false g = refl
 
@@ -120,7 +120,7 @@ module _ (s : List ℕ) where
       unfolding sum_line lin_rest good_line good_form only onward closed
       sum_is h k = rw (e, m) (by (exactly (bytes ")\n") y) h)
         where
-          last : (b : Bool) → is_some {A = Unit {0}} (if b then some tt else none) ≡ true → some (NodeLine (Linear c (cap_terms ts))) ≡ good_line (if b then some (NodeLine (Linear c ts)) else none)
+          last : (b : Bool) → is_some {A = Unit {0}} (if b then some tt otherwise none) ≡ true → some (NodeLine (Linear c (cap_terms ts))) ≡ good_line (if b then some (NodeLine (Linear c ts)) otherwise none)
           last true g = rw k
           last false g = absurd (true≢false (sym g))
 
