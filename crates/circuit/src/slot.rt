@@ -9,8 +9,8 @@ use rules::Wire;
 
 // A wire to a node below m, or to a bit.
 fn wire_number(m: usize, w: Wire) -> usize
-    requires m_bound { m ≤ 1000 }
-    requires w_value { (no_node m w ≡ false) × (WireBit w) }
+    requires room { m ≤ 1000 }
+    requires wire { (no_node m w ≡ false) × (WireBit w) }
     ensures { (result ≡ wire_number m w) × (result ≤ m + 1) }
 {
     match w {

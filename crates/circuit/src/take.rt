@@ -80,9 +80,9 @@ fn put_name(ports: &mut [usize; 192], j: usize, a: usize, b: usize)
 
 // Whether the name in s from a up to b is one of the first n inputs'.
 fn is_listed(s: &[u8], ports: &[usize; 192], n: usize, a: usize, b: usize) -> bool
-    requires ports_len { (length ports.now ≡ 192) × (n ≤ 32) }
+    requires few { (length ports.now ≡ 192) × (n ≤ 32) }
     requires named { Named (length s.now) a b }
-    requires by_index { (i : ℕ) → i < n → NamedAt (length s.now) ports.now (2 * i) }
+    requires places { (i : ℕ) → i < n → NamedAt (length s.now) ports.now (2 * i) }
     ensures { result ≡ listed (take (b - a) (drop a s.now)) (given_names (inputs_in s.now ports.now n)) }
 {
     let mut i = 0;
@@ -160,8 +160,8 @@ fn take_gate(
     end: usize,
     gates: &mut [u8; 576],
 ) -> Step
-    requires d_le_e { ((d ≤ e) × (e ≤ length s.now)) × FineWires (c.inputs + c.gates) v }
-    requires gates_len { (length gates.old ≡ 576) × (c.inputs ≤ 32) }
+    requires stands { ((d ≤ e) × (e ≤ length s.now)) × FineWires (c.inputs + c.gates) v }
+    requires room { (length gates.old ≡ 576) × (c.inputs ≤ 32) }
     ensures { (ps : List ℕ) → Ready line (length s.now) ps c → Took line s.now gates.old ps c (GateBrief (bits_at s.now d (e - d)) v) end result gates.new ps }
 {
     let matched = is_matched(v.count, e - d);
@@ -231,7 +231,7 @@ pub fn take_line(
     gates: &mut [u8; 576],
     ports: &mut [usize; 192],
 ) -> Step
-    requires at_in_bounds { (at ≤ length s.now) × (length gates.old ≡ 576) }
+    requires inside { (at ≤ length s.now) × (length gates.old ≡ 576) }
     requires ready { Ready line (length s.now) ports.old c }
     ensures { TookLine line s.now gates.old ports.old c (circuit_line (first_line (drop at s.now))) (line_stop s.now at) result gates.new ports.new }
 {

@@ -25,9 +25,9 @@ fn wire_value(values: &[u8; 128], w: Wire) -> u8
 
 // The bit of gate i: its answer. Its line does not matter.
 fn gate_value(values: &[u8; 128], gates: &[u8; 576], i: usize) -> u8
-    requires gates_len { (length gates.now ≡ 576) × (i < 96) }
-    requires slots_fit { SlotsFit gates.now i }
-    requires values_value { all_bits values.now ≡ true }
+    requires room { (length gates.now ≡ 576) × (i < 96) }
+    requires slots { SlotsFit gates.now i }
+    requires bits { all_bits values.now ≡ true }
     ensures { result ≡ gate_bit values.now (gate_in gates.now 0 i) }
 {
     let left = slot_wire(gates[6 * i]);
@@ -72,8 +72,8 @@ fn gate_values(n: usize, count: usize, gates: &[u8; 576], bits: &[u8]) -> [u8; 1
 
 // The bits of n outputs.
 fn put_outputs(ports: &[usize; 192], n: usize, values: &[u8; 128], out: &mut [u8])
-    requires ports_len { (length ports.now ≡ 192) × ((n ≤ 32) × (n ≤ length out.old)) }
-    requires by_index { (i : ℕ) → i < n → GoodPort (get_or ports.now (64 + 3 * i + 2) 0) }
+    requires room { (length ports.now ≡ 192) × ((n ≤ 32) × (n ≤ length out.old)) }
+    requires wires { (i : ℕ) → i < n → GoodPort (get_or ports.now (64 + 3 * i + 2) 0) }
     ensures { out.new ≡ over (port_bits values.now ports.now n) out.old }
 {
     let mut i = 0;

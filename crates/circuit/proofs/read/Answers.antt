@@ -9,7 +9,7 @@ loop-at-init c =
 pub take_line-next-requires : goal.take_line-next-requires
 take_line-next-requires c =
     let w = c.loop-at.invariant in
-    record { at_in_bounds = (w.inside, w.long); ready = w.ready }
+    record { inside = (w.inside, w.long); ready = w.ready }
 
 pub returns-then-next-ne0 : goal.returns-then-next-ne0
 returns-then-next-ne0 c =

@@ -10,7 +10,7 @@ pub is_same-requires : goal.is_same-requires
 is_same-requires c =
     let p = c.requires in
     let n = p.named in
-    let m = p.by_index c.loop-i.i c.loop-i-test.true in
+    let m = p.places c.loop-i.i c.loop-i-test.true in
     ((n.later, n.inside), (m.later, m.inside))
 
 pub returns-then-is_same : goal.returns-then-is_same

@@ -11,7 +11,7 @@ take_in-requires c =
 pub take_gate-requires : goal.take_gate-requires
 take_gate-requires c =
     let l = line_is _ _ _ c.read_line-l.ensures c.in-Gate.is in
-    record { d_le_e = ((l.placed.0, l.placed.1), fine_gate _ _ _ _ l.same); gates_len = (c.requires.at_in_bounds.1, c.requires.ready.inputs_fit) }
+    record { stands = ((l.placed.0, l.placed.1), fine_gate _ _ _ _ l.same); room = (c.requires.inside.1, c.requires.ready.inputs_fit) }
 
 pub take_out-requires : goal.take_out-requires
 take_out-requires c =

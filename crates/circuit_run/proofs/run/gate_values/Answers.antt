@@ -21,9 +21,9 @@ gate_value-v-requires c =
     let k = y.gates in
     let h = c.loop-i-test.true in
     record {
-      gates_len = (y.long, omega arith);
-      slots_fit = run_slots A.n A.count A.gates.now A.bits.now y c.loop-i.i h;
-      values_value = run-bits A.n A.count A.gates.now A.bits.now y _ c.loop-i.i c.loop-i.invariant.1;
+      room = (y.long, omega arith);
+      slots = run_slots A.n A.count A.gates.now A.bits.now y c.loop-i.i h;
+      bits = run-bits A.n A.count A.gates.now A.bits.now y _ c.loop-i.i c.loop-i.invariant.1;
     }
 
 pub overflow_add-values : goal.overflow_add-values

@@ -11,23 +11,23 @@ loop-i-init c = (omega arith, filling_start _ _)
 
 pub port_wire-w-requires : goal.port_wire-w-requires
 port_wire-w-requires c =
-    (c.requires.by_index c.loop-i.i c.loop-i-test.true).0
+    (c.requires.wires c.loop-i.i c.loop-i-test.true).0
 
 pub wire_value-requires : goal.wire_value-requires
 wire_value-requires c =
-    ap (no_node 128) c.port_wire-w.ensures ∙ port_node _ (c.requires.by_index c.loop-i.i c.loop-i-test.true)
+    ap (no_node 128) c.port_wire-w.ensures ∙ port_node _ (c.requires.wires c.loop-i.i c.loop-i-test.true)
 
 pub bounds-out-i : goal.bounds-out-i
 bounds-out-i c =
     let h : c.loop-i.i < c.args.n = c.loop-i-test.true in
-    let k : c.args.n ≤ length c.args.out.now = c.requires.ports_len.1.1 in
+    let k : c.args.n ≤ length c.args.out.now = c.requires.room.1.1 in
     let l : length c.loop-i.out ≡ length c.args.out.now = c.loop-i.invariant.1.long in
     omega arith
 
 pub loop-i-preserved : goal.loop-i-preserved
 loop-i-preserved c =
     let A = c.args in
-    (search rules, out_next A.values.now A.ports.now A.out.now A.n c.requires.ports_len.1.1 c.loop-i.out c.loop-i.i _ c.loop-i.invariant.1 (c.wire_value.ensures ∙ ap (wire_bit A.values.now) c.port_wire-w.ensures) c.loop-i-test.true)
+    (search rules, out_next A.values.now A.ports.now A.out.now A.n c.requires.room.1.1 c.loop-i.out c.loop-i.i _ c.loop-i.invariant.1 (c.wire_value.ensures ∙ ap (wire_bit A.values.now) c.port_wire-w.ensures) c.loop-i-test.true)
 
 pub shape_of-out : goal.shape_of-out
 shape_of-out c = c.loop-i.invariant.1.long
@@ -35,4 +35,4 @@ shape_of-out c = c.loop-i.invariant.1.long
 pub returns : goal.returns
 returns c =
     let A = c.args in
-    out_done A.values.now A.ports.now A.out.now A.n c.requires.ports_len.1.1 c.loop-i.out c.loop-i.i c.loop-i.invariant.1 c.loop-i.invariant.0 c.loop-i-test.false
+    out_done A.values.now A.ports.now A.out.now A.n c.requires.room.1.1 c.loop-i.out c.loop-i.i c.loop-i.invariant.1 c.loop-i.invariant.0 c.loop-i-test.false
