@@ -1,4 +1,4 @@
-use Rattle.std.proofs.Common.{refl, sym, ◌∙◌, ◌-◌}
+use Rattle.std.proofs.Common.{refl, sym, ◌∙◌}
 use Rattle.vectors.specs.Token.{digits_stop, digits_next, digits_end}
 use Rattle.vectors.proofs.digits.Goals as goal
 

@@ -1,4 +1,4 @@
-use Rattle.std.proofs.Common.{refl, sym, ◌∙◌, ◌-◌}
+use Rattle.std.proofs.Common.{refl, sym, ◌∙◌}
 use Rattle.vectors.specs.Token.{skip_found, skip_next, skip_end}
 use Rattle.vectors.proofs.skip.Goals as goal
 

@@ -1,4 +1,4 @@
-use Rattle.std.proofs.Common.{refl, sym, ◌-◌, arith, rules, length-set}
+use Rattle.std.proofs.Common.{refl, sym, arith, rules, length-set}
 use Rattle.laws.specs.Front.{front_zero}
 use Rattle.vectors_builder.specs.Case.{shown_next, shown_end}
 use Rattle.vectors_builder.proofs.as_digits.Goals as goal

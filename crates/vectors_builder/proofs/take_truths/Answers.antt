@@ -1,4 +1,4 @@
-use Rattle.std.proofs.Common.{◌≡◌, refl, ap, ◌∙◌, ◌-◌, arith, rules, length, length-set}
+use Rattle.std.proofs.Common.{◌≡◌, refl, ap, ◌∙◌, arith, rules, length, length-set}
 use Rattle.vectors.specs.Tokens.{place_after, place_start, place_step}
 use Rattle.vectors_builder.specs.Case.{byte_of, filling_start, filling_next, filling_end}
 use Rattle.vectors_builder.proofs.take_truths.Goals as goal

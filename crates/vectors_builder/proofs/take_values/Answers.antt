@@ -1,4 +1,4 @@
-use Rattle.std.proofs.Common.{◌≡◌, refl, ap, ◌∙◌, ◌-◌, arith, rules, pos, length, length-set, w32}
+use Rattle.std.proofs.Common.{◌≡◌, refl, ap, ◌∙◌, arith, rules, pos, length, length-set, w32}
 use Rattle.laws.specs.Integer.{read_back-at}
 use Rattle.vectors.specs.Tokens.{place_after, place_start, place_step}
 use Rattle.vectors.specs.Token.{signed_of}

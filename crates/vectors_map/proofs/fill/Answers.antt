@@ -1,4 +1,4 @@
-use Rattle.std.proofs.Common.{refl, sym, ◌-◌, arith, rules, length-set}
+use Rattle.std.proofs.Common.{refl, sym, arith, rules, length-set}
 use Rattle.laws.specs.Front.{front_zero}
 use Rattle.vectors_map.specs.Buffer.{filled_more, filled-all}
 use Rattle.vectors_map.proofs.fill.Goals as goal

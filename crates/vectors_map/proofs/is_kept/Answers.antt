@@ -1,4 +1,4 @@
-use Rattle.std.proofs.Common.{true, ◌-◌, arith, rules}
+use Rattle.std.proofs.Common.{arith, rules}
 use Rattle.vectors_map.specs.Buffer.{kept_none, kept_fails, kept_more, kept-all}
 use Rattle.vectors_map.proofs.is_kept.Goals as goal
 

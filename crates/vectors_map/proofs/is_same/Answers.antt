@@ -1,4 +1,4 @@
-use Rattle.std.proofs.Common.{true, ◌-◌, arith, rules}
+use Rattle.std.proofs.Common.{arith, rules}
 use Rattle.vectors_map.specs.Buffer.{too_long_lem, same_none, same_fails, same_more, same_all}
 use Rattle.vectors_map.proofs.is_same.Goals as goal
 

@@ -1,4 +1,4 @@
-use Rattle.std.proofs.Common.{refl, ◌-◌, arith, rules}
+use Rattle.std.proofs.Common.{refl, arith, rules}
 use Rattle.framing.specs.Feeding.{state_with}
 use Rattle.vectors_map.specs.Bytes.{fed_next, fed_done}
 use Rattle.vectors_map.proofs.take_bytes.Goals as goal

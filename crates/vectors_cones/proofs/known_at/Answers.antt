@@ -1,0 +1,11 @@
+use Rattle.std.proofs.Common.{◌≡◌, sym, rules, length, take_at}
+use Rattle.vectors_cones.specs.Made.{known_rows}
+use Rattle.vectors_cones.proofs.known_at.Goals as goal
+
+-- `vectors_cones::known_at` meets its contract: the rows are entered where nothing is known.
+pub returns : goal.returns
+returns c one =
+    let r = c.requires.1.1 in
+    let part = c.enter-one.new.known in
+    let long : length part ≡ c.args.size = search rules in
+    known_rows c.args.values.now c.args.truth.now part _ _ c.args.size c.enter-one.result (search rules) r.0 r.1 (sym (take_at _ _ c.args.size long)) c.enter-one.ensures.all one
