@@ -1,7 +1,7 @@
 /* An evaluator's gate: each network named on the command line is admitted or turned away with words, and an admitted one is run
  * on plain bits, where a real evaluator would run it on ciphertexts. From the top of the repository:
  *
- *     rt lib exports
+ *     (cd crates/exports && rt lib)
  *     cc -Iinclude -o target/evaluator examples/evaluator.c crates/exports/out/libexports.a
  *     target/evaluator examples/and.net examples/tight.net examples/adder.net
  *

@@ -1,6 +1,6 @@
 /* Wonkpecan for C and C++: the mapper, the admission check, the table builder, the two runs, the reading of a sum and the slot of a phase.
  *
- *     rt lib exports                                       proves it and writes crates/exports/out/libexports.a
+ *     (cd crates/exports && rt lib)                                proves it and writes crates/exports/out/libexports.a
  *     cc -Iinclude evaluator.c crates/exports/out/libexports.a     x86-64 Linux; asks the C library for memcpy and memset
  *
  * The texts are document 01's: bytes, of any content and length, no closing 0. docs/EVALUATOR.md explains the numbers.
