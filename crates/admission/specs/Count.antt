@@ -16,6 +16,7 @@ use Rattle.theorems.specs.Members.{sources-append}
 use Rattle.theorems.specs.Depths.{largest_more, largest-depth_more}
 use Rattle.nodes.specs.Centre.{Centred}
 use Rattle.nodes.specs.Depth.{recorded_next}
+use Rattle.nodes.specs.declared.node.Kind.TheVariants as Kinds
 use Rattle.nodes.specs.Nodes.{kind_of, bytes_in, source_before}
 use Rattle.nodes.specs.Norm.{norm_among}
 use Rattle.nodes.specs.View.{node_of, store_of, depth_in, centre_in, store_length, IsStore}
@@ -322,50 +323,25 @@ module _ {bytes : List ℕ} {count outputs : ℕ} {taken : List Bool} {s : Stats
 -- ---- laws: each kind of node
 
 module _ (s : Stats) (norm centre : ℕ) (taken : List Bool) where
-  pub input_stats : (n : LutNode) → kind_of n ≡ 0 → (with_input s norm ≡ node_stats s norm centre taken n) × (taken ≡ taken_with taken n)
+  pub input_stats : (n : LutNode) {m : ℕ} → m ≡ max s.norm norm → kind_of n ≡ Kinds.Input
+      → (record { inputs = s.inputs + 1; sums = s.sums; boots = s.boots; sources = s.sources; longest = s.longest; norm = m; outputs = s.outputs; depth = s.depth; centre0 = s.centre0; centre1 = s.centre1; centre2 = s.centre2 }
+      ≡ node_stats s norm centre taken n) × (taken ≡ taken_with taken n)
   unfolding kind_of node_stats taken_with
-  input_stats (Input g) h = (refl, refl)
-  input_stats (Linear c ts) h = absurd (omega arith)
-  input_stats (Bootstrap j table) h = absurd (omega arith)
+  input_stats (Input g) e h = (rw e, refl)
+  input_stats (Linear c ts) e h = cc
+  input_stats (Bootstrap j table) e h = cc
 
-  pub sum-stats : (n : LutNode) → kind_of n ≡ 1 → (with_sum s norm ≡ node_stats s norm centre taken n) × (taken ≡ taken_with taken n)
+  pub sum-stats : (n : LutNode) {m : ℕ} → m ≡ max s.norm norm → kind_of n ≡ Kinds.Linear
+      → (record { inputs = s.inputs; sums = s.sums + 1; boots = s.boots; sources = s.sources; longest = s.longest; norm = m; outputs = s.outputs; depth = s.depth; centre0 = s.centre0; centre1 = s.centre1; centre2 = s.centre2 }
+      ≡ node_stats s norm centre taken n) × (taken ≡ taken_with taken n)
   unfolding kind_of node_stats taken_with
-  sum-stats (Input g) h = absurd (omega arith)
-  sum-stats (Linear c ts) h = (refl, refl)
-  sum-stats (Bootstrap j table) h = absurd (omega arith)
+  sum-stats (Input g) e h = cc
+  sum-stats (Linear c ts) e h = (rw e, refl)
+  sum-stats (Bootstrap j table) e h = cc
 
-  pub boot_stats : (n : LutNode) → kind_of n ≡ 2 → {r t : Stats} {v j : ℕ} {table : List ℕ} → v ≡ norm → j ≡ get_or (needs n) 0 0 → table ≡ bytes_in n
+  pub boot_stats : (n : LutNode) → kind_of n ≡ Kinds.Bootstrap → {r t : Stats} {v j : ℕ} {table : List ℕ} → v ≡ norm → j ≡ get_or (needs n) 0 0 → table ≡ bytes_in n
       → r ≡ with_boot s v (get_or taken j false) (length table) → t ≡ with_centre r centre → (t ≡ node_stats s norm centre taken n) × (set taken j true ≡ taken_with taken n)
   unfolding kind_of node_stats taken_with needs bytes_in
-  boot_stats (Input g) h e f k q x = absurd (omega arith)
-  boot_stats (Linear c ts) h e f k q x = absurd (omega arith)
+  boot_stats (Input g) h e f k q x = cc
+  boot_stats (Linear c ts) h e f k q x = cc
   boot_stats (Bootstrap j table) h e f k q x = (x ∙ ap {B = Stats} (λ r. with_centre r centre) (q ∙ rw (e, f, k)), rw f)
-
--- ---- laws: what the code stores is what the definition has
-
-module _ (s : Stats) where
-  pub centre_is : (x a b c : ℕ) → a ≡ (if eqb x 0 then (s.centre0 + 1) otherwise s.centre0) → b ≡ (if eqb x 1 then (s.centre1 + 1) otherwise s.centre1)
-      → c ≡ (if eqb x 2 then (s.centre2 + 1) otherwise s.centre2)
-      → record { inputs = s.inputs; sums = s.sums; boots = s.boots; sources = s.sources; longest = s.longest; norm = s.norm; outputs = s.outputs; depth = s.depth; centre0 = a; centre1 = b; centre2 = c }
-      ≡ with_centre s x
-  centre_is x a b c e f g = rw (e, f, g)
-
-  pub depth_is : (d m : ℕ) → m ≡ max s.depth d
-      → record { inputs = s.inputs; sums = s.sums; boots = s.boots; sources = s.sources; longest = s.longest; norm = s.norm; outputs = s.outputs; depth = m; centre0 = s.centre0; centre1 = s.centre1; centre2 = s.centre2 }
-      ≡ with_depth s d
-  depth_is d m e = rw e
-
-  pub input_is : (n m : ℕ) → m ≡ max s.norm n
-      → record { inputs = s.inputs + 1; sums = s.sums; boots = s.boots; sources = s.sources; longest = s.longest; norm = m; outputs = s.outputs; depth = s.depth; centre0 = s.centre0; centre1 = s.centre1; centre2 = s.centre2 }
-      ≡ with_input s n
-  input_is n m e = rw e
-
-  pub sum_is : (n m : ℕ) → m ≡ max s.norm n
-      → record { inputs = s.inputs; sums = s.sums + 1; boots = s.boots; sources = s.sources; longest = s.longest; norm = m; outputs = s.outputs; depth = s.depth; centre0 = s.centre0; centre1 = s.centre1; centre2 = s.centre2 }
-      ≡ with_sum s n
-  sum_is n m f = rw f
-
-  pub boot_is : (n : ℕ) (taken : Bool) (len d l m : ℕ) → d ≡ (if taken then s.sources otherwise (s.sources + 1)) → l ≡ max s.longest len → m ≡ max s.norm n
-      → record { inputs = s.inputs; sums = s.sums; boots = s.boots + 1; sources = d; longest = l; norm = m; outputs = s.outputs; depth = s.depth; centre0 = s.centre0; centre1 = s.centre1; centre2 = s.centre2 }
-      ≡ with_boot s n taken len
-  boot_is n taken len d l m e f g = rw (e, f, g)

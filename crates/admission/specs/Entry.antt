@@ -1,36 +1,30 @@
 -- Admission as an entry.
-use Rattle.std.specs.Prelude.{◌≡◌, List, ℕ}
-use Rattle.std.proofs.Math.Path.{sym, ap}
-use Rattle.std.proofs.Common.{subst, ◌∙◌}
-use Rattle.laws.specs.Tabulate.{tabulate-length}
+use Rattle.std.specs.Prelude as P
+use Rattle.std.specs.Prelude.{◌≡◌, List, ℕ, length}
+use Rattle.std.proofs.Common.{subst, ap, sym, ◌∙◌}
+use Rattle.std.proofs.lemmas.List.{length-map}
+use Rattle.rules.specs.declared.Refusal.{Refusal}
 use Rattle.rules.specs.declared.Stats.{Stats}
 use Rattle.rules.specs.Network.{stats}
-use Rattle.rules.specs.Admission.{admitted, rejected, admission_of, admission}
+use Rattle.rules.specs.Admission.{admitted, admission_of, admission}
 use Rattle.rules.specs.Edition2.{read_either}
 use Rattle.nodes.specs.Centre.{Centred}
 use Rattle.nodes.specs.View.{store_of, IsStore}
-use Rattle.network.specs.View.{outputs_of, network_of, reading_of, Held}
-use Rattle.network_judge.specs.declared.Header.{Header}
-use Rattle.network.specs.declared.Reading.{Reading}
-use Rattle.network.specs.declared.Reading.TheVariants.{Good, Refused}
+use Rattle.network.specs.View.{network_of, reading_of, Held}
+use Rattle.network.specs.declared.Network.{Network}
 use Rattle.admission.specs.Count.{stats_among, stats_of}
 
-read_stats : (s nodes ports : List ℕ) (h : Header) → stats_of h.p (store_of nodes h.count) h.outputs ≡ stats (network_of s nodes ports h)
-unfolding stats_of stats_among stats network_of outputs_of
-read_stats s nodes ports h = rw tabulate-length
+read_stats : (nodes : List ℕ) (w : Network) → stats_of w.net.p (store_of nodes w.count) (length w.outputs.items) ≡ stats (network_of nodes w)
+unfolding stats_of stats_among stats
+read_stats nodes w = rw length-map
 
-module _ (s nodes ports : List ℕ) (r : Reading) (e : reading_of s nodes ports r ≡ read_either s) where
-  pub admit_refused : (k i : ℕ) → r ≡ Refused k i → rejected k i ≡ admission s
-  unfolding admission admission_of
-  admit_refused k i q = sym (ap admission_of (sym e ∙ ap (reading_of s nodes ports) q))
+pub admit_good : (text nodes : List ℕ) (r : P.Result Network Refusal) (w : Network) (x : Stats) → r ≡ P.Ok w → reading_of nodes r ≡ read_either text
+    → x ≡ stats_of w.net.p (store_of nodes w.count) (length w.outputs.items) → admitted x ≡ admission text
+unfolding admission admission_of
+admit_good text nodes r w x q e f = ap admitted (f ∙ read_stats nodes w) ∙ sym (ap admission_of (sym e ∙ ap (reading_of nodes) q))
 
-  module _ (h : Header) (q : r ≡ Good h) where
-    pub admit_good : (x : Stats) → x ≡ stats_of h.p (store_of nodes h.count) h.outputs → admitted x ≡ admission s
-    unfolding admission admission_of
-    admit_good x f = ap admitted (f ∙ read_stats s nodes ports h) ∙ sym (ap admission_of (sym e ∙ ap (reading_of s nodes ports) q))
+pub admit_held : {nodes : List ℕ} {r : P.Result Network Refusal} {w : Network} → r ≡ P.Ok w → Held nodes r → IsStore nodes w.count
+admit_held {nodes} q l = let h = subst (Held nodes) q l in h.store
 
-    pub admit_held : Held s nodes ports r → IsStore nodes h.count
-    admit_held l = (subst (Held s nodes ports) q l).0.store
-
-    pub admit_centred : Held s nodes ports r → Centred h.p nodes h.count
-    admit_centred l = (subst (Held s nodes ports) q l).0.centred
+pub admit_centred : {nodes : List ℕ} {r : P.Result Network Refusal} {w : Network} → r ≡ P.Ok w → Held nodes r → Centred w.net.p nodes w.count
+admit_centred {nodes} q l = let h = subst (Held nodes) q l in h.centred

@@ -4,13 +4,13 @@ ghost use Rattle.laws.specs.Test.{if◌then◌otherwise◌};
 ghost use Rattle.rules.specs.Network.{node_norm};
 ghost use Rattle.nodes.specs.Centre.{Centred};
 ghost use Rattle.nodes.specs.View.{node_of, store_of, centre_in, IsStore};
-ghost use Rattle.admission.specs.Count.{stats_of, no_stats, with_input, with_sum, with_boot, with_centre, with_depth, node_stats, taken_with, CentreRoom, Room};
+ghost use Rattle.admission.specs.Count.{stats_of, no_stats, with_boot, with_centre, with_depth, node_stats, taken_with, CentreRoom, Room};
 
-use nodes::depth::larger;
-use nodes::node::{INPUT, LINEAR, centre_of, depth_of, kind_of, source_of, table_of};
+use nodes::node::{Kind, centre_of, depth_of, kind_of, source_of, table_of};
 use nodes::norm::node_norm;
 use rules::Stats;
 
+#[tactic(auto, unfolding(crate::specs::Count::no_stats))]
 fn no_stats(outputs: usize) -> Stats
     ensures { result ≡ no_stats outputs }
 {
@@ -29,26 +29,6 @@ fn no_stats(outputs: usize) -> Stats
     }
 }
 
-fn count_input(s: Stats, norm: usize) -> Stats
-    requires { Room s }
-    ensures { result ≡ with_input s norm }
-{
-    let mut r = s;
-    r.inputs = s.inputs + 1;
-    r.norm = larger(s.norm, norm);
-    r
-}
-
-fn count_sum(s: Stats, norm: usize) -> Stats
-    requires { Room s }
-    ensures { result ≡ with_sum s norm }
-{
-    let mut r = s;
-    r.sums = s.sums + 1;
-    r.norm = larger(s.norm, norm);
-    r
-}
-
 // One more where the source is a new one.
 fn sources_with(sources: usize, taken: bool) -> usize
     requires { sources ≤ 672 }
@@ -61,12 +41,13 @@ fn count_boot(s: Stats, norm: usize, taken: bool, len: usize) -> Stats
     requires { Room s }
     ensures { result ≡ with_boot s norm taken len }
 {
-    let mut r = s;
-    r.boots = s.boots + 1;
-    r.sources = sources_with(s.sources, taken);
-    r.longest = larger(s.longest, len);
-    r.norm = larger(s.norm, norm);
-    r
+    Stats {
+        boots: s.boots + 1,
+        sources: sources_with(s.sources, taken),
+        longest: s.longest.max(len),
+        norm: s.norm.max(norm),
+        ..s
+    }
 }
 
 // One more where the centre is this one.
@@ -81,11 +62,12 @@ fn count_centre(s: Stats, own: usize) -> Stats
     requires { CentreRoom s }
     ensures { result ≡ with_centre s own }
 {
-    let mut r = s;
-    r.centre0 = tables_with(s.centre0, 0, own);
-    r.centre1 = tables_with(s.centre1, 1, own);
-    r.centre2 = tables_with(s.centre2, 2, own);
-    r
+    Stats {
+        centre0: tables_with(s.centre0, 0, own),
+        centre1: tables_with(s.centre1, 1, own),
+        centre2: tables_with(s.centre2, 2, own),
+        ..s
+    }
 }
 
 // Node i counted; `taken` says which nodes a boot before it takes.
@@ -95,26 +77,33 @@ fn count_node(s: Stats, nodes: &[u8; 27552], i: usize, taken: &mut [bool; 672]) 
     ensures taken { taken.new ≡ taken_with taken.old (node_of nodes.now i) }
 {
     let norm = node_norm(nodes, i) as usize;
-    let kind = kind_of(nodes, i);
-    if kind == INPUT {
-        return count_input(s, norm);
+    match kind_of(nodes, i) {
+        Kind::Input => Stats {
+            inputs: s.inputs + 1,
+            norm: s.norm.max(norm),
+            ..s
+        },
+        Kind::Linear => Stats {
+            sums: s.sums + 1,
+            norm: s.norm.max(norm),
+            ..s
+        },
+        Kind::Bootstrap => {
+            let source = source_of(nodes, i, 0);
+            let r = count_boot(s, norm, taken[source], table_of(nodes, i).len());
+            taken[source] = true;
+            count_centre(r, centre_of(nodes, i))
+        }
     }
-    if kind == LINEAR {
-        return count_sum(s, norm);
-    }
-    let source = source_of(nodes, i, 0);
-    let table = table_of(nodes, i);
-    let r = count_boot(s, norm, taken[source], table.len());
-    taken[source] = true;
-    count_centre(r, centre_of(nodes, i))
 }
 
 fn count_depth(s: Stats, depth: usize) -> Stats
     ensures { result ≡ with_depth s depth }
 {
-    let mut r = s;
-    r.depth = larger(s.depth, depth);
-    r
+    Stats {
+        depth: s.depth.max(depth),
+        ..s
+    }
 }
 
 // The statistics of a network with these nodes and so many outputs.
@@ -124,11 +113,9 @@ pub fn stats_of(nodes: &[u8; 27552], count: usize, outputs: usize) -> Stats
 {
     let mut taken = [false; 672];
     let mut s = no_stats(outputs);
-    let mut i = 0;
-    while i < count {
+    for i in 0..count {
         let counted = count_node(s, nodes, i, &mut taken);
         s = count_depth(counted, depth_of(nodes, i));
-        i += 1;
     }
     s
 }

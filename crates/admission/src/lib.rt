@@ -7,18 +7,15 @@ ghost use Rattle.std.specs.Prelude.{◌≡◌};
 ghost use Rattle.rules.specs.Admission.{admission, admit_reply};
 
 pub use count::stats_of;
-use network::Reading;
-use rules::AdmitReply;
+use rules::{Refusal, Stats};
 
 // The statistics of a network whose lines meet none of these, or the number and the line of the first that does.
-pub fn admit(text: &[u8]) -> AdmitReply
+#[tactic(auto, unfolding(rules::specs::Admission::admission, rules::specs::Admission::admission_of))]
+pub fn admit(text: &[u8]) -> Result<Stats, Refusal>
     ensures { admit_reply result ≡ admission text.now }
 {
     let mut nodes = [0u8; 27552];
-    let mut ports = [0usize; 160];
-    let r = edition::read(text, &mut nodes, &mut ports);
-    match r {
-        Reading::Refused(number, line) => AdmitReply::Refused(number, line),
-        Reading::Good(h) => AdmitReply::Admitted(stats_of(&nodes, h.count, h.outputs)),
-    }
+    let w = edition::read(text, &mut nodes)?;
+    let outputs = w.outputs.len();
+    Ok(stats_of(&nodes, w.count, outputs))
 }

@@ -2,17 +2,18 @@
 // and `(end)` behind it. It leans on `mapper` and `framing`.
 #![tactic(auto)]
 
-ghost use Rattle.std.specs.Prelude.{◌++◌, ◌≤◌, length, take};
+ghost use Rattle.std.specs.Prelude.{◌≡◌, ◌++◌, ◌≤◌, length, take};
 ghost use Rattle.framing.specs.Step.{Within};
 ghost use Rattle.framing.specs.Feeding.{said, closing};
+ghost use Rattle.rules.specs.Refusal.{reason_number};
 ghost use Rattle.rules.specs.Service.{end_line, refusal_text, mapper_answer};
 ghost use Rattle.lines.specs.Put.{Put};
 ghost use Rattle.answer.specs.Front.{Front};
 
-use framing::{Event, Feed};
+use framing::Feed;
 use lines::put::{put, put_all, put_number};
 use mapper::map;
-use rules::MapReply;
+use rules::{Reason, Refusal};
 
 // `(no NUMBER LINE)`.
 fn put_refusal(out: &mut [u8], number: usize, line: usize) -> usize
@@ -33,12 +34,19 @@ fn put_end(out: &mut [u8], n: usize) -> usize
     put_all(out, n, b"(end)\n")
 }
 
-// A refusal with its `(end)`.
-fn refuse(out: &mut [u8], number: usize, line: usize) -> usize
-    requires { 65542 ≤ length out.old }
-    ensures { Front (refusal_text number line ++ end_line) result out.new }
+// In place of the call the 26 cases of the `as` would join in each proof.
+fn number_of(r: Reason) -> usize
+    ensures { result ≡ reason_number r }
 {
-    let n = put_refusal(out, number, line);
+    r as usize
+}
+
+// A refusal with its `(end)`.
+fn refuse(out: &mut [u8], r: Refusal) -> usize
+    requires { 65542 ≤ length out.old }
+    ensures { Front (refusal_text (reason_number r.reason) r.line ++ end_line) result out.new }
+{
+    let n = put_refusal(out, number_of(r.reason), r.line);
     put_end(out, n)
 }
 
@@ -47,32 +55,36 @@ fn answer_job(job: &[u8], out: &mut [u8]) -> usize
     requires { 65542 ≤ length out.old }
     ensures { Front (mapper_answer job.now ++ end_line) result out.new }
 {
-    let r = map(job, &mut out[..65536]);
-    match r {
-        MapReply::Written(n) => put_end(out, n),
-        MapReply::Refused(number, line) => refuse(out, number, line),
+    match map(job, &mut out[..65536]) {
+        Ok(n) => put_end(out, n),
+        Err(r) => refuse(out, r),
     }
 }
 
-// What is printed at an event, where `job` are the kept bytes: the first bytes of the buffer, as many as are answered.
-pub fn say(e: Event, job: &[u8], out: &mut [u8]) -> usize
-    requires { Within e × (32768 ≤ length job.now) × (65542 ≤ length out.old) }
-    ensures { Front (said mapper_answer e job.now) result out.new }
+// What is printed behind a byte: nothing, or the answer to the job that it closes. `job` are the kept bytes.
+pub fn say(closed: Option<Result<usize, Reason>>, job: &[u8], out: &mut [u8]) -> usize
+    requires { Within closed × (32768 ≤ length job.now) × (65542 ≤ length out.old) }
+    ensures { Front (said mapper_answer closed job.now) result out.new }
 {
-    match e {
-        Event::More(_) => 0,
-        Event::Job(n) => answer_job(&job[..n], out),
-        Event::Long => refuse(out, 3, 0),
+    match closed {
+        None => 0,
+        Some(Ok(n)) => answer_job(&job[..n], out),
+        Some(Err(reason)) => refuse(out, Refusal { reason, line: 0 }),
     }
 }
 
 // What is printed at the input's end.
+#[tactic(auto, unfolding(framing::specs::Feeding::closing))]
 pub fn say_at_end(f: Feed, out: &mut [u8]) -> usize
     requires { 65542 ≤ length out.old }
     ensures { Front (closing f) result out.new }
 {
-    if framing::is_cut(f) {
-        return refuse(out, 1, 0);
+    if f.is_cut() {
+        let cut = Refusal {
+            reason: Reason::NoForm,
+            line: 0,
+        };
+        return refuse(out, cut);
     }
     0
 }

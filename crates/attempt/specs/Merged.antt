@@ -1,12 +1,11 @@
 -- The cone that a scale pair merges two cones to.
-use Rattle.std.specs.Prelude.{◌≡◌, true, false, List, ℕ, ◌≤◌, ◌<◌, ◌^◌, ℤ}
+use Rattle.std.specs.Prelude as P
+use Rattle.std.specs.Prelude.{Some, None, IfSome, ◌≡◌, true, false, List, ℕ, ◌≤◌, ◌<◌, ◌^◌, ℤ}
 use Rattle.std.proofs.Math.Path.{refl, sym, ap, ap₂}
 use Rattle.std.proofs.Common.{◌∙◌, le_refl, arith, get_or-take, ext_get_or}
-use Rattle.std.proofs.Math.Logic.{⊎_elim}
-use Rattle.std.proofs.Math.Option.{Option, none, some, map}
+use Rattle.std.proofs.Math.Option.{Option, some, map}
 use Rattle.std.proofs.Math.ListN.{length, get_or, take, length-map}
 use Rattle.std.proofs.Math.Seq.{take_all}
-use Rattle.laws.specs.Test.{if◌then◌otherwise◌, decide}
 use Rattle.rules.specs.declared.Settings.{Settings}
 use Rattle.rules.specs.Builder.{known_entries}
 use Rattle.rules.specs.Cone as C
@@ -27,8 +26,8 @@ use Rattle.search.specs.Candidates.{merged_cone, candidate_of, Found}
 use Rattle.merged_rows.specs.MergedValues.{merged-coefficients}
 use Rattle.theorems.specs.Normalised.{normalised-length}
 use Rattle.scale_pair.specs.Pair.{Rows, Scaling, merged_row, merged, row_length}
+use Rattle.search.specs.Options.{option_by}
 use Rattle.search.specs.Policies.{Finds}
-use Rattle.scale_pair.specs.Score.{score_list}
 use Rattle.search.specs.Search.{cone_by}
 
 -- The cone of the pair that was found, over the sources of both cones.
@@ -37,19 +36,19 @@ merged_of basis best =
     record {
       n = basis.n;
       support = basis.support;
-      coefs = merged best.a best.b (take basis.n basis.left) (take basis.n basis.right);
+      coefs = merged best.rank.a best.rank.b (take basis.n basis.left) (take basis.n basis.right);
       known = best.known;
     }
 
 pub record Mergeable (basis : Basis) (best : Score) : Type 0 where
   pub few : basis.n ≤ 11
   pub rows : Rows (take basis.n basis.left) (take basis.n basis.right)
-  pub scaling : Scaling best.a best.b
+  pub scaling : Scaling best.rank.a best.rank.b
   pub cone : IsCone (merged_of basis best)
 
 -- What is made of the pair, if there is one.
-unfoldable pub merged_by : Basis → Score → Option C.Cone
-merged_by basis best = if best.found then some (simplify_cone (cone_of (merged_of basis best))) otherwise none
+unfoldable pub merged_by : Basis → P.Option Score → Option C.Cone
+merged_by basis o = option_by (λ (best : Score). simplify_cone (cone_of (merged_of basis best))) o
 
 pub record MergedTo (basis : Basis) (best : Score) (c : Cone) : Type 0 where
   pub cone : IsCone c
@@ -81,31 +80,31 @@ module _ (basis : Basis) (best : Score) where
   unfolding merged_of
   known_is = refl
 
-  merged_long : Rows L R → length L ≡ basis.n → length (merged best.a best.b L R) ≡ basis.n
+  merged_long : Rows L R → length L ≡ basis.n → length (merged best.rank.a best.rank.b L R) ≡ basis.n
   unfolding merged
-  merged_long r e = normalised-length (merged_row best.a best.b L R) ∙ row_length L R r best.a best.b ∙ e
+  merged_long r e = normalised-length (merged_row best.rank.a best.rank.b L R) ∙ row_length L R r best.rank.a best.rank.b ∙ e
 
   pub merged-support : (cone_of (merged_of basis best)).support ≡ take basis.n basis.support
   unfolding cone_of merged_of
   merged-support = refl
 
-  merged-coefs : Rows L R → length L ≡ basis.n → (cone_of (merged_of basis best)).coefficients ≡ merged best.a best.b L R
+  merged-coefs : Rows L R → length L ≡ basis.n → (cone_of (merged_of basis best)).coefficients ≡ merged best.rank.a best.rank.b L R
   unfolding cone_of merged_of
-  merged-coefs r e = take_all basis.n (merged best.a best.b L R) (rw (merged_long r e) (le_refl _))
+  merged-coefs r e = take_all basis.n (merged best.rank.a best.rank.b L R) (rw (merged_long r e) (le_refl _))
 
   pub merged-coefs_long : Rows L R → length L ≡ basis.n → length (cone_of (merged_of basis best)).coefficients ≡ basis.n
   merged-coefs_long r e = ap length (merged-coefs r e) ∙ merged_long r e
 
   -- the coefficients in an array of 11
-  module _ (m : Mergeable basis best) (coefs : List ℤ) (long : basis.n ≡ length L) (e : take (length L) coefs ≡ merged best.a best.b L R) where
+  module _ (m : Mergeable basis best) (coefs : List ℤ) (long : basis.n ≡ length L) (e : take (length L) coefs ≡ merged best.rank.a best.rank.b L R) where
     abbrev made : Cone
     made = record { n = basis.n; support = basis.support; coefs = coefs; known = best.known }
 
     pub made_is : cone_of made ≡ cone_of (merged_of basis best)
     unfolding cone_of merged_of
     made_is =
-        let cs : take basis.n coefs ≡ take basis.n (merged best.a best.b L R) =
-        ap (λ k. take k coefs) long ∙ e ∙ sym (take_all basis.n (merged best.a best.b L R) (rw (merged_long m.rows (sym long)) (le_refl _))) in
+        let cs : take basis.n coefs ≡ take basis.n (merged best.rank.a best.rank.b L R) =
+        ap (λ k. take k coefs) long ∙ e ∙ sym (take_all basis.n (merged best.rank.a best.rank.b L R) (rw (merged_long m.rows (sym long)) (le_refl _))) in
         rw cs
 
     pub made_cone : IsCone made
@@ -124,15 +123,15 @@ module _ (left right : C.Cone) (truth : List ℕ) (basis : Basis) (best : Score)
   U = union_support left.support right.support
 
   abbrev X : C.Cone
-  X = merged_cone U left right truth best.a best.b
+  X = merged_cone U left right truth best.rank.a best.rank.b
 
   lefts_long : length (take basis.n basis.left) ≡ basis.n
   unfolding coefficients_over
   lefts_long = ap length is.lefts ∙ length-map U _ ∙ sym is.count
 
-  coefs_are : (cone_of (merged_of basis best)).coefficients ≡ merged_coefficients U left right (scales best.a best.b)
+  coefs_are : (cone_of (merged_of basis best)).coefficients ≡ merged_coefficients U left right (scales best.rank.a best.rank.b)
   unfolding merged merged_row scales
-  coefs_are = merged-coefs basis best rows lefts_long ∙ ap₂ (merged best.a best.b) is.lefts is.rights ∙ sym (merged-coefficients U left right (scales best.a best.b))
+  coefs_are = merged-coefs basis best rows lefts_long ∙ ap₂ (merged best.rank.a best.rank.b) is.lefts is.rights ∙ sym (merged-coefficients U left right (scales best.rank.a best.rank.b))
 
   support_is : (cone_of (merged_of basis best)).support ≡ U
   support_is = merged-support basis best ∙ is.sources
@@ -149,7 +148,7 @@ module _ (left right : C.Cone) (truth : List ℕ) (basis : Basis) (best : Score)
   entry i h =
       truth_entry (merged_of basis best) i (rw values_are h)
       ∙ ap (λ l. get_or best.known (offset (least l) l i) 0) values_are
-      ∙ sym (get_or-take best.span best.known (offset (least (values X)) (values X) i) 0 (rw found.span_is (offset_lt (values X) i h)))
+      ∙ sym (get_or-take best.rank.span best.known (offset (least (values X)) (values X) i) 0 (rw found.span_is (offset_lt (values X) i h)))
       ∙ known-hit (values X) truth values_long _ found.entries i h
 
   truths_are : (cone_of (merged_of basis best)).truth ≡ truth
@@ -159,7 +158,7 @@ module _ (left right : C.Cone) (truth : List ℕ) (basis : Basis) (best : Score)
 
   merged_is : cone_of (merged_of basis best) ≡ X
   unfolding merged_cone
-  merged_is = cone_of_lem (cone_of (merged_of basis best)) U (merged_coefficients U left right (scales best.a best.b)) truth support_is coefs_are truths_are
+  merged_is = cone_of_lem (cone_of (merged_of basis best)) U (merged_coefficients U left right (scales best.rank.a best.rank.b)) truth support_is coefs_are truths_are
 
   pub found_mergeable : s.m ≤ 32 → all_different U ≡ true → ((i : ℕ) → get_or U i 0 < 672) → Mergeable basis best
   found_mergeable small different near =
@@ -187,21 +186,13 @@ module _ (left right : C.Cone) (truth : List ℕ) (basis : Basis) (best : Score)
           ∙ ap (λ l. some (take (cone_span (cone_of (merged_of basis best))) l)) (known_is basis best)
 
 -- it is the definition's
-module _ (s : Settings) (nodes : List LutNode) (left right : C.Cone) (truth : List ℕ) (basis : Basis) (best : Score) (is : IsBasis left right basis)
+module _ (s : Settings) (nodes : List LutNode) (left right : C.Cone) (truth : List ℕ) (basis : Basis) (best : P.Option Score) (is : IsBasis left right basis)
     (rows : Rows (take basis.n basis.left) (take basis.n basis.right)) (t_long : length truth ≡ 2 ^ basis.n) (finds : Finds s nodes left right truth best) where
   pub merged_by_lem : merged_by basis best ≡ map merge_cones (find_candidate s nodes (union_support left.support right.support) left right truth)
   unfolding merged_by candidate_of merge_cones
-  merged_by_lem =
-      ⊎_elim
-      (λ (e : best.found ≡ true).
-      ap (λ t. if t then some (simplify_cone (cone_of (merged_of basis best))) otherwise none) e
-      ∙ ap (λ c. some (simplify_cone c)) (merged_is left right truth basis best s is rows t_long (finds.found e))
-      ∙ ap (λ t. map merge_cones (if t then some one otherwise none)) (sym e))
-      (λ (e : best.found ≡ false).
-      ap (λ t. if t then some (simplify_cone (cone_of (merged_of basis best))) otherwise none) e
-      ∙ ap (λ t. map merge_cones (if t then some one otherwise none)) (sym e))
-      (decide best.found)
-      ∙ ap (map merge_cones) finds.candidate
+  merged_by_lem = by best finds.found ∙ ap (map merge_cones) finds.candidate
     where
-      one : Candidate
-      one = record { score = score_list best; cone = merged_cone (union_support left.support right.support) left right truth best.a best.b }
+      by : (o : P.Option Score) → IfSome o (Found s (union_support left.support right.support) left right truth)
+          → merged_by basis o ≡ map merge_cones (candidate_of (union_support left.support right.support) left right truth o)
+      by None f = refl
+      by (Some r) f = ap (λ c. some (simplify_cone c)) (merged_is left right truth basis r s is rows t_long f)

@@ -27,6 +27,7 @@ pub record FrameOf (X Y : List ℤ) (f : Frame) : Type 0 where
 -- The tables begin with the values of both sides over the sources, and a bit for each row.
 pub record Tabled (basis : Basis) (rows : ℕ) (xs ys : List ℤ) (ts : List ℕ) : Type 0 where
   pub many : rows ≡ 2 ^ basis.n
+  pub few : rows ≤ 2048
   pub x_long : length xs ≡ 2048
   pub y_long : length ys ≡ 2048
   pub t_long : length ts ≡ 2048

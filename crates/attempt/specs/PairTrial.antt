@@ -1,5 +1,6 @@
 -- What an attempt's tables and rows are, and what is made of the pair that is found.
-use Rattle.std.specs.Prelude.{◌≡◌, true, false, List, [], ◌∷◌, ℕ, suc, ◌+◌, ◌*◌, ◌≤◌, ◌<◌, ◌^◌, ℤ, pos, nat_abs, length, get_or, take}
+use Rattle.std.specs.Prelude as P
+use Rattle.std.specs.Prelude.{Some, IfSome, ◌≡◌, true, false, List, [], ◌∷◌, ℕ, suc, ◌+◌, ◌*◌, ◌≤◌, ◌<◌, ◌^◌, ℤ, pos, nat_abs, length, get_or, take}
 use Rattle.std.proofs.Math.Path.{sym}
 use Rattle.std.proofs.Common.{ap, subst, ◌∙◌, zero-le, arith, pow_mono, get_or-take, length-take-le}
 use Rattle.std.proofs.Math.Option.{map}
@@ -12,7 +13,7 @@ use Rattle.rules.specs.Cone as C
 use Rattle.rules.specs.Cone.{cone_bit, linear_table}
 use Rattle.rules.specs.Composition.{union_support, gate_truth, all_equal, merge_cones, find_candidate, simplify_cone}
 use Rattle.rules.specs.Network.{LutNode}
-use Rattle.rules.specs.NetworkText.{sources, all_different}
+use Rattle.rules.specs.NetworkText.{all_different}
 use Rattle.rules.specs.Runs.{all_bits}
 use Rattle.scale.specs.Limits.{Within}
 use Rattle.theorems.specs.Bits.{bit_at}
@@ -31,7 +32,8 @@ use Rattle.merged_rows.specs.declared.energy.Moments.{Moments}
 use Rattle.scale_pair.specs.declared.score.Score.{Score}
 use Rattle.merged_rows.specs.EnergyMoments.{xx_of, xy_of, yy_of}
 use Rattle.merged_rows.specs.EnergyRows.{InRows, Small, moments_of, moments_compacted}
-use Rattle.scale_pair.specs.Pair.{Rows, left-small, right-small}
+use Rattle.scale_pair.specs.Pair.{Rows, left_small, right_small}
+use Rattle.search.specs.Candidates.{Found}
 use Rattle.search.specs.Policies.{Attempted, Finds}
 use Rattle.search.specs.Reuse.{Stored}
 use Rattle.merged_rows.specs.RowsCompacted.{sum_over, Compacted}
@@ -93,7 +95,7 @@ module _ (s : Settings) (bytes : List ℕ) (count : ℕ) (left right : Cone) (ba
       }
 
   pub trial_frame : (basis.n ≤ 11) × (Within 1984 L × Within 1984 R)
-  trial_frame = (t.over.few, (λ i. omega (arith, left-small L R trial_rows i), λ i. omega (arith, right-small L R trial_rows i)))
+  trial_frame = (t.over.few, (λ i. omega (arith, left_small L R trial_rows i), λ i. omega (arith, right_small L R trial_rows i)))
 
   trial_sources : Near count U
   trial_sources = union_near count (cone_of left).support (cone_of right).support t.first.below.at t.second.below.at
@@ -106,9 +108,6 @@ module _ (s : Settings) (bytes : List ℕ) (count : ℕ) (left right : Cone) (ba
 
   -- the tables
   module _ (rows : ℕ) (xs ys : List ℤ) (ts : List ℕ) (tab : Tabled basis rows xs ys ts) where
-    pub rows_few : rows ≤ 2048
-    rows_few = omega (arith, tab.many, pow_mono {j = 11} t.over.few)
-
     x_rows : length (linear_table L) ≡ rows
     x_rows = linear_table-length L ∙ ap (λ k. 2 ^ k) lefts_long ∙ sym tab.many
 
@@ -118,7 +117,7 @@ module _ (s : Settings) (bytes : List ℕ) (count : ℕ) (left right : Cone) (ba
     pub trial_framed : (f : Frame) (counts : List ℕ) → FrameOf (linear_table L) (linear_table R) f → length counts ≡ 2048 → Framed f rows xs ys ts counts
     trial_framed f counts o long =
         record {
-          few = rows_few;
+          few = tab.few;
           x_long = tab.x_long;
           y_long = tab.y_long;
           t_long = tab.t_long;
@@ -135,13 +134,14 @@ module _ (s : Settings) (bytes : List ℕ) (count : ℕ) (left right : Cone) (ba
             (omega (arith, span_table L, trial_rows.lefts)) (omega (arith, span_table R, trial_rows.rights)) (y_rows ∙ sym x_rows) (rw x_rows h) (tab.bits i h))
 
     truth_rows : length (take rows ts) ≡ 2 ^ basis.n
-    truth_rows = length-take-le rows ts (omega (arith, rows_few, tab.t_long)) ∙ tab.many
+    truth_rows = length-take-le rows ts (omega (arith, tab.few, tab.t_long)) ∙ tab.many
 
     -- what is made of the pair that is found
-    module _ (nodes : List LutNode) (best : Score) (finds : Finds s nodes (cone_of left) (cone_of right) (take rows ts) best) where
-      pub trial_mergeable : best.found ≡ true → Mergeable basis best
-      trial_mergeable e =
-          found_mergeable (cone_of left) (cone_of right) (take rows ts) basis best s t.over trial_rows truth_rows (finds.found e) trial_small trial_different trial_near
+    module _ (nodes : List LutNode) (best : P.Option Score) (finds : Finds s nodes (cone_of left) (cone_of right) (take rows ts) best) where
+      pub trial_mergeable : (r : Score) → best ≡ Some r → Mergeable basis r
+      trial_mergeable r e =
+          found_mergeable (cone_of left) (cone_of right) (take rows ts) basis r s t.over trial_rows truth_rows
+          (subst (λ o. IfSome o (Found s U (cone_of left) (cone_of right) (take rows ts))) e finds.found) trial_small trial_different trial_near
 
       pub trial_merged : merged_by basis best ≡ map merge_cones (find_candidate s nodes U (cone_of left) (cone_of right) (take rows ts))
       trial_merged = merged_by_lem s nodes (cone_of left) (cone_of right) (take rows ts) basis best t.over trial_rows truth_rows finds
@@ -150,7 +150,7 @@ module _ (s : Settings) (bytes : List ℕ) (count : ℕ) (left right : Cone) (ba
     module _ (n : ℕ) (xs' ys' : List ℤ) (ts' counts : List ℕ)
         (k : Compacted (take rows xs) (take rows ys) (take rows ts) (take n xs') (take n ys') (take n ts') (take n counts)) (mv : Moved rows n xs' ys' ts' counts) where
       n_few : n ≤ 2048
-      n_few = omega (arith, mv.few, rows_few)
+      n_few = omega (arith, mv.few, tab.few)
 
       n_long : length (take n xs') ≡ n
       n_long = length-take-le n xs' (omega (arith, n_few, mv.x_long))
@@ -180,7 +180,7 @@ module _ (s : Settings) (bytes : List ℕ) (count : ℕ) (left right : Cone) (ba
       sum_near : (f : ℤ → ℤ → ℤ) → ((i : ℕ) → nat_abs (f (get_or (take rows xs) i (pos 0)) (get_or (take rows ys) i (pos 0))) ≤ 961)
           → nat_abs (sum_over f (take rows xs) (take rows ys)) ≤ 2 ^ 40
       sum_near f h =
-          omega (arith, sum-small f 961 (take rows xs) (take rows ys) h, ap length tab.x ∙ x_rows, rows_few)
+          omega (arith, sum-small f 961 (take rows xs) (take rows ys) h, ap length tab.x ∙ x_rows, tab.few)
 
       trial_moments : Small (moments_of (take n xs') (take n ys') (take n counts))
       unfolding xx_of xy_of yy_of
@@ -225,7 +225,7 @@ module _ (s : Settings) (bytes : List ℕ) (count : ℕ) (left right : Cone) (ba
             right-span = f;
             stands = subst (λ l. Compacted l (linear_table Y) (take rows ts) (take n xs') (take n ys') (take n ts') (take n counts)) x
                 (subst (λ l. Compacted (take rows xs) l (take rows ts) (take n xs') (take n ys') (take n ts') (take n counts)) y k);
-            rows = length-take-le rows ts (omega (arith, rows_few, tab.t_long)) ∙ sym x_rows ∙ ap (λ l. length (linear_table l)) t.over.lefts;
+            rows = length-take-le rows ts (omega (arith, tab.few, tab.t_long)) ∙ sym x_rows ∙ ap (λ l. length (linear_table l)) t.over.lefts;
             moments = g;
             mixed = mixed;
           }
@@ -242,6 +242,7 @@ module _ (s : Settings) (bytes : List ℕ) (count : ℕ) (left right : Cone) (ba
       let truths : take rows ts' ≡ gate_truth U (cone_of left) (cone_of right) gate = ap (take rows) c.t ∙ take-over (gate_truth U (cone_of left) (cone_of right) gate) ts rows nt in (
         record {
           many = e;
+          few = most;
           x_long = ap length c.x ∙ over-length (linear_table (coefficients_over U (cone_of left))) xs (omega arith) ∙ lx;
           y_long = ap length c.y ∙ over-length (linear_table (coefficients_over U (cone_of right))) ys (omega arith) ∙ ly;
           t_long = ap length c.t ∙ over-length (gate_truth U (cone_of left) (cone_of right) gate) ts (omega arith) ∙ lt;

@@ -1,9 +1,10 @@
 -- What one attempt answers.
-use Rattle.std.proofs.Math.Option.{Option, none, some}
-use Rattle.laws.specs.Test.{if◌then◌otherwise◌}
+use Rattle.std.specs.Prelude as P
+use Rattle.std.proofs.Math.Option.{Option}
 use Rattle.rules.specs.Cone as C
+use Rattle.cone.specs.declared.Cone.{Cone}
 use Rattle.cone.specs.View.{cone_of}
-use Rattle.attempt.specs.declared.Tried.{Tried}
+use Rattle.search.specs.Options.{option_by}
 
-unfoldable pub tried_of : Tried → Option C.Cone
-tried_of t = if t.found then some (cone_of t.cone) otherwise none
+abbrev pub tried_of : P.Option Cone → Option C.Cone
+tried_of o = option_by cone_of o

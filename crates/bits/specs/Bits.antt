@@ -1,38 +1,28 @@
 -- Bits tested one by one, and what a run makes of the test.
-use Rattle.std.specs.Prelude.{◌≡◌, Bool, true, false, List, ℕ, ◌+◌, ◌<◌, ◌≤◌, length, get_or, drop}
-use Rattle.std.proofs.Math.Path.{sym}
-use Rattle.std.proofs.Common.{ap, ◌∙◌, drop_of_length-le, drop-cons}
-use Rattle.std.proofs.Math.Bool.{not}
+use Rattle.std.specs.Prelude.{◌≡◌, refl, Bool, true, false, not, List, [], ◌∷◌, ℕ, zero, suc, ◌<◌, ◌≤◌, IsTrue, ◌↔◌, All, length}
+use Rattle.std.proofs.Common.{sym, ap, ◌∙◌, not-suc-le-zero, le_of_suc-le-suc, arith}
 use Rattle.std.proofs.Math.Option.{Option}
-use Rattle.std.proofs.Math.Numerals.{add-one}
-use borrow.Author.Tests.{le-leb, lt-leb, lt-ltb, eq-eqb, ne_eqb, not-false}
+use Rattle.std.proofs.lemmas.Bool.{leb-true}
+use borrow.Author.Tests.{le-leb, lt-ltb, eq-eqb, not-false}
+use Rattle.laws.specs.Test.{both_left, both_right, T-not_is, T-is, not_both}
 use Rattle.rules.specs.Runs.{NotBits, NoRoom, ran, all_bits, bits_for, run_on}
 
--- those from i on
-unfoldable pub rest_bits : List ℕ → ℕ → Bool
-rest_bits l i = all_bits (drop i l)
+-- as many as there are inputs, tested one by one
+each_bit : (l : List ℕ) → All (λ b. b ≤ 1) l → all_bits l ≡ true
+unfolding all_bits
+each_bit [] h = refl
+each_bit (b ∷ l) h = rw (le-leb b 1 (h 0 0 (omega arith)), each_bit l (λ k d i. h (suc k) d (omega arith)))
 
-module _ (n : ℕ) (l : List ℕ) where
-  pub bits_start : length l ≡ n → bits_for n l ≡ rest_bits l 0
-  unfolding bits_for rest_bits
-  bits_start e = rw (eq-eqb (length l) n e)
+bits_each : (l : List ℕ) → all_bits l ≡ true → All (λ b. b ≤ 1) l
+unfolding all_bits
+bits_each [] e k d h = absurd (not-suc-le-zero h)
+bits_each (b ∷ l) e zero d h = leb-true b 1 (both_left _ (all_bits l) e)
+bits_each (b ∷ l) e (suc k) d h = bits_each l (both_right _ (all_bits l) e) k d (le_of_suc-le-suc h)
 
-  pub bits-count : (length l ≡ n → ⊥) → bits_for n l ≡ false
-  unfolding bits_for
-  bits-count e = rw (ne_eqb (length l) n e)
-
-module _ (l : List ℕ) (i : ℕ) where
-  pub rest_next : i < length l → get_or l i 0 ≤ 1 → rest_bits l i ≡ rest_bits l (i + 1)
-  unfolding rest_bits all_bits
-  rest_next h k = rw (drop-cons l i 0 h, le-leb (get_or l i 0) 1 k, add-one i)
-
-  pub rest_bad : i < length l → 1 < get_or l i 0 → rest_bits l i ≡ false
-  unfolding rest_bits all_bits
-  rest_bad h k = rw (drop-cons l i 0 h, lt-leb (get_or l i 0) 1 k)
-
-  pub rest_done : length l ≤ i → rest_bits l i ≡ true
-  unfolding rest_bits all_bits
-  rest_done h = rw (drop_of_length-le l {i = i} h)
+pub all_tested : (n : ℕ) (l : List ℕ) (r : Bool) → length l ≡ n → (IsTrue r ↔ All (λ b. b ≤ 1) l) → r ≡ bits_for n l
+unfolding bits_for
+all_tested n l true e t = rw (eq-eqb (length l) n e, each_bit l (t.0 refl))
+all_tested n l false e t = rw (eq-eqb (length l) n e) (sym (T-not_is (all_bits l) (λ b. not_both false (t.1 (bits_each l (T-is (all_bits l) b))) refl)))
 
 -- ---- a run over them, whatever gives its values
 module _ {A : Type 0} (n k : ℕ) (bits : List ℕ) (buffer : List A) (values : Option (List A)) {b : Bool} (e : b ≡ bits_for n bits) where

@@ -5,18 +5,9 @@ ghost use Rattle.std.specs.Prelude.{◌≡◌};
 ghost use Rattle.rules.specs.Runs.{bits_for};
 
 // Whether there is a bit for each of n inputs.
+#[tactic(auto, unfolding(rules::specs::Runs::bits_for))]
 pub fn are_bits_for(n: usize, bits: &[u8]) -> bool
     ensures { result ≡ bits_for n bits.now }
 {
-    if bits.len() != n {
-        return false;
-    }
-    let mut i = 0;
-    while i < bits.len() {
-        if 1 < bits[i] {
-            return false;
-        }
-        i += 1;
-    }
-    true
+    bits.len() == n && bits.iter().all(|&b| b <= 1)
 }

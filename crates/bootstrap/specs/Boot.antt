@@ -4,7 +4,6 @@ use Rattle.std.proofs.Math.Path.{refl, ap}
 use Rattle.std.proofs.Common.{sym, ap₂, ◌∙◌, ⊎_elim, arith, length-append}
 use Rattle.std.proofs.Math.Option.{get_or}
 use Rattle.laws.specs.Integer.{abs_neg}
-use Rattle.laws.specs.Test.{zero≢one}
 use Rattle.rules.specs.declared.Settings.{Settings}
 use Rattle.rules.specs.Builder.{last_tried}
 use Rattle.rules.specs.Cone as C
@@ -12,6 +11,7 @@ use Rattle.rules.specs.Cone.{identity, values, cone_span, bootstrap_table, terms
 use Rattle.rules.specs.Network.{LutNode, Linear, Bootstrap, node_centre}
 use Rattle.rules.specs.Rotation.{centre_of}
 use Rattle.rules.specs.Span.{least}
+use Rattle.rules.specs.declared.Wire.TheVariants.{Node}
 use Rattle.rules.specs.Store.{Stored, linear_of, linear_terms, intern, number_of, bootstrapped}
 use Rattle.scale.specs.Limits.{Within}
 use Rattle.search.specs.Reuse.{fine_zip}
@@ -19,7 +19,6 @@ use Rattle.theorems.specs.Interned.{interned, interned_most}
 use Rattle.cone.specs.declared.Cone.{Cone}
 use Rattle.cone.specs.View.{cone_of, IsCone, small, low_small}
 use Rattle.lut.specs.declared.Linked.{Linked}
-use Rattle.lut.specs.declared.Signal.TheVariants as Signals
 use Rattle.nodes.specs.declared.record.Terms.{Terms}
 use Rattle.lut.specs.Store.{Interns}
 use Rattle.nodes.specs.View.{term, terms_in, FineTerms, GoodTerms, store_of, store_length}
@@ -34,11 +33,8 @@ pub record SumOf (d : Cone) (t : Terms) : Type 0 where
 
 -- ---- laws: signals
 
-node-injective : (a b : ℕ) → Signals.Node a ≡ Signals.Node b → a ≡ b
+node-injective : (a b : ℕ) → Node a ≡ Node b → a ≡ b
 node-injective a b e = cc
-
-node_constant : (a b : ℕ) → Signals.Node a ≡ Signals.Const b → ⊥
-node_constant a b e = zero≢one (cc)
 
 -- ---- laws: the sum
 
@@ -80,14 +76,11 @@ module _ {c : ℕ} (n : LutNode) (bytes : List ℕ) (count : ℕ) (after : List 
   number_inside : number_of n (intern n (store_of bytes count)) < r.count
   number_inside = rw count_is (interned n (store_of bytes count)).inside
 
-  pub number_told : (k : ℕ) → r.signal ≡ Signals.Node k → k ≡ number_of n (intern n (store_of bytes count))
+  pub number_told : (k : ℕ) → r.signal ≡ Node k → k ≡ number_of n (intern n (store_of bytes count))
   number_told k e = node-injective k _ (sym e ∙ i.signal)
 
-  pub told_inside : (k : ℕ) → r.signal ≡ Signals.Node k → k < r.count
+  pub told_inside : (k : ℕ) → r.signal ≡ Node k → k < r.count
   told_inside k e = rw (number_told k e) number_inside
-
-  pub not_constant : (b : ℕ) → r.signal ≡ Signals.Const b → ⊥
-  not_constant b e = node_constant _ b (sym i.signal ∙ e)
 
 -- ---- laws: the cone's bootstrap
 
@@ -104,8 +97,8 @@ module _ (s : Settings) (bytes : List ℕ) (count : ℕ) (d : Cone) (h : Stands 
   unfolding bootstrap_table
   table_known = ap (λ o. last_tried s.p (get_or o [])) (sym h.cone.held)
 
-  module _ (middle : List ℕ) (sum : Linked) (i : Interns 0 (linear_of s (cone_of d)) bytes count middle sum) (source : ℕ) (e : sum.signal ≡ Signals.Node source) (after : List ℕ) (made : Linked)
-      (b : Interns (centre_of s.p (bootstrap_table s.p (cone_of d))) (Bootstrap source (bootstrap_table s.p (cone_of d))) middle sum.count after made) (node : ℕ) (f : made.signal ≡ Signals.Node node) where
+  module _ (middle : List ℕ) (sum : Linked) (i : Interns 0 (linear_of s (cone_of d)) bytes count middle sum) (source : ℕ) (e : sum.signal ≡ Node source) (after : List ℕ) (made : Linked)
+      (b : Interns (centre_of s.p (bootstrap_table s.p (cone_of d))) (Bootstrap source (bootstrap_table s.p (cone_of d))) middle sum.count after made) (node : ℕ) (f : made.signal ≡ Node node) where
     abbrev table : List ℕ
     table = bootstrap_table s.p (cone_of d)
 

@@ -1,7 +1,9 @@
 -- A cone by the coefficients of a sum that is bootstrapped already: what its code does, step by step.
-use Rattle.std.specs.Prelude.{◌≡◌, Bool, false, ◌&&◌, ℕ, zero, suc, ◌≤◌, ◌<◌, ◌^◌, leb, eqb, ℤ, nat_abs}
+use Rattle.std.specs.Prelude as P
+use Rattle.std.specs.Prelude.{◌≡◌, Bool, false, ◌&&◌, ℕ, zero, suc, ◌≤◌, ◌<◌, ◌^◌, leb, eqb, ℤ, nat_abs, Some, None, IfSome}
+use Rattle.std.specs.Bool.{then_some}
 use Rattle.std.proofs.Math.Path.{refl, sym, ap}
-use Rattle.std.proofs.Common.{◌∙◌, true≢false, arith, get_or-take, length-take-le}
+use Rattle.std.proofs.Common.{◌∙◌, arith, get_or-take, length-take-le}
 use Rattle.std.proofs.Math.Bool.{true}
 use mathlib.Core.List.{List, [], ◌∷◌, map}
 use Rattle.std.proofs.Math.Option.{Option, none, some}
@@ -23,25 +25,19 @@ use Rattle.cone.specs.declared.Cone.{Cone}
 use Rattle.scale.specs.Limits.{Within}
 use Rattle.theorems.specs.ConeValues.{linear_table-length}
 use Rattle.cone.specs.View.{cone_of, IsCone, truth-length, truth_entry, view_rows}
-use Rattle.lut.specs.declared.forms.Aligned.{Aligned}
-use Rattle.lut.specs.Forms.{form_terms, FormOf, NodesTo}
+use Rattle.lut.specs.Forms.{form_terms, AlignedTo, FormOf, NodesTo}
 use Rattle.nodes.specs.View.{node_of, Fine, FineTerms}
-use Rattle.bootstrap.specs.declared.form.Entered.{Entered}
-use Rattle.bootstrap.specs.declared.form.Form.{Form}
+use Rattle.search.specs.Options.{option_by}
 
--- ---- What the structs stand for.
+-- ---- What the code holds.
 
-unfoldable pub entries_of : ℕ → Entered → Option (List ℕ)
-entries_of span e = if e.ok then some (take span e.known) otherwise none
+abbrev pub candidate_in : List LutNode → P.Option Cone → Option Candidate
+candidate_in nodes o = option_by (λ (d : Cone). ranked nodes (cone_of d)) o
 
-unfoldable pub candidate_in : List LutNode → Form → Option Candidate
-candidate_in nodes f = if f.found then some (ranked nodes (cone_of f.cone)) otherwise none
-
--- A form of c: its sources are c's, and it is c itself where none was found.
-pub record Kept (c : Cone) (f : Form) : Type 0 where
-  pub is : IsCone f.cone
-  pub support : (cone_of f.cone).support ≡ (cone_of c).support
-  pub same : f.found ≡ false → f.cone ≡ c
+-- A form of c: its sources are c's.
+pub record Reforms (c d : Cone) : Type 0 where
+  pub is : IsCone d
+  pub support : (cone_of d).support ≡ (cone_of c).support
 
 -- ---- A turn over the nodes.
 
@@ -59,16 +55,6 @@ better_of d (some c) = some (better d c)
 unfoldable pub turned : Settings → List LutNode → C.Cone → Option Candidate → Option (List Term) → Option Candidate
 turned s nodes c d none = d
 turned s nodes c d (some ts) = if same_sources c.support ts then better_of d (fitting s nodes (with_form c ts)) otherwise d
-
--- ---- laws: entries that agree, or not
-
-pub entries_clash : (n : ℕ) (e : Entered) (o : Option (List ℕ)) → entries_of n e ≡ o → e.ok ≡ false → o ≡ none
-unfolding entries_of
-entries_clash n e o f g = sym f ∙ rw g
-
-pub entries_agree : (n : ℕ) (e : Entered) (o : Option (List ℕ)) → entries_of n e ≡ o → e.ok ≡ true → o ≡ some (take n e.known)
-unfolding entries_of
-entries_agree n e o f g = sym f ∙ rw g
 
 -- ---- laws: a cone by its known entries
 
@@ -130,59 +116,42 @@ module _ (s : Settings) (nodes : List LutNode) (v : C.Cone) where
   unfolding fits is_lut_valid encoding completed
   fits-clash e = rw (e, and-false (leb (cone_span v) s.m)) (and-false (within_norm s (norm2 nodes v)))
 
-  pub form_not : (c : Cone) → fits s nodes v ≡ false → candidate_in nodes (record { found = false; cone = c }) ≡ fitting s nodes v
-  unfolding candidate_in fitting
-  form_not c e = rw e
+  pub form_not : fits s nodes v ≡ false → none ≡ fitting s nodes v
+  unfolding fitting
+  form_not e = rw e
 
-  pub form_so : (d : Cone) → cone_of d ≡ v → fits s nodes (cone_of d) ≡ true → candidate_in nodes (record { found = true; cone = d }) ≡ fitting s nodes v
-  unfolding candidate_in fitting
+  form_so : (d : Cone) → cone_of d ≡ v → fits s nodes (cone_of d) ≡ true → some (ranked nodes (cone_of d)) ≡ fitting s nodes v
+  unfolding fitting
   form_so d e g =
       let t : fits s nodes v ≡ true = ap (fits s nodes) (sym e) ∙ g in
       ap (λ (k : C.Cone). some (ranked nodes k)) e ∙ rw t
 
-pub kept_itself : (c : Cone) → IsCone c → Kept c (record { found = false; cone = c })
-kept_itself c is = record { is = is; support = refl; same = λ z. refl }
+  pub form_tested : (d : Cone) → cone_of d ≡ v → (t : Bool) → t ≡ fits s nodes (cone_of d) → candidate_in nodes (then_some t d) ≡ fitting s nodes v
+  form_tested d e true f = form_so d e (sym f)
+  form_tested d e false f = form_not (ap (fits s nodes) (sym e) ∙ sym f)
 
-pub kept-form : (c d : Cone) → IsCone d → (cone_of d).support ≡ (cone_of c).support → Kept c (record { found = true; cone = d })
-kept-form c d is e = record { is = is; support = e; same = λ z. absurd (true≢false z) }
-
--- ---- laws: the better form
-
-module _ (nodes : List LutNode) (best f : Form) where
-  pub better-stays : f.found ≡ false → candidate_in nodes best ≡ better_of (candidate_in nodes best) (candidate_in nodes f)
-  unfolding candidate_in better_of
-  better-stays e = rw e
-
-  pub better-first : f.found ≡ true → best.found ≡ false → candidate_in nodes f ≡ better_of (candidate_in nodes best) (candidate_in nodes f)
-  unfolding candidate_in better_of better
-  better-first e g = rw (e, g)
-
-  module _ (e : f.found ≡ true) (g : best.found ≡ true) where
-    pub better_new : C.less (C.cone_order_key nodes (cone_of f.cone)) (C.cone_order_key nodes (cone_of best.cone)) ≡ true
-        → candidate_in nodes f ≡ better_of (candidate_in nodes best) (candidate_in nodes f)
-    unfolding candidate_in better_of better ranked
-    better_new h = rw (e, g, h)
-
-    pub better_old : C.less (C.cone_order_key nodes (cone_of f.cone)) (C.cone_order_key nodes (cone_of best.cone)) ≡ false
-        → candidate_in nodes best ≡ better_of (candidate_in nodes best) (candidate_in nodes f)
-    unfolding candidate_in better_of better ranked
-    better_old h = rw (e, g, h)
+pub kept_tested : (c : Cone) (t : Bool) (d : Cone) → Reforms c d → IfSome (then_some t d) (Reforms c)
+kept_tested c true d r = r
+kept_tested c false d r = tt
 
 -- ---- laws: what a bootstrap takes, as a form
 
-module _ (s : Settings) (nodes : List LutNode) (c : C.Cone) (d : Option Candidate) where
-  pub form_skips : (o : Option (List Term)) (a : Aligned) → FormOf c.support o a → a.ok ≡ false → d ≡ turned s nodes c d o
-  unfolding turned FormOf
-  form_skips none a h e = refl
-  form_skips (some ts) a h e = rw (sym h.same ∙ e)
+some_not_none : {l : List ℤ} → Some l ≡ None → ⊥
+some_not_none e = cc
 
-  pub form-taken : (o : Option (List Term)) (a : Aligned) → FormOf c.support o a → a.ok ≡ true
-      → better_of d (fitting s nodes (reformed c (take (length c.support) a.coefs))) ≡ turned s nodes c d o
-  unfolding turned FormOf with_form reformed
-  form-taken none a h e = absurd (true≢false (sym e ∙ h))
-  form-taken (some ts) a h e =
-      rw (sym h.same ∙ e)
-      (ap (λ (l : List ℤ). better_of d (fitting s nodes (record { support = c.support; coefficients = l; truth = c.truth }))) (h.coefficients e))
+module _ (s : Settings) (nodes : List LutNode) (c : C.Cone) (d : Option Candidate) where
+  pub form_skips : (o : Option (List Term)) → FormOf c.support o None → d ≡ turned s nodes c d o
+  unfolding turned FormOf AlignedTo
+  form_skips none h = refl
+  form_skips (some ts) h = rw h
+
+  pub form-taken : (o : Option (List Term)) (coefs : List ℤ) → FormOf c.support o (Some coefs)
+      → better_of d (fitting s nodes (reformed c (take (length c.support) coefs))) ≡ turned s nodes c d o
+  unfolding turned FormOf AlignedTo with_form reformed
+  form-taken none coefs h = absurd (some_not_none h)
+  form-taken (some ts) coefs h =
+      rw h.0
+      (ap (λ (l : List ℤ). better_of d (fitting s nodes (record { support = c.support; coefficients = l; truth = c.truth }))) h.1)
 
 terms_fine : (j : ℕ) (n : LutNode) → Fine j n → FineTerms j (terms_of n)
 unfolding Fine FineTerms terms_of
@@ -200,15 +169,15 @@ within_map f h [] i = omega arith
 within_map f h (n ∷ l) zero = h n
 within_map f h (n ∷ l) (suc i) = within_map f h l i
 
-pub form_small : (support bytes : List ℕ) (i : ℕ) (a : Aligned) → NodesTo bytes i → FormOf support (form_terms bytes (node_of bytes i)) a → a.ok ≡ true
-    → Within 31 (take (length support) a.coefs)
-unfolding Fine FormOf form_terms
-form_small support bytes i a all f e = by (node_of bytes i) (all.at i (omega arith)).fine f
+pub form_small : (support bytes : List ℕ) (i : ℕ) (coefs : List ℤ) → NodesTo bytes i → FormOf support (form_terms bytes (node_of bytes i)) (Some coefs)
+    → Within 31 (take (length support) coefs)
+unfolding Fine FormOf AlignedTo form_terms
+form_small support bytes i coefs all f = by (node_of bytes i) (all.at i (omega arith)).fine f
   where
-    taken : (ts : List Term) (j : ℕ) → FineTerms j ts → take (length support) a.coefs ≡ map (coefficient_of ts) support → Within 31 (take (length support) a.coefs)
+    taken : (ts : List Term) (j : ℕ) → FineTerms j ts → take (length support) coefs ≡ map (coefficient_of ts) support → Within 31 (take (length support) coefs)
     taken ts j h q = rw q (within_map (coefficient_of ts) (λ n. coefficient-small j ts n h) support)
 
-    by : (n : LutNode) → Fine i n → FormOf support (form_terms bytes n) a → Within 31 (take (length support) a.coefs)
-    by (Input name) h g = absurd (true≢false (sym e ∙ g))
-    by (Linear c ts) h g = absurd (true≢false (sym e ∙ g))
-    by (Bootstrap j table) h g = taken (terms_of (node_of bytes j)) j (terms_fine j (node_of bytes j) (all.at j (omega (arith, h.0))).fine) (g.coefficients e)
+    by : (n : LutNode) → Fine i n → FormOf support (form_terms bytes n) (Some coefs) → Within 31 (take (length support) coefs)
+    by (Input name) h g = absurd (some_not_none g)
+    by (Linear c ts) h g = absurd (some_not_none g)
+    by (Bootstrap j table) h g = taken (terms_of (node_of bytes j)) j (terms_fine j (node_of bytes j) (all.at j (omega (arith, h.0))).fine) g.1

@@ -1,5 +1,6 @@
 -- The walk over the nodes for the best form: the best so far, and what the nodes to come give.
-use Rattle.std.specs.Prelude.{◌≡◌, Bool, ℕ, ◌+◌, ◌≤◌, ◌<◌, drop}
+use Rattle.std.specs.Prelude as P
+use Rattle.std.specs.Prelude.{Some, None, IfSome, unwrap_or, ◌≡◌, Bool, ℕ, ◌+◌, ◌≤◌, ◌<◌, drop}
 use Rattle.std.proofs.Math.Path.{refl, ap, subst}
 use Rattle.std.proofs.Common.{sym, ◌∙◌, arith, drop_of_length-le}
 use Rattle.std.proofs.Math.Bool.{true, false}
@@ -13,20 +14,18 @@ use Rattle.rules.specs.Cone.{Candidate, fits, best_from, best}
 use Rattle.rules.specs.Network.{Term, LutNode, Input, Linear, Bootstrap, boot_sources, node_at}
 use Rattle.rules.specs.Store.{terms_of, same_sources, bootstrap_inputs, bootstrap_forms, with_form, ranked, cone_or, realigned}
 use Rattle.cone.specs.declared.Cone.{Cone}
-use Rattle.cone.specs.View.{cone_of, IsCone}
+use Rattle.cone.specs.View.{cone_of}
 use Rattle.lut.specs.Forms.{form_terms}
 use Rattle.nodes.specs.View.{node_of, store_of, store_from, store_length, at_store, Fine, IsStore}
-use Rattle.bootstrap.specs.declared.form.Form.{Form}
-use Rattle.cone.specs.Sources.{Stands, below_same}
-use Rattle.bootstrap.specs.Form.{candidate_in, Kept, kept_itself, fitting, better_of, turned}
+use Rattle.bootstrap.specs.Form.{candidate_in, Reforms, fitting, better_of, turned}
 
 -- the candidates that some of the nodes give
 unfoldable pub candidates_from : Settings → List LutNode → C.Cone → List LutNode → List Candidate
 candidates_from s nodes c l = map (ranked nodes) (select (fits s nodes) (map (with_form c) (select (same_sources c.support) (map terms_of (map (node_at nodes) (boot_sources l))))))
 
 -- the best so far and what the nodes from i on give is the best of all
-pub record Walked (s : Settings) (nodes : List LutNode) (c : Cone) (i : ℕ) (f : Form) : Type 0 where
-  pub kept : Kept c f
+pub record Walked (s : Settings) (nodes : List LutNode) (c : Cone) (i : ℕ) (f : P.Option Cone) : Type 0 where
+  pub kept : IfSome f (Reforms c)
   pub rest : best_from (candidate_in nodes f) (candidates_from s nodes (cone_of c) (drop i nodes)) ≡ best (candidates_from s nodes (cone_of c) nodes)
 
 -- ---- laws: a turn over the nodes
@@ -58,17 +57,17 @@ module _ (s : Settings) (nodes : List LutNode) (c : C.Cone) (d : Option Candidat
       rw (sym (h j table refl)) (taken_in (terms_of (node_at nodes j)) (map terms_of (map (node_at nodes) (boot_sources l))))
 
 module _ (s : Settings) (bytes : List ℕ) (count : ℕ) (store : IsStore bytes count) (c : Cone) where
-  pub walk_start : IsCone c → Walked s (store_of bytes count) c 0 (record { found = false; cone = c })
-  unfolding candidate_in best
-  walk_start is = record { kept = kept_itself c is; rest = refl }
+  pub walk_start : Walked s (store_of bytes count) c 0 None
+  unfolding best
+  walk_start = record { kept = tt; rest = refl }
 
-  module _ (i : ℕ) (f : Form) (w : Walked s (store_of bytes count) c i f) where
+  module _ (i : ℕ) (f : P.Option Cone) (w : Walked s (store_of bytes count) c i f) where
     source_at : i < count → (j : ℕ) (table : List ℕ) → node_of bytes i ≡ Bootstrap j table → node_at (store_of bytes count) j ≡ node_of bytes j
     unfolding Fine
     source_at h j table e = let g = subst (Fine i) e (store.fine i h) in at_store bytes j count (omega (arith, g.0))
 
-    pub walk_on : i < count → (g : Form)
-        → candidate_in (store_of bytes count) g ≡ turned s (store_of bytes count) (cone_of c) (candidate_in (store_of bytes count) f) (form_terms bytes (node_of bytes i)) → Kept c g
+    pub walk_on : i < count → (g : P.Option Cone)
+        → candidate_in (store_of bytes count) g ≡ turned s (store_of bytes count) (cone_of c) (candidate_in (store_of bytes count) f) (form_terms bytes (node_of bytes i)) → IfSome g (Reforms c)
         → Walked s (store_of bytes count) c (i + 1) g
     walk_on h g e k =
         let nodes = store_of bytes count in
@@ -86,20 +85,17 @@ module _ (s : Settings) (bytes : List ℕ) (count : ℕ) (store : IsStore bytes 
         ap (λ (l : List LutNode). best_from (candidate_in (store_of bytes count) f) (candidates_from s (store_of bytes count) (cone_of c) l)) (sym (drop_of_length-le (store_of bytes count) {i = i} (rw (store_length bytes count) h)))
         ∙ w.rest
 
-    cone_is : cone_of f.cone ≡ cone_or (cone_of c) (candidate_in (store_of bytes count) f)
-    unfolding candidate_in cone_or ranked
-    cone_is = by f.found refl
+    cone_is : cone_of (unwrap_or f c) ≡ cone_or (cone_of c) (candidate_in (store_of bytes count) f)
+    unfolding cone_or ranked
+    cone_is = by f
       where
-        by : (b : Bool) → f.found ≡ b → cone_of f.cone ≡ cone_or (cone_of c) (if b then some (ranked (store_of bytes count) (cone_of f.cone)) otherwise none)
-        by true e = refl
-        by false e = ap cone_of (w.kept.same e)
+        by : (o : P.Option Cone) → cone_of (unwrap_or o c) ≡ cone_or (cone_of c) (candidate_in (store_of bytes count) o)
+        by None = refl
+        by (Some d) = refl
 
-    pub walk_end : count ≤ i → s.many ≡ true → cone_of f.cone ≡ realigned s (store_of bytes count) (cone_of c)
+    pub walk_end : count ≤ i → s.many ≡ true → cone_of (unwrap_or f c) ≡ realigned s (store_of bytes count) (cone_of c)
     unfolding realigned bootstrap_forms bootstrap_inputs candidates_from
     walk_end h e = cone_is ∙ ap (cone_or (cone_of c)) (none_left h) ∙ rw e
-
-    pub walk_stands : Stands count c → Stands count f.cone
-    walk_stands h = record { cone = w.kept.is; below = below_same count (cone_of f.cone) (cone_of c) w.kept.support h.below }
 
 pub not_realigned : (s : Settings) (nodes : List LutNode) (c : C.Cone) → s.many ≡ false → c ≡ realigned s nodes c
 unfolding realigned

@@ -1,5 +1,5 @@
 // Bootstrapping a cone: its sum and its table go into the store, and the cone of the bootstrap's node takes its place.
-ghost use Rattle.std.specs.Prelude.{◌≡◌, true, ◌+◌, ◌≤◌};
+ghost use Rattle.std.specs.Prelude.{◌≡◌, true, ◌+◌, ◌≤◌, ◌<◌};
 ghost use Rattle.rules.specs.Cone.{bootstrap_table};
 ghost use Rattle.rules.specs.CircuitText.{in_limits};
 ghost use Rattle.rules.specs.Store.{bootstrap_cone, bootstrapped};
@@ -11,9 +11,8 @@ ghost use Rattle.bootstrap.specs.Boot.{SumOf};
 
 use crate::form::realign;
 use cone::Cone;
-use lut::Signal;
 use nodes::record::Terms;
-use rules::Settings;
+use rules::{Settings, Wire};
 
 // The cone that takes the place, and how many nodes there are.
 #[derive(Clone, Copy)]
@@ -27,13 +26,17 @@ fn sum_of(d: Cone) -> Terms
     requires { IsCone d }
     ensures { SumOf d result }
 {
-    let coefs = d.coefs;
-    let sources = d.support;
-    Terms {
-        n: d.n,
-        constant: 0 - d.least(),
+    let Cone {
+        n,
+        support,
         coefs,
-        sources,
+        ..
+    } = d;
+    Terms {
+        n,
+        constant: -d.least(),
+        coefs,
+        sources: support,
     }
 }
 
@@ -43,17 +46,13 @@ fn materialize(s: Settings, nodes: &mut [u8; 27552], count: usize, d: Cone) -> B
     ensures is { booted_of nodes.new result ≡ bootstrapped s (store_of nodes.old count) (cone_of d) (bootstrap_table s.p (cone_of d)) }
     ensures stands { Boots s.p nodes.old count nodes.new result }
 {
-    let known = d.known;
-    let span = d.span();
     let sum = lut::linear(nodes, count, s.many, sum_of(d));
-    let signal = sum.signal;
-    let Signal::Node(source) = signal else {
-        return Booted { count, cone: d };
+    let Wire::Node(source) = sum.signal else {
+        unreachable!()
     };
-    let made = lut::bootstrap(nodes, sum.count, source, &known[..span], s.p);
-    let answer = made.signal;
-    let Signal::Node(node) = answer else {
-        return Booted { count, cone: d };
+    let made = lut::bootstrap(nodes, sum.count, source, &d.known[..d.span()], s.p);
+    let Wire::Node(node) = made.signal else {
+        unreachable!()
     };
     Booted {
         count: made.count,
@@ -61,9 +60,9 @@ fn materialize(s: Settings, nodes: &mut [u8; 27552], count: usize, d: Cone) -> B
     }
 }
 
-// bootstrap_cone: a cone of no source or one source stays as it was.
+// bootstrap_cone: a cone of no source or one source stays as it was, and asks for no room in the store.
 pub fn bootstrap_cone(s: Settings, nodes: &mut [u8; 27552], count: usize, c: Cone) -> Booted
-    requires { (in_limits s ≡ true) × (IsStore nodes.old count × ((count + 2 ≤ 672) × Stands count c)) }
+    requires { (in_limits s ≡ true) × (IsStore nodes.old count × ((1 < c.n → count + 2 ≤ 672) × Stands count c)) }
     ensures is { booted_of nodes.new result ≡ bootstrap_cone s (store_of nodes.old count) (cone_of c) }
     ensures stands { Boots s.p nodes.old count nodes.new result }
 {

@@ -1,37 +1,30 @@
 // The builder of bootstrap tables from rows, a public entry. It leans on `rotation`.
 #![tactic(auto)]
 
-ghost use Rattle.std.specs.Prelude.{◌≡◌, ◌≤◌, ltb, length, replicate};
+ghost use Rattle.std.specs.Prelude.{◌≡◌, ltb, length, replicate};
 ghost use Rattle.laws.specs.Over.{over};
 ghost use Rattle.laws.specs.Test.{if◌then◌otherwise◌};
 ghost use Rattle.rules.specs.Span.{least, span};
 ghost use Rattle.rules.specs.Builder.{known_entries, with_table, no_table, built, from_known, builder, builder_reply};
 
 use rotation::{bounds_of, centre, complete, enter, span_of, table_limits};
-use rules::BuilderReply;
-
-fn copy(table: &[u8], out: &mut [u8])
-    requires { length table.now ≤ length out.old }
-    ensures { out.new ≡ over table.now out.old }
-{
-    let mut i = 0;
-    while i < table.len() {
-        out[i] = table[i];
-        i += 1;
-    }
-}
+use rules::{Reason, Table};
 
 // A table and its centre c answered: its bits written to `out`, if it reaches.
-fn write_table(c: u8, table: &[u8], out: &mut [u8]) -> BuilderReply
+#[tactic(auto, using(laws::specs::Tests::tests), unfolding(laws::specs::Over::over))]
+fn write_table(c: u8, table: &[u8], out: &mut [u8]) -> Result<Table, Reason>
     ensures { built (builder_reply result) out.new
         ≡ (if ltb (length out.old) (length table.now) then built (no_table 34) out.old
         otherwise built (with_table (length table.now) c) (over table.now out.old)) }
 {
     if out.len() < table.len() {
-        return BuilderReply::ShortBuffer;
+        return Err(Reason::ShortTable);
     }
-    copy(table, out);
-    BuilderReply::Written(table.len(), c as usize)
+    out[..table.len()].copy_from_slice(table);
+    Ok(Table {
+        count: table.len(),
+        centre: usize::from(c),
+    })
 }
 
 // The completion of the rows' known entries with its centre, or why there is none; `known` and `table` are to work in, as long as the span.
@@ -43,7 +36,7 @@ fn build_from_rows(
     known: &mut [u8],
     table: &mut [u8],
     out: &mut [u8],
-) -> BuilderReply
+) -> Result<Table, Reason>
     requires values_len { length values.now ≡ length truths.now }
     requires low_value { low ≡ least values.now }
     requires known_value { known.old ≡ replicate (span values.now) 2 }
@@ -51,10 +44,10 @@ fn build_from_rows(
     ensures { built (builder_reply result) out.new ≡ from_known size out.old (known_entries values.now truths.now) }
 {
     if !enter(values, truths, low, known) {
-        return BuilderReply::Conflict;
+        return Err(Reason::Conflict);
     }
     if !complete(known, size, table) {
-        return BuilderReply::NoCompletion;
+        return Err(Reason::NoCompletion);
     }
     let c = centre(table, size);
     write_table(c, table, out)
@@ -67,22 +60,19 @@ pub fn composed_bootstrap_table(
     values: &[i32],
     truths: &[u8],
     out: &mut [u8],
-) -> BuilderReply
+) -> Result<Table, Reason>
     ensures { built (builder_reply result) out.new ≡ builder p m values.now truths.now out.old }
 {
     if !table_limits(p, m) {
-        return BuilderReply::BadSettings;
+        return Err(Reason::BadSettings);
     }
-    if values.len() != truths.len() {
-        return BuilderReply::BadLengths;
-    }
-    if values.len() == 0 {
-        return BuilderReply::BadLengths;
+    if values.len() != truths.len() || values.is_empty() {
+        return Err(Reason::BadLengths);
     }
     let bounds = bounds_of(values);
     let length = span_of(bounds);
     if m < length {
-        return BuilderReply::SpanOverM;
+        return Err(Reason::SpanOverM);
     }
     let mut known = [2u8; 32];
     let mut table = [0u8; 32];
@@ -95,44 +85,4 @@ pub fn composed_bootstrap_table(
         &mut table[..length],
         out,
     )
-}
-
-// Document 01's number for a reply.
-pub fn reply_number(reply: BuilderReply) -> usize
-    ensures { result ≡ (builder_reply reply).number }
-{
-    match reply {
-        BuilderReply::Written(_, _) => 0,
-        BuilderReply::BadSettings => 2,
-        BuilderReply::BadLengths => 30,
-        BuilderReply::SpanOverM => 31,
-        BuilderReply::Conflict => 32,
-        BuilderReply::NoCompletion => 33,
-        BuilderReply::ShortBuffer => 34,
-    }
-}
-
-// How many bytes were written.
-pub fn reply_count(reply: BuilderReply) -> usize
-    ensures { result ≡ (builder_reply reply).count }
-{
-    match reply {
-        BuilderReply::Written(n, _) => n,
-        BuilderReply::BadSettings => 0,
-        BuilderReply::BadLengths => 0,
-        BuilderReply::SpanOverM => 0,
-        BuilderReply::Conflict => 0,
-        BuilderReply::NoCompletion => 0,
-        BuilderReply::ShortBuffer => 0,
-    }
-}
-
-// The centre of the table, 0 in a refusal.
-pub fn reply_centre(reply: BuilderReply) -> usize
-    ensures { result ≡ (builder_reply reply).centre }
-{
-    let BuilderReply::Written(_, c) = reply else {
-        return 0;
-    };
-    c
 }

@@ -1,250 +1,195 @@
-// A line taken.
-ghost use Rattle.std.specs.Prelude.{◌≡◌, List, ℕ, ◌+◌, ◌*◌, ◌-◌, ◌<◌, ◌≤◌, length, take, drop, set};
-ghost use Rattle.std.proofs.Math.Seq.{paste};
+// A line taken: judged by those before it, and added to them.
+ghost use Rattle.std.specs.Prelude.{◌≡◌, true, ℕ, ◌-◌, ◌≤◌, OnOk, IfOk, length, map};
 ghost use Rattle.rules.specs.Circuit.{given_names};
-ghost use Rattle.rules.specs.CircuitText.{listed, circuit_line};
-ghost use Rattle.forms.specs.Forms.{given_at};
-ghost use Rattle.text.specs.FirstLine.{first_line};
-ghost use Rattle.text.specs.Name.{Named};
-ghost use Rattle.text.specs.Line.{line_stop};
-ghost use Rattle.theorems.specs.LineBits.{WireBit};
-ghost use Rattle.circuit.specs.Bits.{bits_at};
-ghost use Rattle.circuit_text.specs.Brief.{FbsBrief, InBrief, GateBrief, OutBrief};
-ghost use Rattle.circuit.specs.GateBytes.{GateStands, gate_bytes};
-ghost use Rattle.circuit.specs.Took.{Ready, Took};
-ghost use Rattle.circuit.specs.TookLine.{TookLine};
-ghost use Rattle.circuit.specs.View.{inputs_in, NamedAt};
-ghost use Rattle.circuit_conditions.specs.Wires.{FineWires};
+ghost use Rattle.rules.specs.CircuitText.{nothing, with_line, ended, circuit_line, listed, node_count};
+ghost use Rattle.rules.specs.Form.{bits_from};
+ghost use Rattle.rules.specs.Refusal.{number_met};
+ghost use Rattle.forms.specs.Forms.{given_of, output_of};
+ghost use Rattle.text.specs.FirstLine.{first_line, after_line};
+ghost use Rattle.text.specs.Judged.{lowest};
+ghost use Rattle.circuit_conditions.specs.Wires.{shape, wires_of as wires_kept};
+ghost use Rattle.circuit_text.specs.Brief.{FbsBrief, InBrief, GateBrief, OutBrief, brief_conditions, brief_of, told};
+ghost use Rattle.circuit.specs.View.{wires_of, answers_of, reading_of, prefix_of};
+ghost use Rattle.circuit.specs.Took.{line_number, with_form};
 
-use crate::Circuit;
-use crate::slot::{port_of, slot_of};
+use crate::{Circuit, Function, Gate};
+use arrayvec::ArrayVec;
 use circuit_conditions::{
-    Wires, fbs_number, gate_number, in_number, is_astray, is_matched, out_number,
+    GateWires, Wires, check_fbs, check_gate, check_in, check_out, is_astray, is_matched,
 };
 use circuit_text::line::{Line, read_line};
-use rules::{Settings, Wire};
+use forms::{Input, Output};
+use rules::{Reason, Refusal, Settings, Wire};
 
-// What a line makes of the circuit: the lowest number that it meets, or 0 and the circuit with the line; and where the line ends.
-#[derive(Clone, Copy)]
-pub struct Step {
-    pub number: usize,
-    pub circuit: Circuit,
-    pub end: usize,
+// What the lines so far say.
+#[derive(Drop)]
+pub struct Prefix<'a> {
+    pub settings: Option<Settings>,
+    pub inputs: ArrayVec<Input<'a>, 32>,
+    pub gates: ArrayVec<Gate, 96>,
+    pub outputs: ArrayVec<Output<'a>, 32>,
 }
 
 fn bit_of(b: u8) -> u8
     ensures { result ≡ b - 48 }
 {
-    if b < b'0' { 0 } else { b - b'0' }
+    b.saturating_sub(b'0')
 }
 
-// The six bytes of a gate whose bits stand in s from d on.
-fn gate_bytes(s: &[u8], d: usize, v: Wires) -> [u8; 6]
-    requires { GateStands (length s.now) d v }
-    ensures { result ≡ gate_bytes s.now d v }
+// A gate whose bits, as they stand in the text, match its wires.
+#[tactic(auto, unfolding(circuit_conditions::specs::Wires::shape, rules::specs::Form::bits_from))]
+fn function_of(bits: &[u8], wires: Wires) -> Function
+    requires { shape wires (length bits.now) ≡ true }
+    ensures { (wires_of result ≡ wires_kept wires) × (answers_of result ≡ bits_from bits.now) }
 {
-    let left = v.left;
-    let l = slot_of(left);
-    let a = bit_of(s[d]);
-    let b = bit_of(s[d + 1]);
-    if v.count == 1 {
-        return [l, 255, a, b, 0, 0];
-    }
-    let right = v.right;
-    let r = slot_of(right);
-    let x = bit_of(s[d + 2]);
-    let y = bit_of(s[d + 3]);
-    [l, r, a, b, x, y]
-}
-
-// The bytes of gate k.
-fn put_gate(gates: &mut [u8; 576], k: usize, g: [u8; 6])
-    requires { (length gates.old ≡ 576) × (k < 96) }
-    ensures { gates.new ≡ paste gates.old (6 * k) g 6 }
-{
-    let mut j = 0;
-    while j < 6 {
-        gates[6 * k + j] = g[j];
-        j += 1;
+    match (wires, bits) {
+        (Wires::Two(left, right), &[a, b, c, d]) => Function::Binary(
+            left,
+            right,
+            [bit_of(a), bit_of(b), bit_of(c), bit_of(d)],
+        ),
+        (Wires::One(wire), &[a, b]) => Function::Unary(wire, [bit_of(a), bit_of(b)]),
+        _ => unreachable!(),
     }
 }
 
-// Where a name starts and ends.
-fn put_name(ports: &mut [usize; 192], j: usize, a: usize, b: usize)
-    requires { (length ports.old ≡ 192) × (j + 1 < 192) }
-    ensures { ports.new ≡ set (set ports.old j a) (j + 1) b }
+// Whether one of these inputs has the name.
+fn is_listed(inputs: &[Input<'_>], name: &[u8]) -> bool
+    ensures { result ≡ listed name.now (given_names (map given_of inputs.now)) }
 {
-    ports[j] = a;
-    ports[j + 1] = b;
+    inputs.iter().any(|i| name == i.name)
 }
 
-// Whether the name in s from a up to b is one of the first n inputs'.
-fn is_listed(s: &[u8], ports: &[usize; 192], n: usize, a: usize, b: usize) -> bool
-    requires few { (length ports.now ≡ 192) × (n ≤ 32) }
-    requires named { Named (length s.now) a b }
-    requires places { (i : ℕ) → i < n → NamedAt (length s.now) ports.now (2 * i) }
-    ensures { result ≡ listed (take (b - a) (drop a s.now)) (given_names (inputs_in s.now ports.now n)) }
-{
-    let mut i = 0;
-    while i < n {
-        if text::is_same(s, a, b, s, ports[2 * i], ports[2 * i + 1]) {
-            return true;
+impl<'a> Prefix<'a> {
+    #[tactic(auto, unfolding(rules::specs::CircuitText::nothing))]
+    pub fn new() -> Self
+        ensures { prefix_of result ≡ nothing }
+    {
+        Prefix {
+            settings: None,
+            inputs: ArrayVec::new(),
+            gates: ArrayVec::new(),
+            outputs: ArrayVec::new(),
         }
-        i += 1;
     }
-    false
-}
 
-fn take_fbs(c: Circuit, line: usize, f: Settings, end: usize) -> Step
-    ensures { (s gs ps : List ℕ) → Ready line (length s) ps c → Took line s gs ps c (FbsBrief f) end result gs ps }
-{
-    let within = rotation::table_limits(f.p, f.m);
-    let number = fbs_number(line != 1, within, f.t);
-    let circuit = Circuit {
-        settings: f,
-        inputs: c.inputs,
-        gates: c.gates,
-        outs: c.outs,
-    };
-    Step {
-        number,
-        circuit,
-        end,
+    #[tactic(auto, using(crate::specs::Took::counts), unfolding(rules::specs::CircuitText::node_count))]
+    fn node_count(&self) -> usize
+        ensures value { result ≡ node_count (prefix_of self.now) }
+        ensures few { result ≤ 128 }
+    {
+        self.inputs.len() + self.gates.len()
     }
-}
 
-// The name stands in s from a up to b; w is the weight.
-fn take_in(
-    c: Circuit,
-    line: usize,
-    s: &[u8],
-    a: usize,
-    b: usize,
-    w: u8,
-    end: usize,
-    ports: &mut [usize; 192],
-) -> Step
-    requires ready { Ready line (length s.now) ports.old c }
-    requires named { Named (length s.now) a b }
-    ensures { (gs : List ℕ) → Took line s.now gs ports.old c (InBrief (given_at s.now a b w)) end result gs ports.new }
-{
-    let n = c.inputs;
-    let repeated = is_listed(s, ports, n, a, b);
-    let number = in_number(line != 1, n, c.gates, c.outs, repeated);
-    if number != 0 {
-        return Step {
-            number,
-            circuit: c,
-            end,
+    #[tactic(auto, using(crate::specs::Took::counts), unfolding(circuit_text::specs::Brief::brief_conditions, circuit_text::specs::Brief::told, rules::specs::CircuitText::with_line))]
+    fn add_fbs(&mut self, settings: Settings) -> Result<(), Reason>
+        ensures number { number_met result ≡ lowest (brief_conditions (prefix_of self.old) (FbsBrief settings)) }
+        ensures added { (i : ℕ) → OnOk result (prefix_of self.new ≡ with_line i (prefix_of self.old) (told (FbsBrief settings))) }
+    {
+        let within = rotation::table_limits(settings.p, settings.m);
+        check_fbs(self.settings.is_some(), within, settings.t)?;
+        self.settings = Some(settings);
+        Ok(())
+    }
+
+    #[tactic(auto, using(crate::specs::Took::counts), unfolding(circuit_text::specs::Brief::brief_conditions, circuit_text::specs::Brief::told, rules::specs::CircuitText::with_line))]
+    fn add_input(&mut self, input: Input<'a>) -> Result<(), Reason>
+        ensures number { number_met result ≡ lowest (brief_conditions (prefix_of self.old) (InBrief (given_of input.entry))) }
+        ensures added { (i : ℕ) → OnOk result (prefix_of self.new ≡ with_line i (prefix_of self.old) (told (InBrief (given_of input.entry)))) }
+    {
+        let repeated = is_listed(&self.inputs, input.name);
+        check_in(
+            self.settings.is_some(),
+            self.inputs.len(),
+            self.gates.len(),
+            self.outputs.len(),
+            repeated,
+        )?;
+        self.inputs.push(input);
+        Ok(())
+    }
+
+    #[tactic(auto, using(crate::specs::Took::counts), unfolding(circuit_text::specs::Brief::brief_conditions, circuit_text::specs::Brief::told, rules::specs::CircuitText::with_line))]
+    fn add_gate(&mut self, line: usize, bits: &[u8], v: GateWires) -> Result<(), Reason>
+        ensures number { number_met result ≡ lowest (brief_conditions (prefix_of self.old) (GateBrief (bits_from bits.now) v)) }
+        ensures added { OnOk result (prefix_of self.new ≡ with_line line (prefix_of self.old) (told (GateBrief (bits_from bits.now) v))) }
+    {
+        check_gate(
+            self.settings.is_some(),
+            self.gates.len(),
+            self.outputs.len(),
+            v.astray,
+            is_matched(v.wires, bits.len()),
+        )?;
+        self.gates.push(Gate {
+            line,
+            function: function_of(bits, v.wires),
+        });
+        Ok(())
+    }
+
+    #[tactic(auto, using(crate::specs::Took::counts), unfolding(circuit_text::specs::Brief::brief_conditions, circuit_text::specs::Brief::told, rules::specs::CircuitText::with_line))]
+    fn add_output(&mut self, output: Output<'a>) -> Result<(), Reason>
+        ensures number { number_met result ≡ lowest (brief_conditions (prefix_of self.old) (OutBrief (output_of output.entry))) }
+        ensures added { (i : ℕ) → OnOk result (prefix_of self.new ≡ with_line i (prefix_of self.old) (told (OutBrief (output_of output.entry)))) }
+    {
+        check_out(
+            self.settings.is_some(),
+            self.outputs.len(),
+            is_astray(self.node_count(), output.wire),
+        )?;
+        self.outputs.push(output);
+        Ok(())
+    }
+
+    // A form, which is line `line` of the text.
+    fn add(&mut self, line: usize, form: Line<'a>) -> Result<(), Reason>
+        ensures number { number_met result ≡ lowest (brief_conditions (prefix_of self.old) (brief_of form.entry)) }
+        ensures added { OnOk result (prefix_of self.new ≡ with_line line (prefix_of self.old) (told (brief_of form.entry))) }
+    {
+        match form {
+            Line::Fbs(settings) => self.add_fbs(settings),
+            Line::In(input) => self.add_input(input),
+            Line::Gate(bits, wires) => self.add_gate(line, bits, wires),
+            Line::Out(output) => self.add_output(output),
+        }
+    }
+
+    // The first line of some bytes, which is line `line` of the text, and the bytes behind it.
+    #[tactic(auto, using(crate::specs::Took::no_form, crate::specs::Took::line_met, crate::specs::Took::line_added))]
+    pub fn take_line(&mut self, line: usize, s: &'a [u8]) -> Result<&'a [u8], Reason>
+        ensures number { number_met result ≡ line_number (prefix_of self.old) (circuit_line (first_line s.now)) }
+        ensures taken { IfOk result (λ rest. (rest.now ≡ after_line s.now) × (prefix_of self.new ≡ with_form line (prefix_of self.old) (circuit_line (first_line s.now)))) }
+    {
+        let Some((form, rest)) = read_line(s, self.node_count()) else {
+            return Err(Reason::NoForm);
         };
+        self.add(line, form)?;
+        Ok(rest)
     }
-    put_name(ports, 2 * n, a, b);
-    ports[160 + n] = w as usize;
-    let mut circuit = c;
-    circuit.inputs = n + 1;
-    Step {
-        number: 0,
-        circuit,
-        end,
-    }
-}
 
-// The bits stand in s from d up to e.
-fn take_gate(
-    c: Circuit,
-    line: usize,
-    s: &[u8],
-    d: usize,
-    e: usize,
-    v: Wires,
-    end: usize,
-    gates: &mut [u8; 576],
-) -> Step
-    requires stands { ((d ≤ e) × (e ≤ length s.now)) × FineWires (c.inputs + c.gates) v }
-    requires room { (length gates.old ≡ 576) × (c.inputs ≤ 32) }
-    ensures { (ps : List ℕ) → Ready line (length s.now) ps c → Took line s.now gates.old ps c (GateBrief (bits_at s.now d (e - d)) v) end result gates.new ps }
-{
-    let matched = is_matched(v.count, e - d);
-    let k = c.gates;
-    let number = gate_number(line != 1, k, c.outs, v.astray, matched);
-    if number != 0 {
-        return Step {
-            number,
-            circuit: c,
-            end,
+    // The text ends before this line.
+    #[tactic(auto, unfolding(rules::specs::CircuitText::ended, rules::specs::CircuitText::with_settings))]
+    pub fn end(self, line: usize) -> Result<Circuit<'a>, Refusal>
+        ensures { reading_of result ≡ ended line (prefix_of self.entry) }
+    {
+        let Prefix {
+            settings,
+            inputs,
+            gates,
+            outputs,
+        } = self;
+        let Some(settings) = settings else {
+            return Err(Refusal {
+                reason: Reason::OutOfOrder,
+                line,
+            });
         };
-    }
-    let g = gate_bytes(s, d, v);
-    put_gate(gates, k, g);
-    let mut circuit = c;
-    circuit.gates = k + 1;
-    Step {
-        number: 0,
-        circuit,
-        end,
-    }
-}
-
-// The name stands in s from a up to b.
-fn take_out(
-    c: Circuit,
-    line: usize,
-    s: &[u8],
-    a: usize,
-    b: usize,
-    wire: Wire,
-    end: usize,
-    ports: &mut [usize; 192],
-) -> Step
-    requires ready { Ready line (length s.now) ports.old c }
-    requires named { Named (length s.now) a b }
-    requires wire_bit { WireBit wire }
-    ensures { (gs : List ℕ) → Took line s.now gs ports.old c (OutBrief (take (b - a) (drop a s.now)) wire) end result gs ports.new }
-{
-    let astray = is_astray(c.inputs + c.gates, wire);
-    let n = c.outs;
-    let number = out_number(line != 1, n, astray);
-    if number != 0 {
-        return Step {
-            number,
-            circuit: c,
-            end,
-        };
-    }
-    put_name(ports, 64 + 3 * n, a, b);
-    ports[64 + 3 * n + 2] = port_of(wire);
-    let mut circuit = c;
-    circuit.outs = n + 1;
-    Step {
-        number: 0,
-        circuit,
-        end,
-    }
-}
-
-// The line from `at` on, the circuit being what the lines before it say.
-pub fn take_line(
-    c: Circuit,
-    line: usize,
-    s: &[u8],
-    at: usize,
-    gates: &mut [u8; 576],
-    ports: &mut [usize; 192],
-) -> Step
-    requires inside { (at ≤ length s.now) × (length gates.old ≡ 576) }
-    requires ready { Ready line (length s.now) ports.old c }
-    ensures { TookLine line s.now gates.old ports.old c (circuit_line (first_line (drop at s.now))) (line_stop s.now at) result gates.new ports.new }
-{
-    let l = read_line(s, at, c.inputs + c.gates);
-    match l {
-        Line::Fbs(f, z) => take_fbs(c, line, f, z),
-        Line::In(a, b, w, z) => take_in(c, line, s, a, b, w, z, ports),
-        Line::Gate(d, e, v, z) => take_gate(c, line, s, d, e, v, z, gates),
-        Line::Out(a, b, w, z) => take_out(c, line, s, a, b, w, z, ports),
-        Line::Nothing => Step {
-            number: 1,
-            circuit: c,
-            end: at,
-        },
+        Ok(Circuit {
+            settings,
+            inputs,
+            gates,
+            outputs,
+        })
     }
 }

@@ -1,4 +1,2 @@
--- The values of a run in one array, and the run as crates/rules has it.
-pub mod RunGate
+-- The run as crates/rules has it.
 pub mod Run
-pub mod Entry

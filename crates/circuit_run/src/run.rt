@@ -1,108 +1,86 @@
 // A run of a circuit that was read.
-ghost use Rattle.std.specs.Prelude.{◌≡◌, true, false, List, ℕ, ◌+◌, ◌*◌, ◌<◌, ◌≤◌, length, get_or};
+ghost use Rattle.std.specs.Prelude.{◌≡◌, ◌≤◌, map, length, get_or};
 ghost use Rattle.std.proofs.Math.Option.{some};
 ghost use Rattle.laws.specs.Over.{over};
 ghost use Rattle.rules.specs.Circuit.{wire_bit, gate_bit, gate_values, circuit_run};
-ghost use Rattle.rules.specs.CircuitText.{no_node};
-ghost use Rattle.rules.specs.Runs.{run_reply, all_bits, ran, run_on};
-ghost use Rattle.circuit_run.specs.Run.{Runs, RunsOn, port_bits};
-ghost use Rattle.circuit_run.specs.RunGate.{padded, GoodPort, SlotsFit};
-ghost use Rattle.circuit.specs.View.{gate_in, gates_in, circuit_of};
+ghost use Rattle.rules.specs.Runs.{run_reply, ran, run_on};
+ghost use Rattle.circuit.specs.View.{gate_of, circuit_of};
+ghost use Rattle.circuit_run.specs.Run.{output_bits};
 
-use circuit::Circuit;
-use circuit::slot::{port_wire, slot_wire};
-use rules::{RunReply, Wire};
+use arrayvec::ArrayVec;
+use bits::are_bits_for;
+use circuit::{Circuit, Function, Gate};
+use forms::Output;
+use rules::{RunError, Wire};
 
-fn wire_value(values: &[u8; 128], w: Wire) -> u8
-    requires { no_node 128 w ≡ false }
-    ensures { result ≡ wire_bit values.now w }
+// Bit i, or 0 where there is none; a circuit that was read asks for those that there are.
+fn bit_at(bits: &[u8], i: usize) -> u8
+    ensures { result ≡ get_or bits.now i 0 }
 {
-    match w {
+    bits.get(i).copied().unwrap_or(0)
+}
+
+#[tactic(auto, unfolding(rules::specs::Circuit::wire_bit))]
+fn wire_bit(values: &[u8], wire: Wire) -> u8
+    ensures { result ≡ wire_bit values.now wire }
+{
+    match wire {
         Wire::Const(b) => b,
-        Wire::Node(id) => values[id],
+        Wire::Node(id) => bit_at(values, id),
     }
 }
 
-// The bit of gate i: its answer. Its line does not matter.
-fn gate_value(values: &[u8; 128], gates: &[u8; 576], i: usize) -> u8
-    requires room { (length gates.now ≡ 576) × (i < 96) }
-    requires slots { SlotsFit gates.now i }
-    requires bits { all_bits values.now ≡ true }
-    ensures { result ≡ gate_bit values.now (gate_in gates.now 0 i) }
+// A gate is its answer for the bits of its wires.
+#[tactic(auto, unfolding(rules::specs::Circuit::gate_bit, rules::specs::Circuit::position))]
+fn gate_bit(values: &[u8], gate: Gate) -> u8
+    ensures { result ≡ gate_bit values.now (gate_of gate) }
 {
-    let left = slot_wire(gates[6 * i]);
-    let l = wire_value(values, left);
-    let second = gates[6 * i + 1];
-    if second == 255 {
-        return gates[6 * i + 2 + (l as usize)];
+    match gate.function {
+        Function::Unary(wire, answers) => bit_at(&answers, wire_bit(values, wire) as usize),
+        Function::Binary(left, right, answers) => {
+            let l = wire_bit(values, left) as usize;
+            let r = wire_bit(values, right) as usize;
+            bit_at(&answers, 2 * l + r)
+        }
     }
-    let right = slot_wire(second);
-    let r = wire_value(values, right);
-    gates[6 * i + 2 + (2 * (l as usize) + (r as usize))]
 }
 
-// The bits of the inputs.
-fn input_values(bits: &[u8]) -> [u8; 128]
-    requires { length bits.now ≤ 128 }
-    ensures { result ≡ padded bits.now }
+// The bits of the inputs, and after them a bit for each gate.
+#[tactic(auto, using(crate::specs::Run::values_next, crate::specs::Run::values_start, crate::specs::Run::values_done))]
+fn gate_values(bits: &[u8], gates: &[Gate]) -> ArrayVec<u8, 128>
+    requires { (length bits.now ≤ 32) × (length gates.now ≤ 96) }
+    ensures { result.items ≡ gate_values bits.now (map gate_of gates.now) }
 {
-    let mut values = [0u8; 128];
-    let mut i = 0;
-    while i < bits.len() {
-        values[i] = bits[i];
-        i += 1;
+    let mut values = ArrayVec::new();
+    values.try_extend_from_slice(bits).unwrap();
+    for &gate in gates {
+        values.push(gate_bit(&values, gate));
     }
     values
 }
 
-// The bits of n inputs and of the gates after them.
-fn gate_values(n: usize, count: usize, gates: &[u8; 576], bits: &[u8]) -> [u8; 128]
-    requires { Runs n count gates.now bits.now }
-    ensures { result ≡ padded (gate_values bits.now (gates_in gates.now n count)) }
+// One bit an output, in the order of the text.
+#[tactic(auto, using(laws::specs::Front::filling_start, crate::specs::Run::outputs_done))]
+fn put_outputs(values: &[u8], outputs: &[Output<'_>], out: &mut [u8])
+    requires { length outputs.now ≤ length out.old }
+    ensures { out.new ≡ over (output_bits values.now outputs.now) out.old }
 {
-    let mut values = input_values(bits);
-    let mut i = 0;
-    while i < count {
-        let v = gate_value(&values, gates, i);
-        values[n + i] = v;
-        i += 1;
-    }
-    values
-}
-
-// The bits of n outputs.
-fn put_outputs(ports: &[usize; 192], n: usize, values: &[u8; 128], out: &mut [u8])
-    requires room { (length ports.now ≡ 192) × ((n ≤ 32) × (n ≤ length out.old)) }
-    requires wires { (i : ℕ) → i < n → GoodPort (get_or ports.now (64 + 3 * i + 2) 0) }
-    ensures { out.new ≡ over (port_bits values.now ports.now n) out.old }
-{
-    let mut i = 0;
-    while i < n {
-        let w = port_wire(ports[64 + 3 * i + 2]);
-        out[i] = wire_value(values, w);
-        i += 1;
+    for (i, output) in outputs.iter().enumerate() {
+        out[i] = wire_bit(values, output.wire);
     }
 }
 
-// A circuit that was read, run on a bit for each input. Its names do not matter.
-pub fn run_read(
-    c: Circuit,
-    gates: &[u8; 576],
-    ports: &[usize; 192],
-    bits: &[u8],
-    values: &mut [u8],
-) -> RunReply
-    requires { RunsOn gates.now ports.now c }
-    ensures { (s : List ℕ) → ran (run_reply result) values.new ≡ run_on c.inputs c.outs bits.now values.old (some (circuit_run (circuit_of s gates.now ports.now c) bits.now)) }
+// A circuit run on a bit for each input.
+#[tactic(auto, using(crate::specs::Run::bad_bits, crate::specs::Run::no_room, crate::specs::Run::ran_on, crate::specs::Run::as_many, crate::specs::Run::outputs_many), unfolding(rules::specs::Circuit::circuit_run, crate::specs::Run::output_bits))]
+pub fn run_read(c: &Circuit<'_>, bits: &[u8], values: &mut [u8]) -> Result<usize, RunError>
+    ensures { ran (run_reply result) values.new ≡ run_on (length c.now.inputs.items) (length c.now.outputs.items) bits.now values.old (some (circuit_run (circuit_of c.now) bits.now)) }
 {
-    let n = c.outs;
-    if !bits::are_bits_for(c.inputs, bits) {
-        return RunReply::BadBits;
+    if !are_bits_for(c.inputs.len(), bits) {
+        return Err(RunError::BadBits);
     }
-    if values.len() < n {
-        return RunReply::ShortBuffer;
+    if values.len() < c.outputs.len() {
+        return Err(RunError::ShortBuffer);
     }
-    let all = gate_values(c.inputs, c.gates, gates, bits);
-    put_outputs(ports, n, &all, values);
-    RunReply::Ran(n)
+    put_outputs(&gate_values(bits, c.gates.as_slice()), &c.outputs, values);
+    Ok(c.outputs.len())
 }

@@ -1,34 +1,50 @@
 -- A line as the code keeps it, which decides its conditions and, where it meets none, what it adds.
-use Rattle.std.specs.Prelude.{◌≡◌, refl, true, false, ◌&&◌, ◌||◌, not, List, [], ◌∷◌, ℕ, suc, ◌*◌, ◌≤◌, leb, ltb, eqb, length}
+use Rattle.std.specs.Prelude.{◌≡◌, refl, true, false, ◌&&◌, ◌||◌, not, List, [], ◌∷◌, ℕ, suc, ◌*◌, ◌≤◌, leb, ltb, length}
 use Rattle.std.proofs.Common.{sym, ap, ap₂, ◌∙◌, true≢false, arith, lt-ltb, leb-false, leb→le}
 use Rattle.std.proofs.lemmas.Bool.{not-false}
-use Rattle.laws.specs.Test.{if◌then◌otherwise◌, is_some, neither_left, neither_right, is_T, and_left, and_right}
+use Rattle.std.proofs.Math.Option.{Option, none, some}
+use Rattle.laws.specs.Test.{is_some, neither_left, neither_right, is_T, and_left, and_right}
 use Rattle.rules.specs.declared.Settings.{Settings}
 use Rattle.rules.specs.declared.Wire.{Wire}
 use Rattle.rules.specs.declared.Wire.TheVariants.{Const, Node}
 use Rattle.rules.specs.Builder.{table_limits}
-use Rattle.rules.specs.Circuit.{Name, Given, given_names}
+use Rattle.rules.specs.Circuit.{Given, Output, given_names}
 use Rattle.rules.specs.CircuitText.{CircuitLine, FbsLine, InLine, GateLine, OutLine, Prefix, in_limits, some?, listed, node_count, no_node, any_no_node, matching, conditions}
-use Rattle.rules.specs.Form.{Condition, ◌when◌}
+use Rattle.rules.specs.Form.{Piece, bits_from, Condition, ◌when◌}
 use Rattle.text.specs.Cap.{cap_table, cap_ten, cap_small}
 use Rattle.forms.specs.Wire.{cap_wire}
+use Rattle.forms.specs.Forms.{given_of, output_of, cap_output}
 use Rattle.text.specs.Judged.{lowest, unmet}
-use Rattle.circuit_conditions.specs.declared.Wires.{Wires}
+use Rattle.circuit_conditions.specs.declared.GateWires.{GateWires}
+use Rattle.circuit_text.specs.declared.line.Line.{Line}
+use Rattle.circuit_text.specs.declared.line.Line.TheVariants.{Fbs, In, Gate, Out}
 use Rattle.circuit_text.specs.Settings.{cap_settings}
-use Rattle.circuit_conditions.specs.Wires.{no_wires, with_wire, with_wires, shape, cap_no_node, astray_is, shape_is, long_unmatched}
+use Rattle.circuit_conditions.specs.Wires.{no_wires, with_wire, with_wires, wires_of, shape, cap_no_node, astray_is, shape_is, long_unmatched}
 
 pub data Brief : Type 0 where
   FbsBrief : Settings → Brief
   InBrief : Given → Brief
-  GateBrief : List ℕ → Wires → Brief
-  OutBrief : Name → Wire → Brief
+  GateBrief : List ℕ → GateWires → Brief
+  OutBrief : Output → Brief
 
 -- A line after n nodes.
 unfoldable pub brief : ℕ → CircuitLine → Brief
 brief n (FbsLine s) = FbsBrief (cap_settings s)
 brief n (InLine g) = InBrief g
 brief n (GateLine b ws) = GateBrief b (with_wires n no_wires ws)
-brief n (OutLine o) = OutBrief o.name (cap_wire o.wire)
+brief n (OutLine o) = OutBrief (cap_output o)
+
+-- What the code's line stands for.
+abbrev pub brief_of : Line → Brief
+brief_of (Fbs f) = FbsBrief f
+brief_of (In i) = InBrief (given_of i)
+brief_of (Gate b v) = GateBrief (bits_from b.now) v
+brief_of (Out o) = OutBrief (output_of o)
+
+-- A line that was read after n nodes, as it is kept.
+unfoldable pub briefed : ℕ → Option (Piece CircuitLine) → Option (Piece Brief)
+briefed n none = none
+briefed n (some p) = some (record { value = brief n p.value; rest = p.rest })
 
 -- ---- The conditions.
 
@@ -43,12 +59,12 @@ brief_conditions c (GateBrief b v) =
     (3 when leb 96 (length c.gates))
     ∷ (4 when (not (is_some c.settings) || ltb 0 (length c.outputs)))
     ∷ (6 when v.astray)
-    ∷ (7 when not (shape v.count (length b)))
+    ∷ (7 when not (shape v.wires (length b)))
     ∷ []
-brief_conditions c (OutBrief n w) =
+brief_conditions c (OutBrief o) =
     (3 when leb 32 (length c.outputs))
     ∷ (4 when not (is_some c.settings))
-    ∷ (6 when no_node (node_count c) w)
+    ∷ (6 when no_node (node_count c) o.wire)
     ∷ []
 
 some_is : {A : Type 0} (l : List A) → ltb 0 (length l) ≡ some? l
@@ -61,7 +77,7 @@ unfolding cap_settings in_limits
 cap_limits s = rw (cap_table s.p s.m, cap_ten s.t)
 
 pub brief_conditions_lem : (c : Prefix) (l : CircuitLine) → node_count c ≤ 65536 → brief_conditions c (brief (node_count c) l) ≡ conditions c l
-unfolding brief_conditions brief conditions
+unfolding brief_conditions brief conditions cap_output
 brief_conditions_lem c (FbsLine s) h = rw (cap_limits s)
 brief_conditions_lem c (InLine g) h = rw (some_is c.gates, some_is c.outputs)
 brief_conditions_lem c (GateLine b ws) h = rw (some_is c.outputs, astray_is (node_count c) ws h, shape_is (node_count c) b ws)
@@ -69,15 +85,11 @@ brief_conditions_lem c (OutLine o) h = ap (λ t. (3 when leb 32 (length c.output
 
 -- ---- A line that meets no condition is kept whole.
 
--- The wires of a gate of n, one or two.
-unfoldable pub two_wires : ℕ → Wire → Wire → List Wire
-two_wires n u v = if eqb n 1 then u ∷ [] otherwise u ∷ v ∷ []
-
 unfoldable pub told : Brief → CircuitLine
 told (FbsBrief s) = FbsLine s
 told (InBrief g) = InLine g
-told (GateBrief b v) = GateLine b (two_wires v.count v.left v.right)
-told (OutBrief n w) = OutLine (record { name = n; wire = w })
+told (GateBrief b v) = GateLine b (wires_of v.wires)
+told (OutBrief o) = OutLine o
 
 cap_same : (n : ℕ) (w : Wire) → n ≤ 65536 → no_node n w ≡ false → cap_wire w ≡ w
 unfolding cap_wire no_node
@@ -95,14 +107,14 @@ limits_small s e =
     rw (cap_small s.p (omega arith), cap_small s.m (omega arith), cap_small s.t (omega arith))
 
 gate_told : (n : ℕ) (b : List ℕ) (ws : List Wire) → n ≤ 65536 → any_no_node n ws ≡ false → matching b ws ≡ true → told (brief n (GateLine b ws)) ≡ GateLine b ws
-unfolding told brief two_wires no_wires with_wires with_wire any_no_node matching
+unfolding told brief no_wires with_wires with_wire any_no_node matching
 gate_told n b [] h a m = absurd (true≢false (sym m))
 gate_told n b (u ∷ []) h a m = ap (λ x. GateLine b (x ∷ [])) (cap_same n u h (neither_left _ _ a))
 gate_told n b (u ∷ v ∷ []) h a m = ap₂ (λ x y. GateLine b (x ∷ y ∷ [])) (cap_same n u h (neither_left _ _ a)) (cap_same n v h (neither_left (no_node n v) false (neither_right (no_node n u) (no_node n v || false) a)))
 gate_told n b (u ∷ v ∷ w ∷ ws) h a m = absurd (true≢false (sym m ∙ long_unmatched b u v w ws))
 
 pub brief_told : (c : Prefix) (l : CircuitLine) → node_count c ≤ 65536 → lowest (conditions c l) ≡ 0 → told (brief (node_count c) l) ≡ l
-unfolding told brief conditions
+unfolding told brief conditions cap_output
 brief_told c (FbsLine s) h e = ap FbsLine (limits_small s (not-false _ (unmet _ _ (omega arith) e).0))
 brief_told c (InLine g) h e = refl
 brief_told c (GateLine b ws) h e =

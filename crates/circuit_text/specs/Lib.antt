@@ -2,5 +2,4 @@
 pub mod Settings
 pub mod WiresRead
 pub mod Brief
-pub mod GateLine
 pub mod LineRead

@@ -1,39 +1,38 @@
-// A line: one of the four forms. A form ends with its newline and has no other, so the line is read from its place on in the whole text.
-ghost use Rattle.std.specs.Prelude.{◌≤◌, length};
-ghost use Rattle.circuit_text.specs.LineRead.{LineAt};
+// A line: one of the four forms. A form ends with its newline and has no other, so the line is read from the front of the text.
+ghost use Rattle.std.specs.Prelude.{◌≡◌};
+ghost use Rattle.rules.specs.CircuitText.{circuit_line};
+ghost use Rattle.text.specs.FirstLine.{first_line};
+ghost use Rattle.circuit_text.specs.LineRead.{line_of, kept, Behind};
 
-use crate::gate::{GateRead, read_gate};
-use crate::settings::{FbsRead, read_fbs};
-use circuit_conditions::Wires;
-use forms::{InRead, OutRead};
-use rules::{Settings, Wire};
+use crate::gate::read_gate;
+use crate::settings::read_fbs;
+use circuit_conditions::GateWires;
+use forms::{Input, Output, read_in, read_out};
+use rules::Settings;
 
-// Its settings; its name from start to end, and its weight; its bits from start to end, and its wires; its name, and its wire. Last, where the line ends.
+// What is kept of a line; of a gate its bits, as they stand in the text, and its wires.
 #[derive(Clone, Copy)]
-pub enum Line {
-    Fbs(Settings, usize),
-    In(usize, usize, u8, usize),
-    Gate(usize, usize, Wires, usize),
-    Out(usize, usize, Wire, usize),
-    Nothing,
+pub enum Line<'a> {
+    Fbs(Settings),
+    In(Input<'a>),
+    Gate(&'a [u8], GateWires),
+    Out(Output<'a>),
 }
 
-// The line from `at` on, after n nodes.
-pub fn read_line(s: &[u8], at: usize, n: usize) -> Line
-    requires { at ≤ length s.now }
-    ensures { LineAt n s.now at result }
+// The first line, of a text after n nodes, and what is left.
+pub fn read_line(s: &[u8], n: usize) -> Option<(Line<'_>, &[u8])>
+    ensures line { line_of result ≡ kept n (circuit_line (first_line s.now)) }
+    ensures rest { Behind s.now result }
 {
-    if let FbsRead::At(f, e) = read_fbs(s, at) {
-        return Line::Fbs(f, e);
+    if let Some((settings, rest)) = read_fbs(s) {
+        return Some((Line::Fbs(settings), rest));
     }
-    if let InRead::At(a, b, w, e) = forms::read_in(s, at) {
-        return Line::In(a, b, w, e);
+    if let Some((input, rest)) = read_in(s) {
+        return Some((Line::In(input), rest));
     }
-    if let GateRead::At(d, c, v, e) = read_gate(s, at, n) {
-        return Line::Gate(d, c, v, e);
+    if let Some(gate) = read_gate(s, n) {
+        return Some(gate);
     }
-    let OutRead::At(a, b, w, e) = forms::read_out(s, at) else {
-        return Line::Nothing;
-    };
-    Line::Out(a, b, w, e)
+    let (output, rest) = read_out(s)?;
+    Some((Line::Out(output), rest))
 }

@@ -1,5 +1,5 @@
--- What `simplify_cone` answers, on the values: k is the cone, r the sources and coefficients that are kept.
-use mathlib.Core.Path.{◌≡◌, sym, ap, ap₂, ◌∙◌}
+-- What `simplify_cone` answers, on the values: k is the cone, r the one with the sources and coefficients that are kept.
+use mathlib.Core.Path.{◌≡◌, sym, ap, ap₂, ◌∙◌, subst}
 use mathlib.Core.Bool.{true, false}
 use mathlib.Core.List.{List, map}
 use Prim.Native.Nat.{ℕ, ◌≤◌, ◌<◌, ◌^◌}
@@ -22,7 +22,6 @@ use Rattle.theorems.specs.ConeTruths.{over_rows-length}
 use Rattle.laws.specs.Lists.{map_at}
 use Rattle.theorems.specs.ConeValues.{linear_table-length}
 use Rattle.cone.specs.declared.Cone.{Cone}
-use Rattle.compose.specs.declared.simplify.Retained.{Retained}
 use Rattle.theorems.specs.LinearTables.{total}
 use Rattle.cone.specs.View.{cone_of, IsCone, is_cone, truth_at, entry_at, narrow_total, view_sources, view_coefs, truth_entry, truth-bit, unknown}
 use Rattle.compose.specs.Simplify.{IsRetained, truth_over, different-sources, near_sources, simplified}
@@ -37,7 +36,7 @@ same_fields : (k : Cone) {s : List ℕ} {c : List ℤ} {t : List ℕ} → take k
 unfolding cone_of
 same_fields k e f g = cc
 
-module _ (k : Cone) (is : IsCone k) (ls : length k.support ≡ 11) (lc : length k.coefs ≡ 11) (r : Retained) (kept : IsRetained (used_of (cone_of k)) r) where
+module _ (k : Cone) (is : IsCone k) (ls : length k.support ≡ 11) (lc : length k.coefs ≡ 11) (r : Cone) (kept : IsRetained (used_of (cone_of k)) r) where
   long : length (cone_of k).coefficients ≡ length (cone_of k).support
   long = view_coefs k is lc ∙ sym (view_sources k is ls)
 
@@ -128,12 +127,18 @@ module _ (k : Cone) (is : IsCone k) (ls : length k.support ≡ 11) (lc : length 
       ∙ ap (λ l. any (is_at (least (linear_table (coefs used))) j) (linear_table l)) (sym coefs_are)
       ∙ sym (any_selected (is_at (least (linear_table (coefs used))) j) all) ∙ h
 
-  pub rebuilt : length k.known ≡ 32 → IsCone built × (cone_of built ≡ simplify_cone (cone_of k))
+  with_known : length k.known ≡ 32 → IsCone built × (cone_of built ≡ simplify_cone (cone_of k))
   unfolding rules.values used all
-  rebuilt lk = (
+  with_known lk = (
     is_cone built seen view lk few different (omega (arith, same_total, narrow_total k is))
         (near_sources is_used 672 (omega arith) all (λ i. rw sources_are (is.near i)))
         (λ i h. truth-small i (rw (linear_table-length (coefs used), ← coefs_long used) at h))
         (λ j l h. unknown k is j (rw (← same_span) l) (unhit j h)),
     view ∙ sym (simplified (cone_of k)),
   )
+
+  pub rebuilt : r.known ≡ k.known → length k.known ≡ 32 → IsCone r × (cone_of r ≡ simplify_cone (cone_of k))
+  rebuilt e lk =
+      subst
+      (λ ks. let c : Cone = record { n = r.n; support = r.support; coefs = r.coefs; known = ks } in IsCone c × (cone_of c ≡ simplify_cone (cone_of k)))
+      (sym e) (with_known lk)

@@ -7,7 +7,7 @@ use lib.Bits.{bit_xor}
 use lib.Count.{count_trailing_zeros}
 use lib.ListN.{length, get_or, set}
 use lib.Pow.{shr_lt}
-use Rattle.laws.specs.Front.{front, front-step}
+use Rattle.laws.specs.Front.{Filling, filling_step}
 use Rattle.rules.specs.Composition.{union_support, gate_truth}
 use Rattle.cone.specs.declared.Cone.{Cone}
 use Rattle.theorems.specs.SourceRows.{row_over, row_over_lt}
@@ -61,10 +61,10 @@ module _ {left right : Cone} {lefts rights U masks : List ℕ} {new i r : ℕ} (
       (gate_truth-at (cone_of left) (cone_of right) gate i w.is_left.different U w.union below
       ∙ rw (view_sources left w.is_left w.left_long, ← w.new_is, ← row, ← w.lefts_are, ← w.rights_are))
 
-  pub turn : (gate t t₀ : List ℕ) → t ≡ front (gate_truth U (cone_of left) (cone_of right) gate) t₀ i → i < length t₀
+  pub turn : (gate t t₀ : List ℕ) → Filling (gate_truth U (cone_of left) (cone_of right) gate) t₀ t i → i < length t₀
       → (bit_xor r (get_or masks (count_trailing_zeros 64 (i + 1)) 0) ≡ row_over U (cone_of right).support (i + 1))
-      × (set t i (get_or gate (2 * get_or lefts (i / 2 ^ new) 0 + get_or rights r 0) 0) ≡ front (gate_truth U (cone_of left) (cone_of right) gate) t₀ (i + 1))
-  turn gate t t₀ e h = (
+      × Filling (gate_truth U (cone_of left) (cone_of right) gate) t₀ (set t i (get_or gate (2 * get_or lefts (i / 2 ^ new) 0 + get_or rights r 0) 0)) (i + 1)
+  turn gate t t₀ f h = (
     next_row U (cone_of right).support i r w.few below row masks w.masks_are,
-    front-step (gate_truth U (cone_of left) (cone_of right) gate) t₀ t i (get_or gate (2 * get_or lefts (i / 2 ^ new) 0 + get_or rights r 0) 0) 0 e (answer gate) (rw gate_truth-length below) h,
+    filling_step _ _ t i _ 0 f (answer gate) (rw gate_truth-length below) h,
   )

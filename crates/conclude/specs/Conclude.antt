@@ -1,14 +1,17 @@
 -- What is left to do when all outputs are mapped: Basic's last check, and the text.
-use Rattle.std.specs.Prelude.{◌≡◌, Bool, true, false, ◌&&◌, not, ℕ, zero, suc, ◌+◌, ◌*◌, ◌≤◌, ◌<◌, take, drop}
+use Rattle.std.specs.Prelude as P
+use Rattle.std.specs.Prelude.{◌≡◌, Bool, true, false, ◌&&◌, not, ℕ, zero, suc, ◌+◌, ◌≤◌, ◌<◌, take, drop}
 use Rattle.std.proofs.Math.Path.{refl, ap, subst}
-use Rattle.std.proofs.Common.{sym, ◌∙◌, inl, inr, le_of_suc-le-suc, arith}
-use mathlib.Core.List.{List, [], ◌∷◌, ◌++◌, map}
+use Rattle.std.proofs.Common.{sym, ◌∙◌, le_of_suc-le-suc, arith}
+use mathlib.Core.List.{List, [], ◌∷◌, ◌++◌}
 use borrow.Author.Tests.{lt-ltb, le-ltb}
 use Rattle.std.proofs.Math.ListN.{length, get_or}
-use Rattle.laws.specs.Tabulate.{tabulate, tabulate-length, tabulate-at}
-use Rattle.rules.specs.declared.MapReply.TheVariants as Reply
-use Rattle.rules.specs.declared.Policy.{Policy}
+use Rattle.forms.specs.declared.Net.{Net}
+use Rattle.rules.specs.declared.Reason.TheVariants.{OverNorm, ShortBuffer}
+use Rattle.rules.specs.declared.Refusal.{Refusal}
 use Rattle.rules.specs.declared.Settings.{Settings}
+use Rattle.rules.specs.declared.Wire.{Wire}
+use Rattle.rules.specs.declared.Wire.TheVariants.{Const, Node}
 use Rattle.rules.specs.Circuit.{Output}
 use Rattle.rules.specs.Cone.{within_norm}
 use Rattle.rules.specs.Form.{Reading, Good}
@@ -16,56 +19,50 @@ use Rattle.rules.specs.Mapper.{is_basic, pruned, checked, answer_with, map_reply
 use Rattle.rules.specs.Network.{Network, member}
 use Rattle.rules.specs.NetworkText as limit
 use Rattle.rules.specs.Outcome.{Outcome, outcome}
-use Rattle.rules.specs.Store.{wire_needs, output_needs, wanted_below, live, renumbered_output, kept_from}
+use Rattle.rules.specs.Store.{wire_needs, output_needs, wanted_below, live, kept_from}
 use Rattle.rules.specs.Writing.{network_text}
 use Rattle.theorems.specs.Members.{member_head, member-left, member_right, among_at}
 use Rattle.mapped.specs.PrunedLive.{live-outputs}
-use Rattle.circuit.specs.View.{wire_in, name_at, output_in, outputs_in}
-use Rattle.lut.specs.Ports.{signal_wire, output_at, port_output}
 use Rattle.nodes.specs.Centre.{Centred}
 use Rattle.nodes.specs.View.{store_of, store_length, IsStore}
-use Rattle.writer.specs.declared.Network as W
 use Rattle.writer.specs.Kept.{Numbered, Closed, closed, kept_sourced}
 use Rattle.writer.specs.Live.{Sourced}
-use Rattle.writer.specs.Outputs.{Signalled, Ported, kept_signal}
+use Rattle.writer.specs.Outputs.{AllLive, IsKept, AllKept, all_live}
 use Rattle.lines.specs.Front.{untouched, untouched-length, text_over}
 use Rattle.lines.specs.Put.{Put, Room}
 use Rattle.writer.specs.Whole.{network_of, kept_network}
+use Rattle.gates.specs.Wired.{WireIn}
+use Rattle.outputs.specs.Outputs.{AllIn}
 use Rattle.conclude.specs.Live.{Keeps}
 use Rattle.conclude.specs.Norm.{largest_norm}
-use Rattle.outputs.specs.Outputs.{PortIn, GoodPorts}
 
--- The network that the nodes and the ports say, pruned and checked.
-unfoldable pub concluded : Settings → List ℕ → List ℕ → ℕ → List ℕ → ℕ → Reading Network
-concluded s text ports outs nodes count = checked s (pruned s (record { nodes = store_of nodes count; outputs = outputs_in text ports outs }))
+-- The network that the nodes and the outputs say, pruned and checked.
+unfoldable pub concluded : Settings → List Output → List ℕ → ℕ → Reading Network
+concluded s os nodes count = checked s (pruned s (record { nodes = store_of nodes count; outputs = os }))
 
--- What is asked for that: each table's centre in its record, names within the text, and a text that is short.
-pub record Finishable (s : Settings) (text ports : List ℕ) (outs : ℕ) (nodes : List ℕ) (count : ℕ) : Type 0 where
+-- What is asked for that: each table's centre in its record, outputs of nodes that there are, and a text that is short.
+pub record Finishable (s : Settings) (os : List Output) (nodes : List ℕ) (count : ℕ) : Type 0 where
   pub store : IsStore nodes count
   pub centred : Centred s.p nodes count
-  pub good : GoodPorts ports count outs
-  pub name : (i : ℕ) → i < outs → (get_or ports (64 + 3 * i) 0 ≤ get_or ports (64 + 3 * i + 1) 0) × (get_or ports (64 + 3 * i + 1) 0 ≤ length text)
-  pub short : (w : Network) → concluded s text ports outs nodes count ≡ Good w → length (network_text w) < 65536
+  pub wires : AllIn count os
+  pub short : (w : Network) → concluded s os nodes count ≡ Good w → length (network_text w) < 65536
 
 -- ---- laws: the text in the buffer
 
 module _ (w : Network) (n : ℕ) (none : List ℕ) (p : Put 0 (network_text w) [] n none) (before : List ℕ) where
-  pub answer_short : length (none ++ before) < n → outcome (map_reply (Reply.Refused 11 0)) (none ++ before) ≡ answer_with before (Good w)
-  unfolding answer_with map_reply
-  answer_short h =
-      rw (untouched (network_text w) n none p before, lt-ltb (length before) (length (network_text w)) (omega (arith, untouched-length (network_text w) n none p before, p.place))) refl
+  pub answer_short : length (none ++ before) < n → (f : Refusal) → f ≡ record { reason = ShortBuffer; line = 0 } → outcome (map_reply (P.Err f)) (none ++ before) ≡ answer_with before (Good w)
+  unfolding answer_with
+  answer_short h f q =
+      rw (q, untouched (network_text w) n none p before, lt-ltb (length before) (length (network_text w)) (omega (arith, untouched-length (network_text w) n none p before, p.place))) refl
 
   pub answer-written : (h : n ≤ length (none ++ before)) (next : ℕ) (after : List ℕ) → Put 0 (network_text w) (take n (none ++ before)) next after
-      → outcome (map_reply (Reply.Written n)) (after ++ drop n (none ++ before)) ≡ answer_with before (Good w)
-  unfolding answer_with map_reply
+      → outcome (map_reply (P.Ok n)) (after ++ drop n (none ++ before)) ≡ answer_with before (Good w)
+  unfolding answer_with
   answer-written h next after q =
       let e : n ≡ length (network_text w) = omega (arith, p.place) in
       rw (le-ltb (length before) (length (network_text w)) (omega (arith, h, untouched-length (network_text w) n none p before, p.place)), text_over (network_text w) n none p before h next after q, e) refl
 
 -- ---- laws: Basic's last check
-
-pub not_basic : (p : Policy) (b c : Bool) → b ≡ is_basic p → b ≡ false → false ≡ (is_basic p && c)
-not_basic p b c e f = rw (sym e ∙ f) refl
 
 pub basic_over : (s : Settings) (b r : Bool) (n m : ℕ) → b ≡ is_basic s.policy → b ≡ true → n ≡ m → r ≡ limit.over s.norm n
     → r ≡ (is_basic s.policy && not (within_norm s m))
@@ -78,85 +75,61 @@ basic_over s b r n m e t q o = rw (sym e ∙ t) (o ∙ ap (limit.over s.norm) q 
 
 -- ---- laws: what an output names is kept
 
--- the writer's outputs are the circuit's
-same_outputs : (text ports : List ℕ) (outs : ℕ) → tabulate outs (port_output text ports) ≡ outputs_in text ports outs
-unfolding outputs_in output_in name_at wire_in port_output output_at signal_wire
-same_outputs text ports outs = refl
-
 output-needs : (j : ℕ) (os : List Output) (i : ℕ) (d : Output) → i < length os → member j (wire_needs (get_or os i d).wire) ≡ true → member j (output_needs os) ≡ true
 unfolding output_needs
 output-needs j [] i d h m = absurd (omega arith)
 output-needs j (o ∷ os) zero d h m = member-left j (wire_needs o.wire) (output_needs os) m
 output-needs j (o ∷ os) (suc i) d h m = member_right j (wire_needs o.wire) (output_needs os) (output-needs j os i d (le_of_suc-le-suc h) m)
 
-module _ (text ports : List ℕ) (outs : ℕ) (nodes : List ℕ) (count : ℕ) where
+module _ (os : List Output) (nodes : List ℕ) (count : ℕ) where
   abbrev kept : List ℕ
-  kept = live (store_of nodes count) (outputs_in text ports outs)
+  kept = live (store_of nodes count) os
 
-  output-kept : GoodPorts ports count outs → (i : ℕ) → i < outs → get_or ports (64 + 3 * i + 2) 0 < 1000
-      → (get_or ports (64 + 3 * i + 2) 0 < count) × (member (get_or ports (64 + 3 * i + 2) 0) kept ≡ true)
-  unfolding outputs_in output_in wire_in wire_needs
-  output-kept g i h l =
-      (below (g.wires i h), among_at (output_needs (outputs_in text ports outs)) kept (live-outputs (store_of nodes count) (outputs_in text ports outs)) (get_or ports (64 + 3 * i + 2) 0) named)
-    where
-      below : PortIn count (get_or ports (64 + 3 * i + 2) 0) → get_or ports (64 + 3 * i + 2) 0 < count
-      below (inl p) = p
-      below (inr p) = absurd (omega (arith, p.0))
+  wire_kept : (w : Wire) → WireIn count w → ((j : ℕ) → member j (wire_needs w) ≡ true → member j kept ≡ true) → IsKept kept count w
+  unfolding wire_needs
+  wire_kept (Const b) h m = tt
+  wire_kept (Node i) h m = (h, m i (member_head i []))
 
-      named : member (get_or ports (64 + 3 * i + 2) 0) (output_needs (outputs_in text ports outs)) ≡ true
-      named =
-          output-needs (get_or ports (64 + 3 * i + 2) 0) (tabulate outs (output_in text ports)) i (output_in text ports 0) (rw (tabulate-length outs (output_in text ports)) h)
-          (rw (tabulate-at outs (output_in text ports) i (output_in text ports 0) h, lt-ltb (get_or ports (64 + 3 * i + 2) 0) 1000 l) (member_head (get_or ports (64 + 3 * i + 2) 0) []))
+  outputs_kept : AllIn count os → AllKept kept count os
+  outputs_kept a = λ k d h.
+      wire_kept (get_or os k d).wire (a k d h) (λ j m. among_at (output_needs os) kept (live-outputs (store_of nodes count) os) j (output-needs j os k d h m))
 
   pub kept-closed : IsStore nodes count → Closed kept nodes count
   unfolding live
   kept-closed s =
-      subst (λ k. Closed (wanted_below k (store_of nodes count) (output_needs (outputs_in text ports outs))) nodes count) (sym (store_length nodes count))
-      (closed nodes count (output_needs (outputs_in text ports outs)) s)
+      subst (λ k. Closed (wanted_below k (store_of nodes count) (output_needs os)) nodes count) (sym (store_length nodes count)) (closed nodes count (output_needs os) s)
 
 -- ---- laws: the whole
 
-module _ (s : Settings) (text ports : List ℕ) (outs : ℕ) (nodes : List ℕ) (count : ℕ) (r : Bool)
-    (e : r ≡ (is_basic s.policy && not (within_norm s (largest_norm (kept_from (live (store_of nodes count) (outputs_in text ports outs)) 0 (store_of nodes count)))))) where
-  pub over_refused : r ≡ true → (out : List ℕ) → outcome (map_reply (Reply.Refused 8 0)) out ≡ answer_with out (concluded s text ports outs nodes count)
-  unfolding concluded checked pruned answer_with map_reply largest_norm
-  over_refused t out = rw (sym e ∙ t) refl
+module _ (s : Settings) (os : List Output) (nodes : List ℕ) (count : ℕ) (r : Bool)
+    (e : r ≡ (is_basic s.policy && not (within_norm s (largest_norm (kept_from (live (store_of nodes count) os) 0 (store_of nodes count)))))) where
+  pub over_refused : r ≡ true → (f : Refusal) → f ≡ record { reason = OverNorm; line = 0 } → (out : List ℕ)
+      → outcome (map_reply (P.Err f)) out ≡ answer_with out (concluded s os nodes count)
+  unfolding concluded checked pruned answer_with largest_norm
+  over_refused t f q out = rw (q, sym e ∙ t) refl
 
-  module _ (t : r ≡ false) (numbers : List ℕ) (f : Finishable s text ports outs nodes count) (k : Keeps (live (store_of nodes count) (outputs_in text ports outs)) count numbers) where
-    abbrev whole : W.Network
-    whole = record { p = s.p; m = s.m; norm = s.norm; outs = outs; count = count }
+  module _ (t : r ≡ false) (numbers : List ℕ) (f : Finishable s os nodes count) (k : Keeps (live (store_of nodes count) os) count numbers) where
+    abbrev whole : Net
+    whole = record { p = s.p; m = s.m; norm = s.norm }
 
-    numbered : Numbered (kept text ports outs nodes count) numbers count
+    numbered : Numbered (kept os nodes count) numbers count
     unfolding Numbered
     numbered = k.at
 
-    written_is : network_of whole text ports nodes numbers ≡ pruned s (record { nodes = store_of nodes count; outputs = outputs_in text ports outs })
+    written_is : network_of whole os nodes count numbers ≡ pruned s (record { nodes = store_of nodes count; outputs = os })
     unfolding pruned
     written_is =
-        kept_network whole text ports nodes numbers (kept text ports outs nodes count) f.store numbered (kept-closed text ports outs nodes count f.store)
-        (output-kept text ports outs nodes count f.good)
-        ∙ ap
-        (λ (os : List Output). record { p = s.p; m = s.m; norm = s.norm; nodes = kept_from (kept text ports outs nodes count) 0 (store_of nodes count); outputs = map (renumbered_output (kept text ports outs nodes count)) os })
-        (same_outputs text ports outs)
+        kept_network whole os nodes count numbers (kept os nodes count) f.store numbered (kept-closed os nodes count f.store) (outputs_kept os nodes count f.wires)
 
-    is_good : concluded s text ports outs nodes count ≡ Good (network_of whole text ports nodes numbers)
+    is_good : concluded s os nodes count ≡ Good (network_of whole os nodes count numbers)
     unfolding concluded checked pruned largest_norm
     is_good = rw (sym e ∙ t) (ap Good (sym written_is))
 
-    pub answer_is : (o : Outcome) (out : List ℕ) → o ≡ answer_with out (Good (network_of whole text ports nodes numbers)) → o ≡ answer_with out (concluded s text ports outs nodes count)
+    pub answer_is : (o : Outcome) (out : List ℕ) → o ≡ answer_with out (Good (network_of whole os nodes count numbers)) → o ≡ answer_with out (concluded s os nodes count)
     answer_is o out q = q ∙ ap (answer_with out) (sym is_good)
 
-    pub answer_asks : Sourced numbers nodes count × (Ported numbers ports (length text) outs × Room 0 (network_text (network_of whole text ports nodes numbers)))
+    pub answer_asks : Sourced numbers nodes count × (AllLive numbers os × Room 0 (network_text (network_of whole os nodes count numbers)))
     answer_asks = (
-      kept_sourced (kept text ports outs nodes count) numbers nodes count f.store numbered (kept-closed text ports outs nodes count f.store) k.long,
-      (record { long = f.good.long; few = f.good.few; name = f.name; signal = signalled }, record { fits = omega (arith, f.short (network_of whole text ports nodes numbers) is_good) }),
+      kept_sourced (kept os nodes count) numbers nodes count f.store numbered (kept-closed os nodes count f.store) k.long,
+      (all_live (kept os nodes count) numbers count numbered k.long f.store.most os (outputs_kept os nodes count f.wires), record { fits = omega (arith, f.short (network_of whole os nodes count numbers) is_good) }),
     )
-      where
-        low : (wire : ℕ) → PortIn count wire → wire ≤ 1001
-        low wire (inl h) = omega (arith, f.store.most)
-        low wire (inr h) = h.1
-
-        signalled : (i : ℕ) → i < outs → Signalled numbers (get_or ports (64 + 3 * i + 2) 0)
-        signalled i h =
-            kept_signal (kept text ports outs nodes count) numbers count numbered (get_or ports (64 + 3 * i + 2) 0) k.long f.store.most (low (get_or ports (64 + 3 * i + 2) 0) (f.good.wires i h))
-            (output-kept text ports outs nodes count f.good i h)

@@ -1,16 +1,19 @@
 -- The outputs' nodes as marks, and what is kept.
-use Rattle.std.specs.Prelude.{◌≡◌, refl, List, [], ◌∷◌, ◌++◌, ℕ, suc, ◌+◌, ◌*◌, ◌-◌, ◌≤◌, ◌<◌, length, get_or, set, drop}
-use Rattle.std.proofs.Common.{sym, ap, subst, ◌∙◌, append_assoc, append-nil, inl, inr, arith, drop_of_length-le, drop-cons, lt-ltb, le-ltb, eq-eqb}
-use Rattle.laws.specs.Tabulate.{tabulate, tabulate-length, tabulate-at}
+use Rattle.std.specs.Prelude.{◌≡◌, refl, Bool, true, false, ◌||◌, List, [], ◌∷◌, ◌++◌, map, ℕ, suc, zero, ◌+◌, ◌≤◌, ◌<◌, length, get_or, set, take, eqb}
+use Rattle.std.proofs.Common.{sym, ap, subst, ◌∙◌, append_assoc, append-nil, not-suc-le-zero, add-one, arith, eq-eqb}
+use Rattle.std.proofs.lemmas.List.{length-map, get_or-map, take_all}
 use Rattle.laws.specs.Test.{if◌then◌otherwise◌}
+use Rattle.forms.specs.declared.Output as O
+use Rattle.forms.specs.Forms.{output_of}
+use Rattle.rules.specs.declared.Wire.{Wire}
+use Rattle.rules.specs.declared.Wire.TheVariants.{Const, Node}
 use Rattle.rules.specs.Circuit.{Output}
 use Rattle.rules.specs.Network.{member}
 use Rattle.rules.specs.Store.{wire_needs, output_needs, wanted_below, renumbered, live}
-use Rattle.circuit.specs.View.{wire_in, port_wire, output_in, outputs_in}
 use Rattle.prune.specs.Prune.{Marks, Marking, Numbers, adding, adding_none, adding-one}
 use Rattle.nodes.specs.View.{store_of, store_length}
-use Rattle.outputs.specs.Outputs.{PortIn, GoodPorts}
-use Rattle.outputs.specs.OutputsWalk.{port_more}
+use Rattle.gates.specs.Wired.{WireIn, wire_more}
+use Rattle.outputs.specs.Outputs.{AllIn}
 
 -- Each node below the count that is kept has its new number + 1, and the others have 0.
 pub record Keeps (kept : List ℕ) (count : ℕ) (numbers : List ℕ) : Type 0 where
@@ -19,72 +22,79 @@ pub record Keeps (kept : List ℕ) (count : ℕ) (numbers : List ℕ) : Type 0 w
 
 -- ---- laws: one output
 
-pub marks_constant : (wire : ℕ) (marks : List ℕ) → 1000 ≤ wire → length marks ≡ 672 → Marking (adding (wire_needs (port_wire wire))) marks marks
-unfolding wire_needs wire_in
-marks_constant wire marks h l = rw (le-ltb wire 1000 h) (adding_none [] marks 0 (omega arith) l)
+pub marks_constant : (w : Wire) (b : ℕ) (marks : List ℕ) → w ≡ Const b → length marks ≡ 672 → Marking (adding (wire_needs w)) marks marks
+unfolding wire_needs
+marks_constant w b marks e l = rw e (adding_none [] marks 0 (omega arith) l)
 
-pub marks_node : (wire : ℕ) (marks : List ℕ) → wire < 672 → length marks ≡ 672 → Marking (adding (wire_needs (port_wire wire))) marks (set marks wire 1)
-unfolding wire_needs wire_in
-marks_node wire marks h l =
-    rw (lt-ltb wire 1000 (omega arith))
-    (adding-one (wire ∷ []) marks marks 1 wire (adding_none (wire ∷ []) marks 1 (omega arith) l) (omega arith) (omega arith) refl h)
+pub marks_node : (w : Wire) (node : ℕ) (marks : List ℕ) → w ≡ Node node → WireIn 672 w → length marks ≡ 672 → Marking (adding (wire_needs w)) marks (set marks node 1)
+unfolding wire_needs
+marks_node w node marks e h l =
+    let i : node < 672 = rw e at h in
+    rw e (adding-one (node ∷ []) marks marks 1 node (adding_none (node ∷ []) marks 1 (omega arith) l) (omega arith) (omega arith) refl i)
 
-pub node_low : (wire : ℕ) → PortIn 672 wire → wire < 1000 → wire < 672
-node_low wire (inl h) l = h
-node_low wire (inr h) l = absurd (omega arith)
+-- ---- laws: all outputs
 
--- ---- laws: all outputs, from the last to the first
+member-or : (m : ℕ) (a s : List ℕ) → member m (a ++ s) ≡ (member m a || member m s)
+unfolding member
+member-or m [] s = refl
+member-or m (x ∷ a) s = by (eqb m x) (member-or m a s)
+  where
+    by : (b : Bool) → member m (a ++ s) ≡ (member m a || member m s) → (b || member m (a ++ s)) ≡ ((b || member m a) || member m s)
+    by true e = refl
+    by false e = e
 
--- The outputs from output i on are marked.
-pub record MarkedFrom (ports : List ℕ) (outs i : ℕ) (before marks : List ℕ) : Type 0 where
-  pub long : length marks ≡ 672
-  pub marking : (text : List ℕ) → Marking (adding (output_needs (drop i (outputs_in text ports outs)))) before marks
+-- the order in which two lists are marked is the same
+member_swap : (m : ℕ) (a b s : List ℕ) → member m (b ++ (a ++ s)) ≡ member m ((a ++ b) ++ s)
+member_swap m a b s = simp member-or (by (member m b) (member m a))
+  where
+    by : (p q : Bool) → (p || (q || member m s)) ≡ ((q || p) || member m s)
+    by true true = refl
+    by true false = refl
+    by false true = refl
+    by false false = refl
 
-pub marked_none : (ports : List ℕ) (outs : ℕ) (marks : List ℕ) → length marks ≡ 672 → MarkedFrom ports outs outs marks marks
-unfolding output_needs outputs_in
-marked_none ports outs marks l =
-    record {
-      long = l;
-      marking = λ text.
-          let none_left : drop outs (tabulate outs (output_in text ports)) ≡ [] = drop_of_length-le (tabulate outs (output_in text ports)) {i = outs} (rw (tabulate-length outs (output_in text ports)) (omega arith)) in
-          rw none_left (adding_none [] marks 0 (omega arith) l);
-    }
-
-adding_both : (ns ms before between after : List ℕ) → Marking (adding ns) before between → Marking (adding ms) between after → Marking (adding (ms ++ ns)) before after
+adding_both : (ns ms : List ℕ) {before between after : List ℕ} → Marking (adding ns) before between → Marking (adding ms) between after → Marking (adding (ns ++ ms)) before after
 unfolding adding
-adding_both ns ms before between after v w =
-    record { long = w.long; marks = λ wanted m. subst (λ l. Marks l after) (sym (append_assoc ms ns wanted)) (w.marks (ns ++ wanted) (v.marks wanted m)) }
-
-needs_next : (text ports : List ℕ) (outs i : ℕ) → i < outs
-    → output_needs (drop i (outputs_in text ports outs)) ≡ wire_needs (port_wire (get_or ports (64 + 3 * i + 2) 0)) ++ output_needs (drop (suc i) (outputs_in text ports outs))
-unfolding output_needs outputs_in output_in
-needs_next text ports outs i h =
-    rw
-    (drop-cons (tabulate outs (output_in text ports)) i (output_in text ports 0) (rw (tabulate-length outs (output_in text ports)) h), tabulate-at outs (output_in text ports) i (output_in text ports 0) h)
-    refl
-
-pub marked_step : (ports : List ℕ) (outs i : ℕ) (before marks after : List ℕ) → 0 < i → i ≤ outs → MarkedFrom ports outs i before marks
-    → Marking (adding (wire_needs (port_wire (get_or ports (64 + 3 * (i - 1) + 2) 0)))) marks after → MarkedFrom ports outs (i - 1) before after
-marked_step ports outs i before marks after p h m w =
+adding_both ns ms v w =
     record {
       long = w.long;
-      marking = λ text. subst (λ l. Marking (adding l) before after) (sym (next text)) (adding_both _ _ before marks after (m.marking text) w);
+      marks = λ wanted m. record { at = λ i h. (w.marks (ns ++ wanted) (v.marks wanted m)).at i h ∙ member_swap i ns ms wanted };
     }
-  where
-    next : (text : List ℕ) → output_needs (drop (i - 1) (outputs_in text ports outs)) ≡ wire_needs (port_wire (get_or ports (64 + 3 * (i - 1) + 2) 0)) ++ output_needs (drop i (outputs_in text ports outs))
-    next text =
-        let e : suc (i - 1) ≡ i = omega arith in
-        needs_next text ports outs (i - 1) (omega arith) ∙ ap (λ j. wire_needs (port_wire (get_or ports (64 + 3 * (i - 1) + 2) 0)) ++ output_needs (drop j (outputs_in text ports outs))) e
 
-pub marked_all : (ports : List ℕ) (outs i : ℕ) (before marks : List ℕ) → i ≤ 0 → MarkedFrom ports outs i before marks → (text : List ℕ)
-    → Marking (adding (output_needs (outputs_in text ports outs))) before marks
-marked_all ports outs i before marks h m text =
-    let e : i ≡ 0 = omega arith in subst (λ j. Marking (adding (output_needs (drop j (outputs_in text ports outs)))) before marks) e (m.marking text)
+needs_next : (os : List Output) (i : ℕ) (d : Output) → i < length os → output_needs (take (suc i) os) ≡ output_needs (take i os) ++ wire_needs (get_or os i d).wire
+unfolding output_needs
+needs_next [] i d h = absurd (not-suc-le-zero h)
+needs_next (o ∷ os) zero d h = append-nil (wire_needs o.wire)
+needs_next (o ∷ os) (suc i) d h = rw append_assoc (ap {B = List ℕ} (λ l. wire_needs o.wire ++ l) (needs_next os i d (omega arith)))
+
+-- The first i outputs are marked.
+pub record Marked (os : List O.Output) (i : ℕ) (before marks : List ℕ) : Type 0 where
+  pub marking : Marking (adding (output_needs (take i (map output_of os)))) before marks
+
+pub marked_none : (os : List O.Output) (marks : List ℕ) → length marks ≡ 672 → Marked os 0 marks marks
+unfolding output_needs
+marked_none os marks l = record { marking = adding_none [] marks 0 (omega arith) l }
+
+module _ (os : List O.Output) (i : ℕ) {before marks : List ℕ} (m : Marked os i before marks) where
+  pub marked_long : length marks ≡ 672
+  marked_long = m.marking.long
+
+  pub marked_next : (d : O.Output) {after : List ℕ} → i < length os → Marking (adding (wire_needs (get_or os i d).wire)) marks after → Marked os (i + 1) before after
+  marked_next d h w =
+      let e : output_needs (take (suc i) (map output_of os)) ≡ output_needs (take i (map output_of os)) ++ wire_needs (get_or os i d).wire =
+      needs_next (map output_of os) i (output_of d) (simp length-map h) ∙ ap (λ (o : Output). output_needs (take i (map output_of os)) ++ wire_needs o.wire) (get_or-map output_of os i d (output_of d) h) in
+      record { marking = rw (add-one, e) (adding_both _ _ m.marking w) }
+
+  pub marked_all : length os ≤ i → Marking (adding (output_needs (map output_of os))) before marks
+  marked_all h = rw (take_all i (map output_of os) (simp length-map h)) at m.marking
+
+pub wires_more : (n more : ℕ) (os : List Output) → n ≤ more → AllIn n os → AllIn more os
+wires_more n more os h a = λ k d l. wire_more n more (get_or os k d).wire h (a k d l)
+
+pub wire_at : (n : ℕ) (os : List O.Output) (i : ℕ) (d : O.Output) → i < length os → AllIn n (map output_of os) → WireIn n (get_or os i d).wire
+wire_at n os i d h a = subst (λ (o : Output). WireIn n o.wire) (get_or-map output_of os i d (output_of d) h) (a i (output_of d) (simp length-map h))
 
 -- ---- laws: what is kept
-
-pub ports_more : (ports : List ℕ) (n more outs : ℕ) → n ≤ more → GoodPorts ports n outs → GoodPorts ports more outs
-ports_more ports n more outs h g = record { long = g.long; few = g.few; wires = λ i l. port_more n more _ h (g.wires i l) }
 
 marks_nothing : (marks : List ℕ) → ((i : ℕ) → get_or marks i 0 ≡ 0) → Marks [] marks
 unfolding member

@@ -31,13 +31,9 @@ pub larger_not : (live : List ℕ) (i own norm : ℕ) → get_or live i 0 ≡ 0 
 unfolding larger_kept
 larger_not live i own norm e = rw (eq-eqb (get_or live i 0) 0 e) refl
 
-pub larger_old : (live : List ℕ) (i own norm x : ℕ) → (get_or live i 0 ≡ 0 → ⊥) → x ≡ own → x < norm → norm ≡ larger_kept live i own norm
+pub larger_own : (live : List ℕ) (i own norm x : ℕ) → (get_or live i 0 ≡ 0 → ⊥) → x ≡ own → max x norm ≡ larger_kept live i own norm
 unfolding larger_kept
-larger_old live i own norm x e q h = rw (ne_eqb (get_or live i 0) 0 e) (omega arith)
-
-pub larger_own : (live : List ℕ) (i own norm x : ℕ) → (get_or live i 0 ≡ 0 → ⊥) → x ≡ own → norm ≤ x → x ≡ larger_kept live i own norm
-unfolding larger_kept
-larger_own live i own norm x e q h = rw (ne_eqb (get_or live i 0) 0 e) (omega arith)
+larger_own live i own norm x e q = rw (ne_eqb (get_or live i 0) 0 e) (ap (λ k. max k norm) q)
 
 -- what a node needs stands before it
 needs_within : (bytes : List ℕ) (count i : ℕ) → IsStore bytes count → i < count → AllWithin (store_of bytes count) (needs (node_of bytes i))

@@ -2,6 +2,7 @@
 use Rattle.std.specs.Prelude.{◌≡◌, true, List, ℕ, ◌<◌}
 use Rattle.std.proofs.Common.{sym, ap, ◌∙◌, arith}
 use Rattle.rules.specs.declared.Settings.{Settings}
+use Rattle.rules.specs.Circuit.{Output}
 use Rattle.rules.specs.Form.{Good}
 use Rattle.rules.specs.Mapper.{pruned}
 use Rattle.rules.specs.Network.{Network, node_at, member, depth, node_centre}
@@ -9,7 +10,6 @@ use Rattle.rules.specs.Store.{live, renumbered}
 use Rattle.mapped.specs.PrunedCentres.{pruning_keeps_centre}
 use Rattle.mapped.specs.PrunedDepths.{pruning_keeps_depth}
 use Rattle.mapped.proofs.Whole.{checked_same}
-use Rattle.circuit.specs.View.{outputs_in}
 use Rattle.nodes.specs.Centre.{Centred}
 use Rattle.nodes.specs.Depth.{recorded_depth}
 use Rattle.nodes.specs.Nodes.{store_ordered}
@@ -17,16 +17,15 @@ use Rattle.nodes.specs.View.{store_of, depth_in, centre_in, store_length, at_sto
 use Rattle.conclude.specs.Conclude.{concluded}
 
 -- Of each node that is kept, at its new number in the network that is written.
-unfoldable pub Recorded : Settings → List ℕ → List ℕ → ℕ → List ℕ → ℕ → Type 0
-Recorded s text ports outs nodes count =
-    (w : Network) → concluded s text ports outs nodes count ≡ Good w → (i : ℕ) → i < count → member i (live (store_of nodes count) (outputs_in text ports outs)) ≡ true
-    → (depth_in nodes i ≡ depth w.nodes (renumbered (live (store_of nodes count) (outputs_in text ports outs)) i))
-    × (centre_in nodes i ≡ node_centre w.p (node_at w.nodes (renumbered (live (store_of nodes count) (outputs_in text ports outs)) i)))
+unfoldable pub Recorded : Settings → List Output → List ℕ → ℕ → Type 0
+Recorded s os nodes count =
+    (w : Network) → concluded s os nodes count ≡ Good w → (i : ℕ) → i < count → member i (live (store_of nodes count) os) ≡ true
+    → (depth_in nodes i ≡ depth w.nodes (renumbered (live (store_of nodes count) os) i))
+    × (centre_in nodes i ≡ node_centre w.p (node_at w.nodes (renumbered (live (store_of nodes count) os) i)))
 
-pub recorded : (s : Settings) (text ports : List ℕ) (outs : ℕ) (nodes : List ℕ) (count : ℕ) → IsStore nodes count → Centred s.p nodes count → Recorded s text ports outs nodes count
+pub recorded : (s : Settings) (os : List Output) (nodes : List ℕ) (count : ℕ) → IsStore nodes count → Centred s.p nodes count → Recorded s os nodes count
 unfolding Recorded concluded pruned
-recorded s text ports outs nodes count store centred w e i h m =
-    let os = outputs_in text ports outs in
+recorded s os nodes count store centred w e i h m =
     let ns = store_of nodes count in
     let same = checked_same s (pruned s (record { nodes = ns; outputs = os })) w e in (
       recorded_depth nodes count store i h

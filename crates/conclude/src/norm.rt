@@ -10,6 +10,7 @@ ghost use Rattle.conclude.specs.Norm.{largest_norm, larger_kept};
 use nodes::norm::node_norm;
 
 // The larger one of the norm so far and node i's, if that is kept.
+#[tactic(auto, using(crate::specs::Norm::larger_not, crate::specs::Norm::larger_own))]
 fn larger(nodes: &[u8; 27552], live: &[u16; 672], i: usize, norm: u64) -> u64
     requires { IsStore nodes.now (i + 1) × (length live.now ≡ 672) }
     ensures { result ≡ larger_kept live.now i (node_norm (store_of nodes.now i) (node_of nodes.now i)) norm }
@@ -17,11 +18,7 @@ fn larger(nodes: &[u8; 27552], live: &[u16; 672], i: usize, norm: u64) -> u64
     if live[i] == 0 {
         return norm;
     }
-    let own = node_norm(nodes, i);
-    if own < norm {
-        return norm;
-    }
-    own
+    node_norm(nodes, i).max(norm)
 }
 
 // Norms go by the nodes that are kept: what one of them needs is kept too, and weighs the same there.
@@ -29,10 +26,8 @@ pub fn largest_norm(nodes: &[u8; 27552], live: &[u16; 672], count: usize) -> u64
     requires { IsStore nodes.now count × (length live.now ≡ 672) }
     ensures { (kept : List ℕ) → Keeps kept count live.now → Closed kept nodes.now count → result ≡ largest_norm (kept_from kept 0 (store_of nodes.now count)) }
 {
-    let mut norm: u64 = 0;
-    let mut i = count;
-    while 0 < i {
-        i -= 1;
+    let mut norm = 0;
+    for i in (0..count).rev() {
         norm = larger(nodes, live, i, norm);
     }
     norm

@@ -1,10 +1,11 @@
 -- A cone's sources beside the node store, and their weights.
-use Rattle.std.specs.Prelude.{◌≡◌, refl, List, [], ◌∷◌, map, ℕ, zero, suc, ◌<◌, length, get_or}
+use Rattle.std.specs.Prelude.{◌≡◌, refl, List, [], ◌∷◌, map, ℕ, zero, suc, ◌<◌, length, get_or, take}
 use Rattle.std.proofs.Common.{sym, ap, ap₂, subst, ◌∙◌, not-suc-le-zero, arith}
 use Rattle.rules.specs.Cone as rules
 use Rattle.rules.specs.Network.{weight_of}
 use Rattle.theorems.specs.Weights.{weights_of, weighted_norm}
 use Rattle.theorems.proofs.Weights.{norm2_weighted}
+use Rattle.scale.specs.Norm.{norm-first}
 use Rattle.nodes.specs.View.{node_of, store_of, IsNode, IsStore, is_node, at_store}
 use Rattle.cone.specs.declared.Cone.{Cone}
 use Rattle.cone.specs.View.{cone_of, IsCone}
@@ -63,3 +64,11 @@ pub norm_stored : (bytes : List ℕ) (count : ℕ) (c : rules.Cone) → Below co
     → weighted_norm (weights_in bytes c.support) c.coefficients ≡ rules.norm2 (store_of bytes count) c
 norm_stored bytes count c b =
     ap (λ ws. weighted_norm ws c.coefficients) (weights_stored bytes count c.support b.at) ∙ sym (norm2_weighted (store_of bytes count) c)
+
+-- the norm by weights of which only the first matter
+pub norm_of : (bytes : List ℕ) (count : ℕ) (c : rules.Cone) (ws : List ℕ) → length c.support ≡ length c.coefficients
+    → take (length c.support) ws ≡ weights_in bytes c.support → Below count c → weighted_norm ws c.coefficients ≡ rules.norm2 (store_of bytes count) c
+norm_of bytes count c ws l e b =
+    sym (norm-first ws c.coefficients)
+    ∙ ap (λ k. weighted_norm (take k ws) c.coefficients) (sym l)
+    ∙ ap (λ v. weighted_norm v c.coefficients) e ∙ norm_stored bytes count c b

@@ -1,7 +1,9 @@
 -- A cone behind a gate of one input, entry by entry.
-use Rattle.std.specs.Prelude.{◌≡◌, true, false, List, [], ◌∷◌, map, ◌≢◌, ℕ, zero, suc, ◌<◌, ◌≤◌, eqb, pos, nat_abs, ◌-ℤ◌}
+use Rattle.std.specs.Prelude.{◌≡◌, Bool, true, false, List, [], ◌∷◌, map, take, ◌≢◌, ℕ, zero, suc, ◌<◌, ◌≤◌, eqb, pos, nat_abs, ◌-ℤ◌}
+use Rattle.std.specs.Bool.{MatchBool}
+use Rattle.std.specs.List.{AllWithin, HoldsAt}
 use Rattle.std.proofs.Math.Path.{refl, sym, ap}
-use Rattle.std.proofs.Common.{◌∙◌, arith, eq-eqb, pow_pos, ext_get_or}
+use Rattle.std.proofs.Common.{◌∙◌, arith, eq-eqb, pow_pos, ext_get_or, get_or-take, length-take-le}
 use Rattle.std.proofs.Math.Logic.{⊎_elim}
 use Rattle.std.proofs.Math.ListN.{length, get_or}
 use Rattle.std.proofs.lemmas.List.{length-map}
@@ -100,7 +102,7 @@ module _ (c : Cone) (k : ℕ) (place : k ≡ nat_abs (pos 0 -ℤ least (rules.va
       ∙ ap (λ n. get_or c.known n 0) (sym place)
 
 module _ (c : Cone) (is : IsCone c) (first : ℕ) (is-first : first ≡ get_or (cone_of c).truth 0 0) where
-  pub all_are : ((j : ℕ) → j < rules.cone_span (cone_of c) → get_or c.known j 0 ≢ 2 → get_or c.known j 0 ≡ first) → true ≡ all_equal (cone_of c).truth
+  all_are : ((j : ℕ) → j < rules.cone_span (cone_of c) → get_or c.known j 0 ≢ 2 → get_or c.known j 0 ≡ first) → true ≡ all_equal (cone_of c).truth
   unfolding rules.cone_span
   all_are same = sym (all_equal_true (cone_of c).truth (λ i h. at i (rw (truth-length c) h)))
     where
@@ -110,7 +112,7 @@ module _ (c : Cone) (is : IsCone c) (first : ℕ) (is-first : first ≡ get_or (
           let b = row_bit c is i h in
           e ∙ same (offset (least (rules.values (cone_of c))) (rules.values (cone_of c)) i) (offset_lt (rules.values (cone_of c)) i h) (λ q. omega arith) ∙ is-first
 
-  pub one_differs : (j : ℕ) → j < rules.cone_span (cone_of c) → get_or c.known j 0 ≢ 2 → get_or c.known j 0 ≢ first → false ≡ all_equal (cone_of c).truth
+  one_differs : (j : ℕ) → j < rules.cone_span (cone_of c) → get_or c.known j 0 ≢ 2 → get_or c.known j 0 ≢ first → false ≡ all_equal (cone_of c).truth
   unfolding rules.cone_span
   one_differs j h n d =
       ⊎_elim
@@ -121,3 +123,22 @@ module _ (c : Cone) (is : IsCone c) (first : ℕ) (is-first : first ≡ get_or (
       (λ q. d (sym (truth_entry c r.0 r.1 ∙ ap (λ m. get_or c.known m 0) r.2) ∙ q ∙ sym is-first))))
       (λ (e : hits (least (rules.values (cone_of c))) (rules.values (cone_of c)) j ≡ false). absurd (n (unknown c is j h e)))
       (decide (hits (least (rules.values (cone_of c))) (rules.values (cone_of c)) j))
+
+  -- what `all` over the entries of the span finds
+  pub all_found : (n : ℕ) (r : Bool) → n ≡ rules.cone_span (cone_of c) → length c.known ≡ 32
+      → MatchBool r (AllWithin (λ x. x ≢ 2 → x ≡ first) (take n c.known) 0 (length (take n c.known)))
+      ((k : ℕ) × (k < length (take n c.known)) × HoldsAt (λ x. (x ≢ 2) × (x ≢ first)) (take n c.known) k)
+      → r ≡ all_equal (cone_of c).truth
+  all_found n r e long m = by r m
+    where
+      by : (r : Bool) → MatchBool r (AllWithin (λ x. x ≢ 2 → x ≡ first) (take n c.known) 0 (length (take n c.known)))
+          ((k : ℕ) × (k < length (take n c.known)) × HoldsAt (λ x. (x ≢ 2) × (x ≢ first)) (take n c.known) k)
+          → r ≡ all_equal (cone_of c).truth
+      by true a =
+          all_are
+          (λ j h u. let k : j < n = omega arith in let s = get_or-take n c.known j 0 k in
+          rw s at (a j 0 (omega arith) (omega (arith, is.narrow, length-take-le n c.known)) (rw s u)))
+      by false (k, h, d) =
+          let l : k < n = omega (arith, is.narrow, length-take-le n c.known) in
+          let s = get_or-take n c.known k 0 l in
+          one_differs k (omega arith) (rw s at (d 0).0) (rw s at (d 0).1)

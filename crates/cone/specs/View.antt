@@ -1,5 +1,5 @@
 -- A cone as the code holds it, seen as the definition's.
-use Rattle.std.specs.Prelude.{◌≡◌, refl, true, false, List, map, ℕ, ◌+◌, ◌≤◌, ◌<◌, ◌^◌, ℤ, pos, nat_abs, ◌-ℤ◌, length, get_or, take, ◌≤ℤ◌}
+use Rattle.std.specs.Prelude.{◌≡◌, refl, true, false, List, map, ℕ, ◌+◌, ◌≤◌, ◌<◌, ◌^◌, ℤ, pos, nat_abs, ◌-ℤ◌, length, get_or, take, ◌≤ℤ◌, Option, Some, None}
 use Rattle.std.proofs.Math.Path.{sym}
 use Rattle.std.proofs.Common.{ap, ◌∙◌, ⊎_elim, arith, pow_mono, get_or-take}
 use Rattle.std.proofs.Math.Option.{some}
@@ -20,8 +20,6 @@ use Rattle.laws.specs.Lists.{map_at}
 use Rattle.theorems.specs.Rows.{offset, known_exact}
 use Rattle.theorems.specs.Spans.{offset_lt}
 use Rattle.cone.specs.declared.Cone.{Cone}
-use Rattle.cone.specs.declared.Constant.{Constant}
-use Rattle.cone.specs.declared.Constant.TheVariants.{Bit, No}
 use Rattle.linear.specs.Span.{within_total}
 use Rattle.theorems.specs.LinearTables.{least_table, lower, span_table, total, total_parts}
 use Rattle.theorems.specs.ConeValues.{linear_table-length}
@@ -39,8 +37,8 @@ cone_of c =
     record { support = take c.n c.support; coefficients = take c.n c.coefs; truth = map (truth_at (take c.n c.coefs) c.known) (linear_table (take c.n c.coefs)) }
 
 -- constant_value
-unfoldable pub constant_of : rules.Cone → Constant
-constant_of c = if is_constant c then Bit (constant_value c) otherwise No
+unfoldable pub constant_of : rules.Cone → Option ℕ
+constant_of c = if is_constant c then Some (constant_value c) otherwise None
 
 -- What holds of every cone within the limits: at most 11 sources, all different nodes of a store; a span of at most 32;
 -- and the entries within the span are those that its rows make known: 0 or 1 at the value of a row, 2 elsewhere.

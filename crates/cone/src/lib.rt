@@ -8,9 +8,10 @@ pub mod unary;
 pub mod valid;
 pub mod weights;
 
-ghost use Rattle.std.specs.Prelude.{◌≡◌, ℕ, ◌≤◌, ◌<◌};
+ghost use Rattle.std.specs.Prelude.{◌≡◌, ℕ, ◌≤◌, ◌<◌, length};
 ghost use Rattle.rules.specs.Cone as rules;
 ghost use Rattle.rules.specs.Span.{least};
+ghost use Rattle.scale.specs.Limits.{Within};
 ghost use Rattle.nodes.specs.View.{store_of};
 ghost use Rattle.cone.specs.View.{cone_of, IsCone, constant_of};
 ghost use Rattle.cone.specs.Sources.{Below, AreNodes};
@@ -28,13 +29,6 @@ pub struct Cone {
     pub known: [u8; 32],
 }
 
-// What a cone with no source is.
-#[derive(Clone, Copy)]
-pub enum Constant {
-    Bit(u8),
-    No,
-}
-
 impl Cone {
     // A cone with no source.
     pub fn constant(value: u8) -> Cone
@@ -43,8 +37,8 @@ impl Cone {
     {
         Cone {
             n: 0,
-            support: [0usize; 11],
-            coefs: [0i64; 11],
+            support: [0; 11],
+            coefs: [0; 11],
             known: [value; 32],
         }
     }
@@ -54,11 +48,11 @@ impl Cone {
         requires { node < 672 }
         ensures { IsCone result × (cone_of result ≡ rules.identity node) }
     {
-        let mut support = [0usize; 11];
+        let mut support = [0; 11];
         support[0] = node;
-        let mut coefs = [0i64; 11];
+        let mut coefs = [0; 11];
         coefs[0] = 1;
-        let mut known = [0u8; 32];
+        let mut known = [0; 32];
         known[1] = 1;
         Cone {
             n: 1,
@@ -69,35 +63,51 @@ impl Cone {
     }
 
     // The bit of a cone with no source.
-    pub fn constant_value(self) -> Constant
+    #[tactic(auto, using(crate::specs::View::view_sources), unfolding(crate::specs::View::constant_of, crate::specs::View::cone_of, crate::specs::View::truth_at, crate::specs::View::entry_at, rules::specs::Mapper::is_constant, rules::specs::Mapper::constant_value, rules::specs::Cone::linear_table, rules::specs::Span::least, rules::specs::Span::least_from))]
+    pub fn constant_value(self) -> Option<u8>
         requires { IsCone self }
         ensures { result ≡ constant_of (cone_of self) }
     {
-        if self.n == 0 {
-            Constant::Bit(self.known[0])
-        } else {
-            Constant::No
-        }
+        (self.n == 0).then_some(self.known[0])
+    }
+
+    // The sources.
+    #[tactic(auto, unfolding(crate::specs::View::cone_of))]
+    pub fn sources(&self) -> &[usize]
+        requires { IsCone self.now }
+        ensures are { result.now ≡ (cone_of self.now).support }
+        ensures count { length result.now ≡ self.now.n }
+    {
+        &self.support[..self.n]
+    }
+
+    // Their coefficients.
+    #[tactic(auto, using(crate::specs::View::small), unfolding(crate::specs::View::cone_of))]
+    pub fn coefficients(&self) -> &[i64]
+        requires { IsCone self.now }
+        ensures are { result.now ≡ (cone_of self.now).coefficients }
+        ensures count { length result.now ≡ self.now.n }
+        ensures small { Within 31 result.now }
+    {
+        &self.coefs[..self.n]
     }
 
     // The least value.
+    #[tactic(auto, unfolding(rules::specs::Cone::values))]
     pub fn least(self) -> i64
         requires { IsCone self }
         ensures { result ≡ least (rules.values (cone_of self)) }
     {
-        let coefs = self.coefs;
-        let n = self.n;
-        linear_least(&coefs[..n])
+        linear_least(self.coefficients())
     }
 
     // The least and the greatest value, and all between: so many.
+    #[tactic(auto, unfolding(rules::specs::Cone::values, rules::specs::Cone::cone_span))]
     pub fn span(self) -> usize
         requires { IsCone self }
         ensures { result ≡ rules.cone_span (cone_of self) }
     {
-        let coefs = self.coefs;
-        let n = self.n;
-        linear_span(&coefs[..n])
+        linear_span(self.coefficients())
     }
 
     // Each squared coefficient times its source's weight, added.
@@ -105,10 +115,7 @@ impl Cone {
         requires { IsCone self × AreNodes nodes.now (cone_of self).support }
         ensures { (count : ℕ) → Below count (cone_of self) → result ≡ rules.norm2 (store_of nodes.now count) (cone_of self) }
     {
-        let support = self.support;
-        let coefs = self.coefs;
-        let n = self.n;
-        let weights = weights_of(nodes, &support[..n]);
-        scale::coefficients_norm2(&coefs[..n], &weights)
+        let weights = weights_of(nodes, self.sources());
+        scale::coefficients_norm2(self.coefficients(), &weights)
     }
 }

@@ -11,12 +11,13 @@ ghost use Rattle.cone.specs.Order.{key_of, sides_of};
 use crate::Cone;
 
 // Span, then norm.
-#[derive(Clone, Copy)]
+#[derive(Clone, Copy, PartialEq, Eq, PartialOrd, Ord)]
 pub struct OrderKey {
     pub span: usize,
     pub norm: u64,
 }
 
+#[tactic(auto, unfolding(crate::specs::Order::key_of, rules::specs::Cone::cone_order_key))]
 pub fn cone_order_key(nodes: &[u8; 27552], cone: Cone) -> OrderKey
     requires { IsCone cone × AreNodes nodes.now (cone_of cone).support }
     ensures { (count : ℕ) → Below count (cone_of cone) → key_of result ≡ cone_order_key (store_of nodes.now count) (cone_of cone) }
@@ -27,16 +28,11 @@ pub fn cone_order_key(nodes: &[u8; 27552], cone: Cone) -> OrderKey
     }
 }
 
+#[tactic(auto, unfolding(crate::specs::Order::key_of, rules::specs::Cone::less))]
 pub fn is_less(a: OrderKey, b: OrderKey) -> bool
     ensures { result ≡ less (key_of a) (key_of b) }
 {
-    if a.span < b.span {
-        return true;
-    }
-    if b.span < a.span {
-        return false;
-    }
-    a.norm < b.norm
+    a < b
 }
 
 // One side of a binary gate: its cone, and whether it was bootstrapped here.
@@ -56,17 +52,15 @@ pub struct Sides {
 }
 
 // switch_inputs: the gate's answers 1 and 2 are exchanged too.
+#[tactic(auto, unfolding(crate::specs::Order::sides_of, rules::specs::Mapper::switch_inputs))]
 pub fn switch_inputs(s: Sides) -> Sides
     ensures is { (nodes : List LutNode) → sides_of nodes result ≡ switch_inputs (sides_of nodes s) }
     ensures places { (result.left ≡ s.right) × (result.right ≡ s.left) }
 {
-    let left = s.left;
-    let right = s.right;
-    let gate = s.gate;
     Sides {
-        left: right,
-        right: left,
-        gate: [gate[0], gate[2], gate[1], gate[3]],
+        left: s.right,
+        right: s.left,
+        gate: [s.gate[0], s.gate[2], s.gate[1], s.gate[3]],
         switched: !s.switched,
     }
 }

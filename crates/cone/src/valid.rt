@@ -8,17 +8,10 @@ ghost use Rattle.cone.specs.Sources.{Below, AreNodes};
 ghost use Rattle.cone.specs.Valid.{validity_of};
 
 use crate::Cone;
-use rules::{Limit, Settings};
-
-// What validate_cone finds.
-#[derive(Clone, Copy)]
-pub enum Validity {
-    Valid,
-    // 8: the norm is over the limit
-    OverNorm,
-}
+use rules::{Limit, Reason, Settings};
 
 // Whether a norm is over its limit.
+#[tactic(auto, unfolding(rules::specs::NetworkText::over))]
 pub fn is_over(limit: Limit, norm: u64) -> bool
     ensures { result ≡ over_limit limit norm }
 {
@@ -29,26 +22,23 @@ pub fn is_over(limit: Limit, norm: u64) -> bool
 }
 
 // is_lut_valid: some table of period p and length at most m has the known entries.
+#[tactic(auto, using(crate::specs::View::entries), unfolding(rules::specs::Cone::is_lut_valid, rules::specs::Cone::encoding, rules::specs::Cone::completed, rules::specs::Builder::completable))]
 pub fn is_lut_valid(s: Settings, cone: Cone) -> bool
     requires { IsCone cone }
     ensures { result ≡ is_lut_valid s (cone_of cone) }
 {
-    let known = cone.known;
     let span = cone.span();
-    if s.m < span {
-        return false;
-    }
-    rotation::is_known_lut_valid(&known[..span], s.p)
+    span <= s.m && rotation::is_known_lut_valid(&cone.known[..span], s.p)
 }
 
 // validate_cone without its encoding check, which no cone of a mapping fails (`never_ten`).
-pub fn validate_cone(s: Settings, nodes: &[u8; 27552], cone: Cone) -> Validity
+#[tactic(auto, unfolding(crate::specs::Valid::validity_of, rules::specs::Cone::validate_cone, rules::specs::Cone::within_norm))]
+pub fn validate_cone(s: Settings, nodes: &[u8; 27552], cone: Cone) -> Result<(), Reason>
     requires { IsCone cone × AreNodes nodes.now (cone_of cone).support }
     ensures { (count : ℕ) → Below count (cone_of cone) → validity_of (cone_of cone) result ≡ validate_cone s (store_of nodes.now count) (cone_of cone) }
 {
-    let limit = s.norm;
-    if is_over(limit, cone.norm2(nodes)) {
-        return Validity::OverNorm;
+    if is_over(s.norm, cone.norm2(nodes)) {
+        return Err(Reason::OverNorm);
     }
-    Validity::Valid
+    Ok(())
 }

@@ -6,23 +6,14 @@ ghost use Rattle.cone.specs.Sources.{AreNodes, weights_in};
 
 use nodes::node::weight_of;
 
-fn weight_at(nodes: &[u8; 27552], i: usize) -> u8
-    requires { IsNode nodes.now i }
-    ensures { result ≡ weight_of (node_of nodes.now i) }
-{
-    weight_of(nodes, i) as u8
-}
-
 // A weight for each source; what stands behind them does not matter.
 pub fn weights_of(nodes: &[u8; 27552], sources: &[usize]) -> [u8; 11]
     requires { (length sources.now ≤ 11) × AreNodes nodes.now sources.now }
     ensures { take (length sources.now) result ≡ weights_in nodes.now sources.now }
 {
     let mut weights = [0u8; 11];
-    let mut k = 0;
-    while k < sources.len() {
-        weights[k] = weight_at(nodes, sources[k]);
-        k += 1;
+    for (k, &source) in sources.iter().enumerate() {
+        weights[k] = weight_of(nodes, source) as u8;
     }
     weights
 }

@@ -1,12 +1,14 @@
 -- Cones in the slots of an array of bytes: 66 bytes a slot.
-use Rattle.std.specs.Prelude.{◌≡◌, refl, List, ◌⊎◌, ◌≢◌, ℕ, ◌+◌, ◌*◌, ◌/◌, ◌%◌, ◌≤◌, ◌<◌, ℤ, nat_abs, ◌+ℤ◌, ◌-ℤ◌, set}
+use Rattle.std.specs.Prelude.{◌≡◌, refl, List, ◌⊎◌, ◌≢◌, ℕ, ◌+◌, ◌*◌, ◌/◌, ◌%◌, ◌≤◌, ◌<◌, ℤ, nat_abs, ◌+ℤ◌, ◌-ℤ◌, ◌-◌, set, drop}
 use Rattle.std.proofs.Math.Path.{sym, ap, ap₂}
-use Rattle.std.proofs.Common.{◌∙◌, inl, inr, not-suc-le-zero}
+use Rattle.std.proofs.Common.{rules, ◌∙◌, inl, inr, not-suc-le-zero}
 use Rattle.std.proofs.Math.Logic.{⊎_elim}
 use native.Mathlib.Omega.{arith}
 use Rattle.std.proofs.Math.IntN.{pos}
 use Rattle.std.proofs.Math.ListN.{length, get_or, take, length-set}
 use Rattle.std.proofs.Math.Seq.{get_or-set_same, get_or-set_other, get_or-take, ext_get_or, length-take-le}
+use Rattle.std.proofs.lemmas.List.{get_or-drop, length-take, places}
+use borrow.Rule.Slice.PartMut.{put_mid}
 use Rattle.laws.specs.Integer.{ints, plus, minus, abs_parts, add_parts, sub_parts, one_part_zero}
 use Rattle.laws.specs.Tabulate.{tabulate, tabulate-at, tabulate-length, tabulate_same}
 use Rattle.laws.specs.Test.{lt_or_le}
@@ -50,11 +52,11 @@ pub record TermsPut (bytes : List ℕ) (slot n : ℕ) (support : List ℕ) (coef
   pub nodes : (i : ℕ) → i < n → node_in after slot i ≡ get_or support i 0
   pub values : (i : ℕ) → i < n → coef_in after slot i ≡ get_or coefs i (pos 0)
 
--- and after the first n entries were
-pub record KnownPut (bytes : List ℕ) (slot n : ℕ) (known : List ℕ) (after : List ℕ) : Type 0 where
+-- and after the entries were
+pub record KnownPut (bytes : List ℕ) (slot : ℕ) (known : List ℕ) (after : List ℕ) : Type 0 where
   pub long : length after ≡ length bytes
-  pub others : (j : ℕ) → (j < 66 * slot + 34) ⊎ (66 * slot + 34 + n ≤ j) → get_or after j 0 ≡ get_or bytes j 0
-  pub entries : (i : ℕ) → i < n → entry_in after slot i ≡ get_or known i 0
+  pub others : (j : ℕ) → (j < 66 * slot + 34) ⊎ (66 * slot + 66 ≤ j) → get_or after j 0 ≡ get_or bytes j 0
+  pub entries : (i : ℕ) → i < 32 → entry_in after slot i ≡ get_or known i 0
 
 -- The slot holds the cone, and the other slots are as they were.
 pub record IsPut (bytes : List ℕ) (slot : ℕ) (c : Cone) (after : List ℕ) : Type 0 where
@@ -63,31 +65,16 @@ pub record IsPut (bytes : List ℕ) (slot : ℕ) (c : Cone) (after : List ℕ) :
   pub is : IsCone (cone_in after slot)
   pub others : (j : ℕ) → j < 130 → j ≢ slot → cone_in after j ≡ cone_in bytes j
 
--- ---- what a loop reads
-module _ (bytes : List ℕ) (slot i : ℕ) where
-  pub node_read : i < 11 → 256 * get_or bytes (66 * slot + 2 + 3 * i) 0 + get_or bytes (66 * slot + 2 + 3 * i + 1) 0 ≡ get_or (support_in bytes slot) i 0
-  unfolding support_in node_in byte
-  node_read h =
-      ap₂ (λ a b. 256 * get_or bytes a 0 + get_or bytes b 0) (omega arith) (omega arith) ∙ sym (tabulate-at 11 (node_in bytes slot) i 0 h)
-
-  pub coef_read : i < 11 → pos (get_or bytes (66 * slot + 1 + 3 * i) 0) -ℤ pos 32 ≡ get_or (coefs_in bytes slot) i (pos 0)
-  unfolding coefs_in coef_in byte
-  coef_read h = ap (λ a. pos (get_or bytes a 0) -ℤ pos 32) (omega arith) ∙ sym (tabulate-at 11 (coef_in bytes slot) i (pos 0) h)
-
-  pub entry_read : i < 32 → get_or bytes (66 * slot + 34 + i) 0 ≡ get_or (known_in bytes slot) i 0
-  unfolding known_in entry_in byte
-  entry_read h = ap (λ a. get_or bytes a 0) (omega arith) ∙ sym (tabulate-at 32 (entry_in bytes slot) i 0 h)
-
 module _ (bytes : List ℕ) (slot : ℕ) where
-  pub support_long : length (support_in bytes slot) ≡ 11
+  support_long : length (support_in bytes slot) ≡ 11
   unfolding support_in
   support_long = tabulate-length 11 (node_in bytes slot)
 
-  pub coefs_long : length (coefs_in bytes slot) ≡ 11
+  coefs_long : length (coefs_in bytes slot) ≡ 11
   unfolding coefs_in
   coefs_long = tabulate-length 11 (coef_in bytes slot)
 
-  pub known_long : length (known_in bytes slot) ≡ 32
+  known_long : length (known_in bytes slot) ≡ 32
   unfolding known_in
   known_long = tabulate-length 32 (entry_in bytes slot)
 
@@ -95,11 +82,28 @@ fields : {n m : ℕ} {ns ms : List ℕ} {cs ds : List ℤ} {ks ls : List ℕ} �
     → ◌≡◌ {A = Cone} (record { n = n; support = ns; coefs = cs; known = ks }) (record { n = m; support = ms; coefs = ds; known = ls })
 fields a b c d = cc
 
--- the cone of what is read
-pub read_is : (bytes : List ℕ) (slot n : ℕ) (ns : List ℕ) (cs : List ℤ) (ks : List ℕ) → n ≡ get_or bytes (66 * slot) 0 → ns ≡ support_in bytes slot → cs ≡ coefs_in bytes slot → ks ≡ known_in bytes slot
-    → ◌≡◌ {A = Cone} (record { n = n; support = ns; coefs = cs; known = ks }) (cone_in bytes slot)
-unfolding cone_in byte
-read_is bytes slot n ns cs ks a b c d = fields (a ∙ ap (λ k. get_or bytes k 0) (omega arith)) b c d
+-- ---- the cone that is read from the slot's bytes s
+module _ (bytes : List ℕ) (slot : ℕ) (s : List ℕ) (is : s ≡ take 66 (drop (66 * slot) bytes)) where
+  in_slot : (k : ℕ) → k < 66 → get_or s k 0 ≡ byte bytes slot k
+  unfolding byte
+  in_slot k h = ap (λ l. get_or l k 0) is ∙ get_or-take 66 (drop (66 * slot) bytes) k 0 h ∙ get_or-drop (66 * slot) bytes k 0
+
+  entry_read : (ks : List ℕ) → ks ≡ take (length s - 34) (drop 34 s) → length ks ≡ 32 → (i : ℕ) → i < 32 → get_or ks i 0 ≡ get_or (known_in bytes slot) i 0
+  unfolding known_in entry_in
+  entry_read ks d long i h =
+      let l : i < length s - 34 = omega (arith, ap length d, length-take {A = ℕ} (length s - 34) (drop 34 s), long) in
+      ap (λ x. get_or x i 0) d ∙ get_or-take (length s - 34) (drop 34 s) i 0 l ∙ get_or-drop 34 s i 0
+      ∙ in_slot (34 + i) (omega arith) ∙ sym (tabulate-at 32 (entry_in bytes slot) i 0 h)
+
+  pub read_is : (ns : List ℕ) (cs : List ℤ) (ks : List ℕ) → ns ≡ tabulate 11 (λ i. 256 * get_or s (2 + 3 * i) 0 + get_or s (3 + 3 * i) 0)
+      → cs ≡ tabulate 11 (λ i. pos (get_or s (1 + 3 * i) 0) -ℤ pos 32) → ks ≡ take (length s - 34) (drop 34 s) → length ks ≡ 32
+      → ◌≡◌ {A = Cone} (record { n = get_or s 0 0; support = ns; coefs = cs; known = ks }) (cone_in bytes slot)
+  unfolding cone_in support_in coefs_in known_in node_in coef_in entry_in
+  read_is ns cs ks a b d long =
+      fields (in_slot 0 (omega arith))
+      (a ∙ tabulate_same 11 _ (node_in bytes slot) (λ i h. ap₂ (λ x y. 256 * x + y) (in_slot (2 + 3 * i) (omega arith)) (in_slot (3 + 3 * i) (omega arith))))
+      (b ∙ tabulate_same 11 _ (coef_in bytes slot) (λ i h. ap (λ x. pos x -ℤ pos 32) (in_slot (1 + 3 * i) (omega arith))))
+      (ext_get_or 0 ks (known_in bytes slot) (long ∙ sym (known_long bytes slot)) (λ i h. entry_read ks d long i (rw long at h)))
 
 -- a slot is its 66 bytes
 pub slot_same : (s t : List ℕ) (slot : ℕ) → ((k : ℕ) → k < 66 → get_or s (66 * slot + k) 0 ≡ get_or t (66 * slot + k) 0) → cone_in s slot ≡ cone_in t slot
@@ -195,47 +199,52 @@ module _ (bytes : List ℕ) (slot i : ℕ) (support : List ℕ) (coefs : List �
 pub terms_start : (bytes : List ℕ) (slot : ℕ) (support : List ℕ) (coefs : List ℤ) → TermsPut bytes slot 0 support coefs bytes
 terms_start bytes slot support coefs = record { long = refl; others = λ j h. refl; nodes = λ i h. absurd (not-suc-le-zero h); values = λ i h. absurd (not-suc-le-zero h) }
 
-pub known_start : (bytes : List ℕ) (slot : ℕ) (known : List ℕ) → KnownPut bytes slot 0 known bytes
-known_start bytes slot known = record { long = refl; others = λ j h. refl; entries = λ i h. absurd (not-suc-le-zero h) }
+-- ys written over the k elements of xs from a on
+module _ (a k : ℕ) (xs ys : List ℕ) (room : a + k ≤ length xs) (e : length ys ≡ k) where
+  part_long : length (put_mid a k xs ys) ≡ length xs
+  part_long = search (rules, places)
 
-module _ (bytes : List ℕ) (slot i : ℕ) (known t : List ℕ) (w : KnownPut bytes slot i known t) (long : 66 * slot + 34 + i < length t) (x : ℕ) (is : x ≡ get_or known i 0) where
-  known_outside : (j : ℕ) → (j < 66 * slot + 34) ⊎ (66 * slot + 34 + (i + 1) ≤ j) → get_or (set t (66 * slot + 34 + i) x) j 0 ≡ get_or bytes j 0
-  known_outside j (inl h) = get_or-set_other t (66 * slot + 34 + i) j x 0 (λ e. omega arith) ∙ w.others j (inl h)
-  known_outside j (inr h) = get_or-set_other t (66 * slot + 34 + i) j x 0 (λ e. omega arith) ∙ w.others j (inr (omega arith))
+  part_other : (j : ℕ) → (j < a) ⊎ (a + k ≤ j) → get_or (put_mid a k xs ys) j 0 ≡ get_or xs j 0
+  part_other j (inl h) = search (rules, places)
+  part_other j (inr h) = search (rules, places)
 
-  known_at : (k : ℕ) → k < i + 1 → entry_in (set t (66 * slot + 34 + i) x) slot k ≡ get_or known k 0
-  unfolding entry_in byte
-  known_at k h =
-      ⊎_elim
-      (λ (l : k < i). get_or-set_other t (66 * slot + 34 + i) (66 * slot + (34 + k)) x 0 (λ e. omega arith) ∙ w.entries k l)
-      (λ (l : i ≤ k).
-      let e : k ≡ i = omega arith in
-      ap (λ a. get_or (set t (66 * slot + 34 + i) x) a 0) (omega arith) ∙ get_or-set_same t (66 * slot + 34 + i) x 0 long ∙ is ∙ ap (λ m. get_or known m 0) (sym e))
-      (lt_or_le k i)
+  part_at : (j : ℕ) → j < k → get_or (put_mid a k xs ys) (a + j) 0 ≡ get_or ys j 0
+  part_at j h = search (rules, places)
 
-  pub known_step : KnownPut bytes slot (i + 1) known (set t (66 * slot + 34 + i) x)
-  known_step = record { long = simp length-set w.long; others = known_outside; entries = known_at }
+-- the entries written over the slot's last 32 bytes
+pub known_put : (bytes : List ℕ) (slot : ℕ) (known : List ℕ) → length known ≡ 32 → 66 * slot + 66 ≤ length bytes
+    → KnownPut bytes slot known (put_mid (66 * slot + 34) (66 * slot + 66 - (66 * slot + 34)) bytes known)
+unfolding entry_in byte
+known_put bytes slot known e h =
+    let k : 66 * slot + 66 - (66 * slot + 34) ≡ 32 = omega arith in
+    let r : 66 * slot + 34 + (66 * slot + 66 - (66 * slot + 34)) ≤ length bytes = omega arith in
+    record {
+      long = part_long _ _ bytes known r (e ∙ sym k);
+      others = λ j o. part_other _ _ bytes known r (e ∙ sym k) j (⊎_elim (λ (l : j < 66 * slot + 34). inl l) (λ (l : 66 * slot + 66 ≤ j). inr (omega arith)) o);
+      entries = λ i l. ap (λ n. get_or (put_mid (66 * slot + 34) (66 * slot + 66 - (66 * slot + 34)) bytes known) n 0) (omega arith) ∙ part_at _ _ bytes known r (e ∙ sym k) i (omega arith);
+    }
 
 -- ---- a whole cone, put in three steps
 same_view : (k l : Cone) → take k.n k.support ≡ take l.n l.support → take k.n k.coefs ≡ take l.n l.coefs → k.known ≡ l.known → cone_of k ≡ cone_of l
 unfolding cone_of
 same_view k l a b d = cc
 
-module _ (bytes : List ℕ) (slot : ℕ) (c : Cone) (is : IsCone c) (h : slot < 130) (long : length bytes ≡ 8580)
-    (ls : length c.support ≡ 11) (lc : length c.coefs ≡ 11) (lk : length c.known ≡ 32) (middle after : List ℕ)
-    (p : TermsPut (set bytes (66 * slot) c.n) slot c.n c.support c.coefs middle) (q : KnownPut middle slot 32 c.known after) where
+module _ (bytes : List ℕ) (slot : ℕ) (c : Cone) (is : IsCone c) (h : slot < 130) (long : length bytes ≡ 8580) (lk : length c.known ≡ 32)
+    (sources : List ℕ) (sources_are : sources ≡ (cone_of c).support) (ls : length sources ≡ c.n)
+    (coefs : List ℤ) (coefs_are : coefs ≡ (cone_of c).coefficients) (lc : length coefs ≡ c.n) (middle after : List ℕ)
+    (p : TermsPut (set bytes (66 * slot) c.n) slot c.n sources coefs middle) (q : KnownPut middle slot c.known after) where
   count_is : byte after slot 0 ≡ c.n
   unfolding byte
   count_is =
       q.others (66 * slot + 0) (inl (omega arith)) ∙ p.others (66 * slot + 0) (inl (omega arith))
       ∙ ap (λ k. get_or (set bytes (66 * slot) c.n) k 0) (omega arith) ∙ get_or-set_same bytes (66 * slot) c.n 0 (omega arith)
 
-  put_node : (i : ℕ) → i < c.n → node_in after slot i ≡ get_or c.support i 0
+  put_node : (i : ℕ) → i < c.n → node_in after slot i ≡ get_or sources i 0
   unfolding node_in byte
   put_node i l =
       ap₂ (λ a b. 256 * a + b) (q.others (66 * slot + (2 + 3 * i)) (inl (omega (arith, is.few)))) (q.others (66 * slot + (3 + 3 * i)) (inl (omega (arith, is.few)))) ∙ p.nodes i l
 
-  put_coef : (i : ℕ) → i < c.n → coef_in after slot i ≡ get_or c.coefs i (pos 0)
+  put_coef : (i : ℕ) → i < c.n → coef_in after slot i ≡ get_or coefs i (pos 0)
   unfolding coef_in byte
   put_coef i l = ap (λ a. pos a -ℤ pos 32) (q.others (66 * slot + (1 + 3 * i)) (inl (omega (arith, is.few)))) ∙ p.values i l
 
@@ -245,23 +254,25 @@ module _ (bytes : List ℕ) (slot : ℕ) (c : Cone) (is : IsCone c) (h : slot < 
       ext_get_or 0 (known_in after slot) c.known (known_long after slot ∙ sym lk)
       (λ i l. let k : i < 32 = rw (known_long after slot) at l in tabulate-at 32 (entry_in after slot) i 0 k ∙ q.entries i k)
 
-  support_is : take c.n (support_in after slot) ≡ take c.n c.support
+  support_is : take c.n (support_in after slot) ≡ sources
   unfolding support_in
   support_is =
       let m : length (take c.n (support_in after slot)) ≡ c.n = length-take-le c.n (support_in after slot) (omega (arith, support_long after slot, is.few)) in
-      ext_get_or 0 _ _ (m ∙ sym (length-take-le c.n c.support (omega (arith, is.few))))
-      (λ i l. let k : i < c.n = rw m at l in get_or-take c.n (support_in after slot) i 0 k ∙ tabulate-at 11 (node_in after slot) i 0 (omega (arith, is.few)) ∙ put_node i k ∙ sym (get_or-take c.n c.support i 0 k))
+      ext_get_or 0 _ _ (m ∙ sym ls)
+      (λ i l. let k : i < c.n = rw m at l in get_or-take c.n (support_in after slot) i 0 k ∙ tabulate-at 11 (node_in after slot) i 0 (omega (arith, is.few)) ∙ put_node i k)
 
-  coefs_is : take c.n (coefs_in after slot) ≡ take c.n c.coefs
+  coefs_is : take c.n (coefs_in after slot) ≡ coefs
   unfolding coefs_in
   coefs_is =
       let m : length (take c.n (coefs_in after slot)) ≡ c.n = length-take-le c.n (coefs_in after slot) (omega (arith, coefs_long after slot, is.few)) in
-      ext_get_or (pos 0) _ _ (m ∙ sym (length-take-le c.n c.coefs (omega (arith, is.few))))
-      (λ i l. let k : i < c.n = rw m at l in get_or-take c.n (coefs_in after slot) i (pos 0) k ∙ tabulate-at 11 (coef_in after slot) i (pos 0) (omega (arith, is.few)) ∙ put_coef i k ∙ sym (get_or-take c.n c.coefs i (pos 0) k))
+      ext_get_or (pos 0) _ _ (m ∙ sym lc)
+      (λ i l. let k : i < c.n = rw m at l in get_or-take c.n (coefs_in after slot) i (pos 0) k ∙ tabulate-at 11 (coef_in after slot) i (pos 0) (omega (arith, is.few)) ∙ put_coef i k)
 
   view_is : cone_of (cone_in after slot) ≡ cone_of c
   unfolding cone_in
-  view_is = same_view (cone_in after slot) c (ap (λ k. take k (support_in after slot)) count_is ∙ support_is) (ap (λ k. take k (coefs_in after slot)) count_is ∙ coefs_is) known_is
+  view_is =
+      same_view (cone_in after slot) c (ap (λ k. take k (support_in after slot)) count_is ∙ support_is ∙ unfold cone_of in sources_are)
+      (ap (λ k. take k (coefs_in after slot)) count_is ∙ coefs_is ∙ unfold cone_of in coefs_are) known_is
 
   fine : IsCone (cone_in after slot)
   unfolding cone_in

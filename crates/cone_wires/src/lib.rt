@@ -5,61 +5,18 @@
 // It leans on `cone`.
 #![tactic(auto)]
 
-ghost use Rattle.std.specs.Prelude.{◌≡◌, ℕ, ◌+◌, ◌≤◌, ◌<◌, nat_abs, length, get_or, take};
+ghost use Rattle.std.specs.Prelude.{◌≡◌, ℕ, ◌+◌, ◌≤◌, ◌<◌, pos, nat_abs, ◌-ℤ◌, length, get_or};
 ghost use Rattle.scale.specs.Limits.{Within};
 ghost use Rattle.cone.specs.View.{IsCone};
-ghost use Rattle.cone_wires.specs.Wires.{cone_in, support_in, coefs_in, known_in, with_term, TermsPut, KnownPut, IsPut};
+ghost use Rattle.cone_wires.specs.Wires.{cone_in, with_term, TermsPut, IsPut};
 
 use cone::Cone;
 
-// A byte as a number.
-fn number(byte: u8) -> usize
-    ensures { (result ≡ byte) × (result < 256) }
+// A coefficient from its byte.
+fn coef_of(byte: u8) -> i64
+    ensures { result ≡ pos byte -ℤ pos 32 }
 {
-    byte as usize
-}
-
-// The nodes of the 11 sources of a slot.
-fn support_at(wires: &[u8; 8580], slot: usize) -> [usize; 11]
-    requires { (slot < 130) × (length wires.now ≡ 8580) }
-    ensures { result ≡ support_in wires.now slot }
-{
-    let mut r = [0usize; 11];
-    let mut i = 0;
-    while i < 11 {
-        let at = 66 * slot + 2 + 3 * i;
-        r[i] = 256 * number(wires[at]) + number(wires[at + 1]);
-        i += 1;
-    }
-    r
-}
-
-// Their coefficients.
-fn coefs_at(wires: &[u8; 8580], slot: usize) -> [i64; 11]
-    requires { (slot < 130) × (length wires.now ≡ 8580) }
-    ensures { result ≡ coefs_in wires.now slot }
-{
-    let mut r = [0i64; 11];
-    let mut i = 0;
-    while i < 11 {
-        r[i] = (number(wires[66 * slot + 1 + 3 * i]) as i64) - 32;
-        i += 1;
-    }
-    r
-}
-
-// The truth at each value.
-fn known_at(wires: &[u8; 8580], slot: usize) -> [u8; 32]
-    requires { (slot < 130) × (length wires.now ≡ 8580) }
-    ensures { result ≡ known_in wires.now slot }
-{
-    let mut r = [0u8; 32];
-    let mut i = 0;
-    while i < 32 {
-        r[i] = wires[66 * slot + 34 + i];
-        i += 1;
-    }
-    r
+    (byte as i64) - 32
 }
 
 // The cone of a slot.
@@ -67,21 +24,21 @@ pub fn cone_at(wires: &[u8; 8580], slot: usize) -> Cone
     requires { (slot < 130) × (length wires.now ≡ 8580) }
     ensures { result ≡ cone_in wires.now slot }
 {
-    let n = number(wires[66 * slot]);
-    let support = support_at(wires, slot);
-    let coefs = coefs_at(wires, slot);
-    let known = known_at(wires, slot);
+    let bytes = &wires[66 * slot..66 * slot + 66];
+    let mut known = [0; 32];
+    known.copy_from_slice(&bytes[34..]);
     Cone {
-        n,
-        support,
-        coefs,
+        n: bytes[0] as usize,
+        support: std::array::from_fn(|i| 256 * (bytes[2 + 3 * i] as usize)
+            + (bytes[3 + 3 * i] as usize)),
+        coefs: std::array::from_fn(|i| coef_of(bytes[1 + 3 * i])),
         known,
     }
 }
 
 // One source: three bytes.
 fn put_term(wires: &mut [u8; 8580], at: usize, coef: i64, node: usize)
-    requires { (at + 2 < 8580) × ((length wires.old ≡ 8580) × ((nat_abs coef ≤ 31) × (node < 672))) }
+    requires { (at + 2 < 8580) × ((nat_abs coef ≤ 31) × (node < 672)) }
     ensures { wires.new ≡ with_term at coef node wires.old }
 {
     wires[at] = (coef + 32) as u8;
@@ -89,27 +46,15 @@ fn put_term(wires: &mut [u8; 8580], at: usize, coef: i64, node: usize)
     wires[at + 2] = (node % 256) as u8;
 }
 
-// The first n sources.
-fn put_terms(wires: &mut [u8; 8580], slot: usize, n: usize, support: [usize; 11], coefs: [i64; 11])
-    requires { (slot < 130) × ((length wires.old ≡ 8580) × ((n ≤ 11) × ((Within 31 (take n coefs)) × ((i : ℕ) → get_or (take n support) i 0 < 672)))) }
-    ensures { TermsPut wires.old slot n support coefs wires.new }
+// The sources.
+fn put_terms(wires: &mut [u8; 8580], slot: usize, sources: &[usize], coefs: &[i64])
+    requires at { slot < 130 }
+    requires few { (length sources.now ≤ 11) × (length coefs.now ≡ length sources.now) }
+    requires small { Within 31 coefs.now × ((i : ℕ) → get_or sources.now i 0 < 672) }
+    ensures { TermsPut wires.old slot (length sources.now) sources.now coefs.now wires.new }
 {
-    let mut i = 0;
-    while i < n {
-        put_term(wires, 66 * slot + 1 + 3 * i, coefs[i], support[i]);
-        i += 1;
-    }
-}
-
-// The truth at each value.
-fn put_known(wires: &mut [u8; 8580], slot: usize, known: [u8; 32])
-    requires { (slot < 130) × (length wires.old ≡ 8580) }
-    ensures { KnownPut wires.old slot 32 known wires.new }
-{
-    let mut i = 0;
-    while i < 32 {
-        wires[66 * slot + 34 + i] = known[i];
-        i += 1;
+    for (i, &source) in sources.iter().enumerate() {
+        put_term(wires, 66 * slot + 1 + 3 * i, coefs[i], source);
     }
 }
 
@@ -118,11 +63,8 @@ pub fn put_cone(wires: &mut [u8; 8580], slot: usize, c: Cone)
     requires { (slot < 130) × ((length wires.old ≡ 8580) × IsCone c) }
     ensures { IsPut wires.old slot c wires.new }
 {
-    let n = c.n;
-    let support = c.support;
-    let coefs = c.coefs;
-    let known = c.known;
-    wires[66 * slot] = n as u8;
-    put_terms(wires, slot, n, support, coefs);
-    put_known(wires, slot, known);
+    let at = 66 * slot;
+    wires[at] = c.n as u8;
+    put_terms(wires, slot, c.sources(), c.coefficients());
+    wires[at + 34..at + 66].copy_from_slice(&c.known);
 }

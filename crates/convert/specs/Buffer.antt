@@ -1,25 +1,25 @@
 -- The answer: the text, or 11 where the buffer is too short.
+use Rattle.std.specs.Prelude as P
 use Rattle.std.specs.Prelude.{◌≡◌, List, [], ◌++◌, ℕ, ◌≤◌, ◌<◌, take, drop}
 use Rattle.std.proofs.Math.Path.{refl}
 use Rattle.std.proofs.Common.{arith}
 use borrow.Author.Tests.{lt-ltb, le-ltb}
 use Rattle.std.proofs.Math.ListN.{length}
-use Rattle.rules.specs.declared.MapReply.TheVariants as Reply
 use Rattle.rules.specs.Converter.{answer_text}
 use Rattle.rules.specs.Form.{Good}
 use Rattle.rules.specs.Mapper.{map_reply}
-use Rattle.rules.specs.Outcome.{outcome}
+use Rattle.rules.specs.Outcome.{refused, outcome}
 use Rattle.lines.specs.Front.{untouched, untouched-length, text_over}
 use Rattle.lines.specs.Put.{Put}
 
 module _ (t : List ℕ) (n : ℕ) (none : List ℕ) (p : Put 0 t [] n none) (before : List ℕ) where
-  pub answer_short : length (none ++ before) < n → outcome (map_reply (Reply.Refused 11 0)) (none ++ before) ≡ answer_text before (Good t)
-  unfolding answer_text map_reply
+  pub answer_short : length (none ++ before) < n → outcome (refused 11 0) (none ++ before) ≡ answer_text before (Good t)
+  unfolding answer_text
   answer_short h = rw (untouched t n none p before, lt-ltb (length before) (length t) (omega (arith, untouched-length t n none p before, p.place))) refl
 
   pub answer-written : (h : n ≤ length (none ++ before)) (next : ℕ) (after : List ℕ) → Put 0 t (take n (none ++ before)) next after
-      → outcome (map_reply (Reply.Written n)) (after ++ drop n (none ++ before)) ≡ answer_text before (Good t)
-  unfolding answer_text map_reply
+      → outcome (map_reply (P.Ok n)) (after ++ drop n (none ++ before)) ≡ answer_text before (Good t)
+  unfolding answer_text
   answer-written h next after q =
       let e : n ≡ length t = omega (arith, p.place) in
       rw (le-ltb (length before) (length t) (omega (arith, h, untouched-length t n none p before, p.place)), text_over t n none p before h next after q, e) refl

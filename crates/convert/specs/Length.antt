@@ -1,6 +1,6 @@
 -- How long a network's text can be: numbers below 1000, at most 200 bytes a node, 50 an output.
 use mathlib.Core.List.{List, [], ◌∷◌, ◌++◌, map}
-use Rattle.std.specs.Prelude.{ℕ, zero, suc, ◌+◌, ◌*◌, ◌<◌, ◌≤◌, ◌^◌, eqb, ℤ, pos, negsuc, nat_abs, length, get_or}
+use Rattle.std.specs.Prelude.{ℕ, zero, suc, ◌+◌, ◌*◌, ◌<◌, ◌≤◌, ◌^◌, ℤ, pos, negsuc, nat_abs, length, get_or, Option, Some, None}
 use native.Mathlib.Omega.{arith}
 use Rattle.std.proofs.Math.ListN.{length-append}
 use Rattle.std.proofs.lemmas.List.{length-map}
@@ -23,7 +23,7 @@ use Rattle.nodes.specs.View.{Fine, FineTerms}
 use Rattle.lines.specs.Lines.{net_text}
 use Rattle.lines.specs.Lines2.{net2_text, many_text, table_text}
 use Rattle.writer.specs.Live.{new_number, new_term, new_node}
-use Rattle.writer2.specs.Stream.{closing, opening, piece, open_behind, stream}
+use Rattle.writer2.specs.Stream.{closing, open_on, opening, piece, open_behind, stream}
 
 abbrev pub LimitFits : Limit → Type 0
 LimitFits Unlimited = Unit {0}
@@ -121,15 +121,15 @@ Centred P (Input g) = Unit {0}
 Centred P (Linear c ts) = Unit {0}
 Centred P (Bootstrap j table) = centre_of P table ≤ 2
 
-closing-length : (o : ℕ) → length (closing o) ≤ 2
+closing-length : (o : Option ℕ) → length (closing o) ≤ 2
 unfolding closing
-closing-length zero = omega arith
-closing-length (suc o) = omega arith
+closing-length None = omega arith
+closing-length (Some j) = omega arith
 
-opening-length : (o j : ℕ) → j < 1000 → length (opening o j) ≤ 11
+opening-length : (o : Option ℕ) (j : ℕ) → j < 1000 → length (opening o j) ≤ 11
 unfolding opening many_text
 opening-length o j h =
-    if_both (λ (l : List ℕ). length l ≤ 11) (eqb o (suc j)) (omega arith)
+    if_both (λ (l : List ℕ). length l ≤ 11) (open_on o j) (omega arith)
     (omega (arith, length-append (closing o) (bytes "(many " ++ digits j), closing-length o, three_digits j h))
 
 table_length : (table : List ℕ) (c : ℕ) → length table ≤ 32 → c ≤ 2 → length (table_text table c) ≤ 50
@@ -148,14 +148,14 @@ pub record Fit (P : ℕ) (n : LutNode) : Type 0 where
   pub small : Small n
   pub centred : Centred P n
 
-piece-length : (P o : ℕ) (n : LutNode) → Small n → Centred P n → length (piece P o n) ≤ 202
+piece-length : (P : ℕ) (o : Option ℕ) (n : LutNode) → Small n → Centred P n → length (piece P o n) ≤ 202
 unfolding piece Centred Small
 piece-length P o (Input g) s c = omega (arith, length-append (closing o) (node_text (Input g)), closing-length o, node-length (Input g) s)
 piece-length P o (Linear k ts) s c = omega (arith, length-append (closing o) (node_text (Linear k ts)), closing-length o, node-length (Linear k ts) s)
 piece-length P o (Bootstrap j table) s c =
     omega (arith, length-append (opening o j) (table_text table (centre_of P table)), opening-length o j s.0, table_length table (centre_of P table) s.1 c)
 
-pub stream-length : (P o : ℕ) (ns : List LutNode) → Each (Fit P) ns → length (stream P o ns) ≤ 202 * length ns + 2
+pub stream-length : (P : ℕ) (o : Option ℕ) (ns : List LutNode) → Each (Fit P) ns → length (stream P o ns) ≤ 202 * length ns + 2
 unfolding stream
 stream-length P o [] s = omega (arith, closing-length o)
 stream-length P o (n ∷ ns) s =

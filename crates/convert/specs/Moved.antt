@@ -1,26 +1,25 @@
 -- The writers' numbers are a renumbering.
-use Rattle.std.specs.Prelude.{◌≡◌, ℕ, suc, ◌+◌, ◌*◌, ◌<◌, ◌≤◌, length}
-use Rattle.std.proofs.Math.Path.{refl, sym, ap, ap₂}
-use Rattle.std.proofs.Common.{subst, ◌∙◌, add-zero, zero-add, lt-ltb, le-ltb, ne_eqb}
+use Rattle.std.specs.Prelude.{◌≡◌, false, ℕ, zero, suc, ◌+◌, ◌<◌, ◌≤◌, length, All}
+use Rattle.std.proofs.Math.Path.{refl, ap, ap₂}
+use Rattle.std.proofs.Common.{subst, ◌∙◌, add-zero, zero-add, ne_eqb}
+use Rattle.std.proofs.lemmas.Bool.{leb-false}
 use mathlib.Core.List.{List, [], ◌∷◌, map}
-use Rattle.std.proofs.Math.Logic.{⊎_elim}
 use native.Mathlib.Omega.{arith}
 use Rattle.std.proofs.Math.ListN.{get_or}
-use Rattle.laws.specs.Tabulate.{tabulate_same, map-tabulate}
-use Rattle.laws.specs.Test.{lt_or_le}
 use Rattle.rules.specs.declared.Wire.{Wire}
 use Rattle.rules.specs.declared.Wire.TheVariants.{Const, Node}
 use Rattle.rules.specs.Circuit.{Output}
+use Rattle.rules.specs.CircuitText.{no_node}
 use Rattle.rules.specs.Network.{Term, LutNode, Input, Linear, Bootstrap, node_at}
 use Rattle.rules.specs.Regroup.{moved_term, moved_node, moved_wire, moved_output}
 use Rattle.rules.specs.Store.{needs}
-use Rattle.lut.specs.Ports.{signal_wire, output_at, port_output}
+use Rattle.forms.specs.declared.Output as O
+use Rattle.forms.specs.Forms.{output_of}
 use Rattle.nodes.specs.Nodes.{source_before}
 use Rattle.nodes.specs.View.{node_of, store_of, Fine, FineTerms, IsStore, at_store, store_length}
 use Rattle.writer.specs.Live.{new_number, new_term, new_node, live_from, live_nodes, Ready, Sourced}
-use Rattle.writer.specs.Outputs.{new_wire, live_output, live_outputs, Signalled, Ported}
-use Rattle.network.specs.View.{outputs_of, IsSignal, Holds}
-use Rattle.network_judge.specs.declared.Header.{Header}
+use Rattle.writer.specs.Outputs.{new_wire, live_outputs, IsLive, AllLive}
+use Rattle.network.specs.View.{GoodOutput}
 
 -- `live` has each node's new number and one more.
 pub record Renames (live : List ℕ) (to : ℕ → ℕ) (count : ℕ) : Type 0 where
@@ -28,10 +27,10 @@ pub record Renames (live : List ℕ) (to : ℕ → ℕ) (count : ℕ) : Type 0 w
   pub at : (j : ℕ) → j < count → get_or live j 0 ≡ to j + 1
   pub near : (j : ℕ) → j < count → to j ≤ 672
 
--- the ports in a longer array
-pub record Widened (ports wide : List ℕ) : Type 0 where
-  pub long : length wide ≡ 192
-  pub same : (j : ℕ) → j < 160 → get_or wide j 0 ≡ get_or ports j 0
+-- the first n are their numbers and one more
+pub record Counted (n : ℕ) (live : List ℕ) : Type 0 where
+  pub long : length live ≡ 672
+  pub at : (j : ℕ) → j < n → get_or live j 0 ≡ j + 1
 
 module _ {live : List ℕ} {to : ℕ → ℕ} {count : ℕ} (r : Renames live to count) where
   pub new-number : (j : ℕ) → j < count → new_number live j ≡ to j
@@ -52,14 +51,18 @@ module _ {live : List ℕ} {to : ℕ → ℕ} {count : ℕ} (r : Renames live to
   moved_node_lem i h (Linear c ts) f = ap (Linear c) (moved_terms i h ts f.2)
   moved_node_lem i h (Bootstrap j table) f = ap (λ k. Bootstrap k table) (new-number j (let q = f.0 in omega arith))
 
-  moved_wire_lem : (n : ℕ) → IsSignal count n → new_wire live n ≡ moved_wire to (signal_wire n)
-  unfolding new_wire signal_wire moved_wire
-  moved_wire_lem n s =
-      ⊎_elim (λ (h : n < 1000). rw (lt-ltb n 1000 h) (ap Node (new-number n (s.node h)))) (λ (h : 1000 ≤ n). rw (le-ltb n 1000 h) refl) (lt_or_le n 1000)
+  pub near_node : (i : ℕ) → no_node count (Node i) ≡ false → i < count
+  unfolding no_node
+  near_node i s = leb-false count i s
 
-  pub signalled : count ≤ 672 → (n : ℕ) → IsSignal count n → Signalled live n
-  signalled m n s =
-      record { long = r.long; most = s.most; node = λ h. let k = s.node h in let e = r.at n k in (omega arith, omega arith) }
+  moved_wire_lem : (w : Wire) → no_node count w ≡ false → new_wire live w ≡ moved_wire to w
+  unfolding moved_wire
+  moved_wire_lem (Const b) s = refl
+  moved_wire_lem (Node i) s = ap Node (new-number i (near_node i s))
+
+  live_wire : count ≤ 672 → (w : Wire) → no_node count w ≡ false → IsLive live w
+  live_wire m (Const b) s = tt
+  live_wire m (Node i) s = let l = near_node i s in let e = r.at i l in (r.long, omega arith, omega arith)
 
   pub sourced : {bytes : List ℕ} → IsStore bytes count → Sourced live bytes count
   unfolding Ready
@@ -74,35 +77,19 @@ module _ {live : List ℕ} {to : ℕ → ℕ} {count : ℕ} (r : Renames live to
             omega arith;
       }
 
--- ---- The outputs.
+  -- ---- The outputs.
 
-module _ {live : List ℕ} {to : ℕ → ℕ} {text nodes ports wide : List ℕ} {h : Header} (r : Renames live to h.count) (w : Widened ports wide) (o : Holds text nodes ports h) where
-  place : (i k : ℕ) → i < h.outputs → k ≤ 2 → get_or wide (64 + 3 * i + k) 0 ≡ get_or ports (64 + 3 * i + k) 0
-  place i k l m = w.same (64 + 3 * i + k) (let f = o.few_outputs in omega arith)
+  pub outputs-live : count ≤ 672 → (os : List O.Output) → All (GoodOutput count) os → AllLive live (map output_of os)
+  outputs-live m [] a k d h = absurd (omega arith)
+  outputs-live m (o ∷ os) a zero d h = live_wire m o.wire (a 0 o (omega arith)).known
+  outputs-live m (o ∷ os) a (suc k) d h = outputs-live m os (λ j e l. a (suc j) e (omega arith)) k d (omega arith)
 
-  start : (i : ℕ) → i < h.outputs → get_or wide (64 + 3 * i) 0 ≡ get_or ports (64 + 3 * i) 0
-  start i l = w.same (64 + 3 * i) (let f = o.few_outputs in omega arith)
-
-  pub ported : Ported live wide (length text) h.outputs
-  ported =
-      record {
-        long = w.long;
-        few = o.few_outputs;
-        name = λ i l. rw (start i l, place i 1 l (omega arith)) (let n = o.name i l in (n.later, n.inside));
-        signal = λ i l. rw (place i 2 l (omega arith)) (signalled r o.store.most _ (o.signal i l));
-      }
-
-  moved_output_lem : (i : ℕ) → i < h.outputs → live_output live text wide i ≡ moved_output to (port_output text ports i)
-  unfolding live_output port_output moved_output output_at
-  moved_output_lem i l =
-      rw (start i l, place i 1 l (omega arith), place i 2 l (omega arith))
-      (ap {B = Output} (λ (v : Wire). output_at text (get_or ports (64 + 3 * i) 0) (get_or ports (64 + 3 * i + 1) 0) v) (moved_wire_lem r (get_or ports (64 + 3 * i + 2) 0) (o.signal i l)))
-
-  pub moved_outputs : live_outputs live text wide h.outputs ≡ map (moved_output to) (outputs_of text ports h.outputs)
-  unfolding live_outputs outputs_of
-  moved_outputs =
-      tabulate_same h.outputs (live_output live text wide) (λ i. moved_output to (port_output text ports i)) moved_output_lem
-      ∙ sym (map-tabulate (moved_output to) h.outputs (port_output text ports))
+  pub moved_outputs : (os : List O.Output) → All (GoodOutput count) os → live_outputs live (map output_of os) ≡ map (moved_output to) (map output_of os)
+  unfolding live_outputs moved_output
+  moved_outputs [] a = refl
+  moved_outputs (o ∷ os) a =
+      ap₂ {C = List Output} (λ w l. record { name = o.name.now; wire = w } ∷ l) (moved_wire_lem o.wire (a 0 o (omega arith)).known)
+      (moved_outputs os (λ j e l. a (suc j) e (omega arith)))
 
 -- ---- Numbers that stay.
 
@@ -142,6 +129,9 @@ all_live live i (x ∷ xs) p q =
     rw (ne_eqb (get_or live i 0) 0 z)
     (ap₂ {C = List LutNode} (λ y l. y ∷ l) (q 0 (omega arith))
     (all_live live (i + 1) xs (λ k l. let e : i + suc k ≡ i + 1 + k = omega arith in subst (λ v. 0 < get_or live v 0) e (p (suc k) (omega arith))) (λ k l. q (suc k) (omega arith))))
+
+pub counted_stays : {live : List ℕ} {count : ℕ} → count ≤ 672 → Counted 672 live → Renames live stays count
+counted_stays h c = record { long = c.long; at = λ j l. c.at j (omega arith); near = λ j l. omega arith }
 
 pub stay_same : {live bytes : List ℕ} {count : ℕ} → Renames live stays count → IsStore bytes count → (i : ℕ) → i < count → new_node live (node_of bytes i) ≡ node_of bytes i
 stay_same {live} {bytes} {count} r s i h = moved_node_lem r i (omega arith) (node_of bytes i) (s.fine i h) ∙ stay_node (node_of bytes i)

@@ -1,98 +1,189 @@
--- The tables of a `many` line put one by one.
-use Rattle.std.specs.Prelude.{◌≡◌, refl, ℕ, ◌+◌, ◌-◌, ◌<◌, ◌≤◌, take, drop}
-use Rattle.std.proofs.Math.Path.{sym, ap}
-use Rattle.std.proofs.Common.{◌∙◌, arith}
-use Rattle.std.proofs.Math.Bool.{true}
-use mathlib.Core.List.{List, [], ◌∷◌, ◌++◌, map, append_assoc, append-nil}
-use Rattle.std.proofs.Math.ListN.{length}
-use Rattle.rules.specs.Edition2.{Table, table_node}
+-- The tables of a `many` line put one by one, and a line of edition 2 taken.
+use Rattle.std.specs.Prelude.{◌≡◌, Some, None, Result, Ok, Err, OnOk, refl, true, false, List, [], ◌∷◌, ◌++◌, map, ℕ, ◌+◌, ◌<◌, ◌≤◌, min, length}
+use Rattle.std.proofs.Common.{sym, ap, subst, ◌∙◌, arith, append_assoc, append-nil, ne_eqb}
+use borrow.Author.Tests.{leb-false, ltb-false}
+use Rattle.std.proofs.Math.Option.{Option, none, some}
+use Rattle.laws.specs.Test.{is_some}
+use Rattle.rules.specs.Builder.{table_limits}
+use Rattle.rules.specs.Edition2 as C
+use Rattle.rules.specs.Edition2.{Line2, Plain, Many, line2, table_node, not_fitting, not_turning, other_centre, text_conditions2, safety_conditions2, conditions2, with_line2}
 use Rattle.rules.specs.Form.{bits_from}
 use Rattle.rules.specs.Network.{LutNode, Bootstrap}
-use Rattle.rules.specs.NetworkText.{NetPrefix, NodeLine, with_network_line}
+use Rattle.rules.specs.NetworkText.{Net, NetPrefix, NetworkLine, NetLine, NodeLine, network_line, started, unknown, text_conditions, safety_conditions, admission_conditions, with_network_line}
+use Rattle.rules.specs.declared.Reason.{Reason}
+use Rattle.rules.specs.Refusal.{number_met}
 use Rattle.rules.specs.Rotation.{centre_of}
+use Rattle.text.specs.Judged.{lowest, unmet}
 use Rattle.lut.specs.Store.{Adds}
-use Rattle.nodes.specs.View.{IsStore}
-use Rattle.network_bounds.specs.Table.{table_length}
-use Rattle.network_judge.specs.declared.Header.{Header}
-use Rattle.network_text.specs.Lines.{TablePlace}
-use Rattle.many_text.specs.Tables.{table_at, tables_from, ReadsTable, no_table, table_here}
-use Rattle.many_text.specs.Walk.{GoodTables, here_place, good_next}
-use Rattle.many_text.specs.declared.table.TableRead.{TableRead}
-use Rattle.many_text.specs.declared.table.TableRead.TheVariants.{At, Nothing}
-use Rattle.network.specs.Added.{Added, boot_added}
-use Rattle.network.specs.Put.{with_node}
-use Rattle.network.specs.View.{prefix_of, Holds}
+use Rattle.nodes.specs.View.{IsStore, store_length}
+use Rattle.network_text.specs.Lines.{net_of, TableBits}
+use Rattle.forms.specs.declared.Net as F
+use Rattle.network_judge.specs.View.{prefix_of, net_so_far}
+use Rattle.network_judge.specs.declared.Prefix.{Prefix}
+use Rattle.many_text.specs.Lines.{refusal2, plain_of, ManyRead}
+use Rattle.many_text.specs.Tables.{tables_in, spaced_table, GoodTables, tables_none, tables_more, good_more, table_good}
+use Rattle.many_judge.specs.Conditions.{room_conditions, many_conditions}
+use Rattle.network.specs.Added.{Added, kept, net_added, boot_added}
+use Rattle.network.specs.Put.{Has, period}
+use Rattle.network.specs.Verdict.{conditions_of, refusal, with_form, exact_or_unknown}
+use Rattle.network.specs.View.{HoldsSoFar}
+use Rattle.edition.specs.Reading.{with_form2}
 
 -- The lines so far, with these tables on node i.
-unfoldable pub with_tables : ℕ → List Table → NetPrefix → NetPrefix
+unfoldable pub with_tables : ℕ → List C.Table → NetPrefix → NetPrefix
 with_tables i ts w = record { net = w.net; nodes = w.nodes ++ map (table_node i) ts; outputs = w.outputs }
 
 -- There is room for the tables, and the node is there.
-pub record TablesReady (h : Header) (nodes l : List ℕ) (i at : ℕ) : Type 0 where
-  pub store : IsStore nodes h.count
-  pub good : GoodTables l at
-  pub room : h.count + length (tables_from l at) ≤ 672
-  pub known : i < h.count
+pub record TablesReady (nodes : List ℕ) (w : Prefix) (i : ℕ) (s : List ℕ) : Type 0 where
+  pub holds : HoldsSoFar nodes w
+  pub good : GoodTables s
+  pub room : w.count + length (tables_in s) ≤ 672
+  pub known : i < w.count
 
--- The arrays stand for the lines with the tables.
-pub record TablesPut (h : Header) (nodes l : List ℕ) (i at : ℕ) (s : Header) (nodes₁ : List ℕ) : Type 0 where
-  pub long : length nodes₁ ≡ 27552
-  pub put : (text ports : List ℕ) → Holds text nodes ports h
-      → (prefix_of text nodes₁ ports s ≡ with_tables i (tables_from l at) (prefix_of text nodes ports h)) × Holds text nodes₁ ports s
+pub record TablesPut (nodes : List ℕ) (w : Prefix) (i : ℕ) (ts : List C.Table) (after : List ℕ) (v : Prefix) : Type 0 where
+  pub prefix : prefix_of after v ≡ with_tables i ts (prefix_of nodes w)
+  pub holds : HoldsSoFar after v
 
--- The tables up to k were put.
-pub record Puts (h : Header) (nodes l : List ℕ) (i at : ℕ) (s : Header) (nodes₁ : List ℕ) (k : ℕ) : Type 0 where
-  pub ready : TablesReady s nodes₁ l i k
-  pub put : (text ports : List ℕ) → Holds text nodes ports h
-      → (with_tables i (tables_from l k) (prefix_of text nodes₁ ports s) ≡ with_tables i (tables_from l at) (prefix_of text nodes ports h)) × Holds text nodes₁ ports s
+-- Those before s were put.
+pub record Puts (nodes : List ℕ) (w : Prefix) (i : ℕ) (ts : List C.Table) (p : ℕ) (s after : List ℕ) (v : Prefix) : Type 0 where
+  pub ready : TablesReady after v i s
+  pub same : with_tables i (tables_in s) (prefix_of after v) ≡ with_tables i ts (prefix_of nodes w)
+  pub period : p ≡ period v.net
 
-pub puts_start : {h : Header} {nodes l : List ℕ} {i at : ℕ} → TablesReady h nodes l i at → Puts h nodes l i at h nodes at
-puts_start r = record { ready = r; put = λ text ports k. (refl, k) }
+pub puts_start : (nodes : List ℕ) (w : Prefix) (i p : ℕ) (s : List ℕ) → TablesReady nodes w i s → p ≡ period w.net → Puts nodes w i (tables_in s) p s nodes w
+puts_start nodes w i p s r e = record { ready = r; same = refl; period = e }
 
 no-tables : (i : ℕ) (w : NetPrefix) → with_tables i [] w ≡ w
 unfolding with_tables
 no-tables i w = ap (λ (ns : List LutNode). record { net = w.net; nodes = ns; outputs = w.outputs }) (append-nil w.nodes)
 
-one_table : (i : ℕ) (t : Table) (ts : List Table) (w : NetPrefix) → with_tables i (t ∷ ts) w ≡ with_tables i ts (with_network_line 0 w (NodeLine (table_node i t)))
+one_table : (i : ℕ) (t : C.Table) (ts : List C.Table) (w : NetPrefix) → with_tables i (t ∷ ts) w ≡ with_tables i ts (with_network_line 0 w (NodeLine (table_node i t)))
 unfolding with_tables with_network_line
 one_table i t ts w = ap (λ (ns : List LutNode). record { net = w.net; nodes = ns; outputs = w.outputs }) (sym (append_assoc w.nodes (table_node i t ∷ []) (map (table_node i) ts)))
 
-module _ {h : Header} {nodes l : List ℕ} {i at : ℕ} {s : Header} {nodes₁ : List ℕ} {k : ℕ} (p : Puts h nodes l i at s nodes₁ k) {r : TableRead} (R : ReadsTable l k r) where
-  pub puts_all : r ≡ Nothing → TablesPut h nodes l i at s nodes₁
-  puts_all q =
+module _ (nodes : List ℕ) (w : Prefix) (i : ℕ) (ts : List C.Table) (p : ℕ) (s after : List ℕ) (v : Prefix) (k : Puts nodes w i ts p s after v) where
+  pub puts_all : none ≡ spaced_table s → TablesPut nodes w i ts after v
+  puts_all e =
       record {
-        long = p.ready.store.long;
-        put = λ text ports H.
-            let x = p.put text ports H in
-            (sym (no-tables i (prefix_of text nodes₁ ports s)) ∙ ap (λ ts. with_tables i ts (prefix_of text nodes₁ ports s)) (sym (no_table R q).0) ∙ x.0, x.1);
+        prefix = sym (no-tables i (prefix_of after v)) ∙ ap (λ us. with_tables i us (prefix_of after v)) (sym (tables_none s e)) ∙ k.same;
+        holds = k.ready.holds;
       }
 
-  module _ {a e c z : ℕ} (q : r ≡ At a e c z) where
-    some_left : s.count < 672
-    some_left = let n = ap (λ (ts : List Table). length ts) (table_here R q).0 in omega (arith, p.ready.room)
+  module _ (b : List ℕ) (c : ℕ) (rest : List ℕ) (e : some (record { value = record { bits = bits_from b; centre = c }; rest = rest }) ≡ spaced_table s) where
+    some_left : v.count < 672
+    some_left = let n = ap (λ (us : List C.Table). length us) (tables_more s _ rest e) in omega (arith, k.ready.room)
 
-    pub puts_ready : IsStore nodes₁ s.count × (s.count < 672) × (i < s.count) × TablePlace l a e
-    puts_ready = (p.ready.store, some_left, p.ready.known, here_place p.ready.good R q)
+    pub puts_ready : IsStore after v.count × (v.count < 672) × (i < v.count) × TableBits b
+    puts_ready = ((kept after v k.ready.holds).store, some_left, k.ready.known, table_good s b c rest e k.ready.good)
 
-    pub puts_next : {s₂ : Header} {nodes₂ : List ℕ} → Adds (centre_of s.p (bits_from (take (e - a) (drop a l)))) (Bootstrap i (bits_from (take (e - a) (drop a l)))) nodes₁ s.count nodes₂ → s₂ ≡ with_node s
-        → Puts h nodes l i at s₂ nodes₂ z
-    unfolding with_node
-    puts_next {s₂} {nodes₂} A f =
-        rw f
-        (record {
+    pub puts_next : (after₂ : List ℕ) (v₂ : Prefix) → Adds (centre_of p (bits_from b)) (Bootstrap i (bits_from b)) after v.count after₂
+        → Has v₂ v.net (v.count + 1) v.inputs v.outputs.items → Puts nodes w i ts p rest after₂ v₂
+    puts_next after₂ v₂ a h =
+        let g = boot_added true after v k.ready.holds after₂ v₂ i b (table_good s b c rest e k.ready.good) (omega (arith, k.ready.known)) h (subst (λ q. Adds (centre_of q (bits_from b)) (Bootstrap i (bits_from b)) after v.count after₂) k.period a) in
+        record {
           ready = record {
-            store = A.still;
-            good = good_next p.ready.good R q;
-            room = let n = ap (λ (ts : List Table). length ts) (table_here R q).0 in omega (arith, p.ready.room);
-            known = omega (arith, p.ready.known);
+            holds = g.holds;
+            good = good_more s _ rest e k.ready.good;
+            room = let n = ap (λ (us : List C.Table). length us) (tables_more s _ rest e) in omega (arith, k.ready.room, h.count);
+            known = omega (arith, k.ready.known, h.count);
           };
-          put = λ text ports H.
-              let x = p.put text ports H in
-              let o = here_place p.ready.good R q in
-              let b : Added text nodes₁ ports s (NodeLine (Bootstrap i (bits_from (take (e - a) (drop a l))))) (with_node s) nodes₂ ports =
-              boot_added true x.1 i (bits_from (take (e - a) (drop a l))) nodes₂ (rw (table_length o) o.some) A (λ z. let n = x.1.unstarted z in omega (arith, p.ready.known)) in (
-                ap (with_tables i (tables_from l z)) (b.prefix 0) ∙ sym (one_table i (table_at l a e c) (tables_from l z) (prefix_of text nodes₁ ports s))
-                    ∙ ap (λ ts. with_tables i ts (prefix_of text nodes₁ ports s)) (sym (table_here R q).0) ∙ x.0,
-                b.holds,
-              );
-        })
+          same = ap (with_tables i (tables_in rest)) (g.prefix 0)
+              ∙ sym (one_table i (record { bits = bits_from b; centre = c }) (tables_in rest) (prefix_of after v))
+              ∙ ap (λ us. with_tables i us (prefix_of after v)) (sym (tables_more s _ rest e))
+              ∙ k.same;
+          period = k.period ∙ sym (ap period h.net);
+        }
+
+-- ---- A `many` line's number is the definition's.
+
+module _ (w : NetPrefix) (few : length w.nodes ≤ 65536) {l : List ℕ} {i : ℕ} {s : List ℕ} {n : ℕ} (r : ManyRead l i s n) where
+  -- a number kept up to 65536 says which node it is
+  node_same : lowest (many_conditions w (min 65536 r.node) (tables_in s)) ≡ lowest (many_conditions w r.node (tables_in s))
+  unfolding many_conditions room_conditions safety_conditions2 lowest
+  node_same =
+      exact_or_unknown w.nodes few (λ x y. lowest (many_conditions w x (tables_in s)) ≡ lowest (many_conditions w y (tables_in s))) r.node (λ e. refl) (λ e f. rw (e, f))
+
+  meant : lowest (many_conditions w r.node (tables_in s)) ≡ refusal2 w (some (Many r.node (tables_in s)))
+  unfolding refusal2 conditions2 text_conditions2 many_conditions room_conditions lowest
+  meant = let q : length (tables_in s) ≡ 0 → ⊥ = λ f. r.some (sym r.count ∙ f) in rw (ne_eqb (length (tables_in s)) 0 q, r.good.short)
+
+  pub many_number : lowest (many_conditions w i (tables_in s)) ≡ refusal2 w (line2 l)
+  many_number = ap (λ x. lowest (many_conditions w x (tables_in s))) r.cap ∙ node_same ∙ meant ∙ ap (refusal2 w) (sym r.line)
+
+  -- a node of the lines so far is meant as it is
+  pub many_line : i < length w.nodes → line2 l ≡ some (Many i (tables_in s))
+  many_line k = let e : r.node ≡ i = omega (arith, r.cap) in r.line ∙ ap (λ x. some (Many x (tables_in s))) e
+
+-- what such a line has that meets no condition
+pub many_room : (w : NetPrefix) (i : ℕ) (ts : List C.Table) → lowest (many_conditions w i ts) ≡ 0 → (length w.nodes + length ts ≤ 672) × (i < length w.nodes)
+unfolding many_conditions room_conditions unknown
+many_room w i ts e =
+    let room = unmet _ _ (omega arith) (unmet _ _ (omega arith) (unmet _ _ (omega arith) e).1).1 in
+    (ltb-false 672 (length w.nodes + length ts) room.0, leb-false (length w.nodes) i (unmet _ _ (omega arith) room.1).0)
+
+pub tables_ready : (nodes : List ℕ) (w : Prefix) (i : ℕ) (s : List ℕ) → HoldsSoFar nodes w → GoodTables s → lowest (many_conditions (prefix_of nodes w) i (tables_in s)) ≡ 0
+    → TablesReady nodes w i s
+tables_ready nodes w i s h g e =
+    let r = rw (store_length nodes w.count) at (many_room (prefix_of nodes w) i (tables_in s) e) in
+    record { holds = h; good = g; room = r.0; known = r.1 }
+
+-- ---- The other lines.
+
+pub plain_refusal : (w : NetPrefix) (o : Option NetworkLine) → refusal true w o ≡ refusal2 w (plain_of o)
+unfolding refusal refusal2 plain_of conditions_of admission_conditions conditions2 text_conditions2 safety_conditions2
+plain_refusal w none = refl
+plain_refusal w (some l) = refl
+
+pub plain_form : (i : ℕ) (w : NetPrefix) (o : Option NetworkLine) → with_form i w o ≡ with_form2 i w (plain_of o)
+unfolding plain_of with_line2
+plain_form i w none = refl
+plain_form i w (some l) = refl
+
+-- `net2` stands before all other lines.
+module _ (w : NetPrefix) (n : Net) (t : table_limits n.p n.m ≡ true) where
+  pub net_met : started w ≡ true → 21 ≡ refusal2 w (some (Plain (NetLine n)))
+  unfolding refusal2 conditions2 text_conditions2 safety_conditions2 text_conditions safety_conditions lowest
+  net_met s = rw (t, s)
+
+  pub net_free : started w ≡ false → 0 ≡ refusal2 w (some (Plain (NetLine n)))
+  unfolding refusal2 conditions2 text_conditions2 safety_conditions2 text_conditions safety_conditions lowest
+  net_free s = rw (t, s)
+
+pub net_put : (nodes : List ℕ) (w v : Prefix) (n : F.Net) → table_limits n.p n.m ≡ true → w.net ≡ None → HoldsSoFar nodes w → Has v (Some n) w.count w.inputs w.outputs.items
+    → Added nodes w (NetLine (net_of n)) nodes v
+unfolding plain_of started
+net_put nodes w v n t e k h =
+    net_added true nodes w k nodes v n (plain_refusal (prefix_of nodes w) (some (NetLine (net_of n))) ∙ sym (net_free (prefix_of nodes w) (net_of n) t (ap (λ o. is_some (net_so_far o)) e))) (h, refl)
+
+-- ---- Each line, taken.
+
+module _ (r : Result (Unit {0}) Reason) (nodes l : List ℕ) (w : Prefix) (after : List ℕ) (v : Prefix) where
+  pub net_added2 : (n : F.Net) → line2 l ≡ some (Plain (NetLine (net_of n))) → OnOk r (Added nodes w (NetLine (net_of n)) after v)
+      → (j : ℕ) → OnOk r (prefix_of after v ≡ with_form2 j (prefix_of nodes w) (line2 l))
+  unfolding with_line2
+  net_added2 n e = by r
+    where
+      by : (x : Result (Unit {0}) Reason) → OnOk x (Added nodes w (NetLine (net_of n)) after v) → (j : ℕ) → OnOk x (prefix_of after v ≡ with_form2 j (prefix_of nodes w) (line2 l))
+      by (Ok a) h j = rw e (h.prefix j)
+      by (Err a) h j = tt
+
+  pub many_added : {i : ℕ} {s : List ℕ} {n : ℕ} → ManyRead l i s n → length (prefix_of nodes w).nodes ≤ 65536 → number_met r ≡ lowest (many_conditions (prefix_of nodes w) i (tables_in s))
+      → OnOk r (TablesPut nodes w i (tables_in s) after v) → (j : ℕ) → OnOk r (prefix_of after v ≡ with_form2 j (prefix_of nodes w) (line2 l))
+  unfolding with_line2 with_tables
+  many_added {i} {s} q few = by r
+    where
+      by : (x : Result (Unit {0}) Reason) → number_met x ≡ lowest (many_conditions (prefix_of nodes w) i (tables_in s)) → OnOk x (TablesPut nodes w i (tables_in s) after v)
+          → (j : ℕ) → OnOk x (prefix_of after v ≡ with_form2 j (prefix_of nodes w) (line2 l))
+      by (Ok a) e h j = rw (many_line (prefix_of nodes w) few q (many_room (prefix_of nodes w) i (tables_in s) (sym e)).1) h.prefix
+      by (Err a) e h j = tt
+
+  pub plain_added : line2 l ≡ plain_of (network_line l) → ((j : ℕ) → OnOk r (prefix_of after v ≡ with_form j (prefix_of nodes w) (network_line l)))
+      → (j : ℕ) → OnOk r (prefix_of after v ≡ with_form2 j (prefix_of nodes w) (line2 l))
+  plain_added e f j = by r (f j)
+    where
+      by : (x : Result (Unit {0}) Reason) → OnOk x (prefix_of after v ≡ with_form j (prefix_of nodes w) (network_line l)) → OnOk x (prefix_of after v ≡ with_form2 j (prefix_of nodes w) (line2 l))
+      by (Ok a) h = h ∙ plain_form j (prefix_of nodes w) (network_line l) ∙ ap (with_form2 j (prefix_of nodes w)) (sym e)
+      by (Err a) h = tt
+
+pub few_nodes : (nodes : List ℕ) (w : Prefix) → HoldsSoFar nodes w → length (prefix_of nodes w).nodes ≤ 65536
+few_nodes nodes w k = let most = (kept nodes w k).store.most in rw (store_length nodes w.count) (omega arith)

@@ -1,4 +1,5 @@
 -- The answers as numbers: what each place of the reply structs holds.
+use Rattle.std.specs.Prelude.{length}
 use Rattle.std.proofs.Math.Option.{Option, none, some}
 use Rattle.rules.specs.Builder.{TableAnswer}
 use Rattle.rules.specs.Outcome.{Answer, written, refused}
@@ -6,9 +7,7 @@ use Rattle.rules.specs.Admission.{Admission}
 use Rattle.rules.specs.Phase.{SlotAnswer}
 use Rattle.rules.specs.Runs.{RunAnswer, Numbered, NotBits, NoRoom, BreakOff, RunOutcome, ran}
 use Rattle.rules.specs.declared.Stats.{Stats}
-use Rattle.rules.specs.declared.SumAnswer.{SumAnswer}
-use Rattle.rules.specs.declared.SumReply.{SumReply}
-use Rattle.rules.specs.declared.SumReply.TheVariants as Sum
+use Rattle.rules.specs.SumReading.{SumReading, Shown, NoneGives, Refused, SumAnswer}
 use Rattle.exports.specs.declared.FbsReply.{FbsReply}
 use Rattle.exports.specs.declared.FbsAdmission.{FbsAdmission}
 use Rattle.exports.specs.declared.FbsSum.{FbsSum}
@@ -58,10 +57,10 @@ admission_numbers a =
     }
 
 -- A wanted sum that no bits give: 103, a number of ours, line 0.
-unfoldable pub sum_numbers : SumReply → Answer
-sum_numbers (Sum.Shown n) = written n
-sum_numbers Sum.NoneGives = refused 103 0
-sum_numbers (Sum.Refused k i) = refused k i
+unfoldable pub sum_numbers : SumReading → Answer
+sum_numbers (Shown bits) = written (length bits)
+sum_numbers NoneGives = refused 103 0
+sum_numbers (Refused k i) = refused k i
 
 unfoldable pub sum_places : SumAnswer → FbsSum
 sum_places a =

@@ -84,8 +84,7 @@ pub struct FbsSlot {
 pub extern "C" fn fbs_map(text: &[u8], out: &mut [u8]) -> FbsReply
     ensures { outcome (answer result) out.new ≡ mapper text.now out.old }
 {
-    let r = mapper::map(text, out);
-    map_numbers(r)
+    map_numbers(mapper::map(text, out))
 }
 
 // A network's text of either edition judged.
@@ -93,8 +92,7 @@ pub extern "C" fn fbs_map(text: &[u8], out: &mut [u8]) -> FbsReply
 pub extern "C" fn fbs_admit(text: &[u8]) -> FbsAdmission
     ensures { result ≡ admission_numbers (admission text.now) }
 {
-    let r = admission::admit(text);
-    admission_numbers(r)
+    admission_numbers(admission::admit(text))
 }
 
 // A network's text in the other edition.
@@ -102,8 +100,7 @@ pub extern "C" fn fbs_admit(text: &[u8]) -> FbsAdmission
 pub extern "C" fn fbs_convert(text: &[u8], out: &mut [u8]) -> FbsReply
     ensures { outcome (answer result) out.new ≡ converter text.now out.old }
 {
-    let r = convert::convert(text, out);
-    map_numbers(r)
+    map_numbers(convert::convert(text, out))
 }
 
 // A bootstrap table from rows, a value and a truth each, and its centre.
@@ -117,8 +114,7 @@ pub extern "C" fn fbs_build_table(
 ) -> FbsTable
     ensures { built (table_answer result) out.new ≡ builder p m values.now truths.now out.old }
 {
-    let r = builder::composed_bootstrap_table(p, m, values, truths, out);
-    builder_numbers(r)
+    builder_numbers(builder::composed_bootstrap_table(p, m, values, truths, out))
 }
 
 // A circuit run on a bit for each input.
@@ -126,8 +122,7 @@ pub extern "C" fn fbs_build_table(
 pub extern "C" fn fbs_run_circuit(text: &[u8], bits: &[u8], values: &mut [u8]) -> FbsReply
     ensures { ran (Numbered (answer result)) values.new ≡ numbered (run_circuit text.now bits.now values.old) }
 {
-    let r = circuit_run::run_circuit(text, bits, values);
-    run_numbers(r)
+    run_numbers(circuit_run::run_circuit(text, bits, values))
 }
 
 // A network run on a bit for each input.
@@ -135,8 +130,7 @@ pub extern "C" fn fbs_run_circuit(text: &[u8], bits: &[u8], values: &mut [u8]) -
 pub extern "C" fn fbs_run_network(text: &[u8], bits: &[u8], values: &mut [i64]) -> FbsReply
     ensures { ran (Numbered (answer result)) values.new ≡ numbered (run_network text.now bits.now values.old) }
 {
-    let r = network_run::run_network(text, bits, values);
-    run_numbers(r)
+    run_numbers(network_run::run_network(text, bits, values))
 }
 
 // The first bits for the nodes that a `lin` adds with which its sum is the value.
@@ -144,16 +138,7 @@ pub extern "C" fn fbs_run_network(text: &[u8], bits: &[u8], values: &mut [i64]) 
 pub extern "C" fn fbs_sum_reading(text: &[u8], node: usize, value: i32) -> FbsSum
     ensures { result ≡ sum_places (sum_answer (sum_reading text.now node value)) }
 {
-    let a = sum_reading::sum_reading(text, node, value);
-    let reply = a.reply;
-    let bits = a.bits;
-    let r = sum_numbers(reply);
-    FbsSum {
-        number: r.number,
-        line: r.line,
-        count: r.count,
-        bits,
-    }
+    sum_numbers(sum_reading::sum_reading(text, node, value))
 }
 
 // The slot where a value with an error is found.
@@ -161,6 +146,5 @@ pub extern "C" fn fbs_sum_reading(text: &[u8], node: usize, value: i32) -> FbsSu
 pub extern "C" fn fbs_find_slot(p: usize, value: i32, error: i32) -> FbsSlot
     ensures { result ≡ slot_numbers (slot_answer p value error) }
 {
-    let r = phase::slot(p, value, error);
-    slot_numbers(r)
+    slot_numbers(phase::slot(p, value, error))
 }

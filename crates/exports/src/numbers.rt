@@ -4,12 +4,37 @@ ghost use Rattle.rules.specs.Builder.{builder_reply};
 ghost use Rattle.rules.specs.Mapper.{map_reply};
 ghost use Rattle.rules.specs.Admission.{admit_reply};
 ghost use Rattle.rules.specs.Phase.{slot_reply};
+ghost use Rattle.rules.specs.Refusal.{reason_number};
 ghost use Rattle.rules.specs.Runs.{run_reply};
+ghost use Rattle.rules.specs.SumReading.{sum_reply};
 ghost use Rattle.rules.specs.Outcome.{written, refused};
-ghost use Rattle.exports.specs.Numbers.{answer, table_answer, run_numbers, admission_numbers, sum_numbers, slot_numbers};
+ghost use Rattle.exports.specs.Numbers.{answer, table_answer, run_numbers, admission_numbers, sum_places, slot_numbers};
+ghost use Rattle.sum_reading.specs.Reply.{FewShown};
 
-use crate::{FbsAdmission, FbsReply, FbsSlot, FbsTable};
-use rules::{AdmitReply, BuilderReply, MapReply, RunReply, SlotReply, SumReply};
+use crate::{FbsAdmission, FbsReply, FbsSlot, FbsSum, FbsTable};
+use rules::{Reason, Refusal, RunError, Shown, Stats, Table};
+
+// The statistics' places where there are none.
+const NO_STATS: Stats = Stats {
+    inputs: 0,
+    sums: 0,
+    boots: 0,
+    sources: 0,
+    longest: 0,
+    norm: 0,
+    outputs: 0,
+    depth: 0,
+    centre0: 0,
+    centre1: 0,
+    centre2: 0,
+};
+
+// In place of the call the 26 cases of the `as` would join in each proof.
+fn number_of(r: Reason) -> usize
+    ensures { result ≡ reason_number r }
+{
+    r as usize
+}
 
 fn accepted(count: usize) -> FbsReply
     ensures { answer result ≡ written count }
@@ -31,93 +56,117 @@ fn turned_away(number: usize, line: usize) -> FbsReply
     }
 }
 
-pub fn map_numbers(reply: MapReply) -> FbsReply
+pub fn map_numbers(reply: Result<usize, Refusal>) -> FbsReply
     ensures { answer result ≡ map_reply reply }
 {
     match reply {
-        MapReply::Written(count) => accepted(count),
-        MapReply::Refused(number, line) => turned_away(number, line),
+        Ok(written) => accepted(written),
+        Err(r) => turned_away(number_of(r.reason), r.line),
     }
 }
 
-pub fn builder_numbers(reply: BuilderReply) -> FbsTable
+pub fn builder_numbers(reply: Result<Table, Reason>) -> FbsTable
     ensures { table_answer result ≡ builder_reply reply }
 {
-    FbsTable {
-        number: builder::reply_number(reply),
-        line: 0,
-        count: builder::reply_count(reply),
-        centre: builder::reply_centre(reply),
+    match reply {
+        Ok(table) => FbsTable {
+            number: 0,
+            line: 0,
+            count: table.count,
+            centre: table.centre,
+        },
+        Err(reason) => FbsTable {
+            number: number_of(reason),
+            line: 0,
+            count: 0,
+            centre: 0,
+        },
     }
 }
 
 // Document 01 has no number for the last three: 100 to 102 are ours.
-pub fn run_numbers(reply: RunReply) -> FbsReply
+#[tactic(auto, unfolding(crate::specs::Numbers::run_numbers))]
+pub fn run_numbers(reply: Result<usize, RunError>) -> FbsReply
     ensures { answer result ≡ run_numbers (run_reply reply) }
 {
     match reply {
-        RunReply::Ran(count) => accepted(count),
-        RunReply::Unreadable(number, line) => turned_away(number, line),
-        RunReply::BadBits => turned_away(100, 0),
-        RunReply::ShortBuffer => turned_away(101, 0),
-        RunReply::BrokenOff => turned_away(102, 0),
+        Ok(count) => accepted(count),
+        Err(RunError::Unreadable(r)) => turned_away(number_of(r.reason), r.line),
+        Err(RunError::BadBits) => turned_away(100, 0),
+        Err(RunError::ShortBuffer) => turned_away(101, 0),
+        Err(RunError::BrokenOff) => turned_away(102, 0),
     }
 }
 
 // No document has a number for the second: 103 is ours.
-pub fn sum_numbers(reply: SumReply) -> FbsReply
-    ensures { answer result ≡ sum_numbers reply }
+#[tactic(auto, unfolding(crate::specs::Numbers::sum_numbers, crate::specs::Numbers::sum_places))]
+pub fn sum_numbers(reply: Result<Option<Shown>, Refusal>) -> FbsSum
+    requires { FewShown reply }
+    ensures { result ≡ sum_places (sum_reply reply) }
 {
     match reply {
-        SumReply::Shown(count) => accepted(count),
-        SumReply::NoneGives => turned_away(103, 0),
-        SumReply::Refused(number, line) => turned_away(number, line),
+        Ok(Some(shown)) => {
+            let bits = shown.bits;
+            FbsSum {
+                number: 0,
+                line: 0,
+                count: shown.count,
+                bits,
+            }
+        }
+        Ok(None) => FbsSum {
+            number: 103,
+            line: 0,
+            count: 0,
+            bits: [0; 11],
+        },
+        Err(r) => FbsSum {
+            number: number_of(r.reason),
+            line: r.line,
+            count: 0,
+            bits: [0; 11],
+        },
     }
 }
 
-pub fn slot_numbers(reply: SlotReply) -> FbsSlot
+pub fn slot_numbers(reply: Result<usize, Reason>) -> FbsSlot
     ensures { result ≡ slot_numbers (slot_reply reply) }
 {
-    FbsSlot {
-        number: phase::reply_number(reply),
-        line: 0,
-        slot: phase::reply_slot(reply),
+    match reply {
+        Ok(slot) => FbsSlot {
+            number: 0,
+            line: 0,
+            slot,
+        },
+        Err(reason) => FbsSlot {
+            number: number_of(reason),
+            line: 0,
+            slot: 0,
+        },
     }
 }
 
-pub fn admission_numbers(reply: AdmitReply) -> FbsAdmission
+#[tactic(auto, unfolding(crate::specs::Numbers::admission_numbers, crate::specs::Numbers::statistics))]
+pub fn admission_numbers(reply: Result<Stats, Refusal>) -> FbsAdmission
     ensures { result ≡ admission_numbers (admit_reply reply) }
 {
-    match reply {
-        AdmitReply::Admitted(stats) => FbsAdmission {
-            number: 0,
-            line: 0,
-            inputs: stats.inputs,
-            sums: stats.sums,
-            boots: stats.boots,
-            sources: stats.sources,
-            longest: stats.longest,
-            norm: stats.norm,
-            outputs: stats.outputs,
-            depth: stats.depth,
-            centre0: stats.centre0,
-            centre1: stats.centre1,
-            centre2: stats.centre2,
-        },
-        AdmitReply::Refused(number, line) => FbsAdmission {
-            number,
-            line,
-            inputs: 0,
-            sums: 0,
-            boots: 0,
-            sources: 0,
-            longest: 0,
-            norm: 0,
-            outputs: 0,
-            depth: 0,
-            centre0: 0,
-            centre1: 0,
-            centre2: 0,
-        },
+    let (number, line, stats) = match reply {
+        Ok(stats) => (0, 0, stats),
+        Err(r) => (number_of(r.reason), r.line, NO_STATS),
+    };
+    FbsAdmission {
+        number,
+        line,
+        inputs: stats.inputs,
+        sums: stats.sums,
+        boots: stats.boots,
+        sources: stats.sources,
+        longest: stats.longest,
+        norm: stats.norm,
+        outputs: stats.outputs,
+        depth: stats.depth,
+        centre0: stats.centre0,
+        centre1: stats.centre1,
+        centre2: stats.centre2,
     }
 }

@@ -1,89 +1,63 @@
--- The lines that both texts have.
-use Rattle.std.specs.Prelude.{◌≡◌, List, ℕ, ◌-◌, length, take, drop}
-use Rattle.std.proofs.Common.{sym, ap, subst, arith}
+-- The lines that both texts have: what the code's values stand for, and what was read.
+use Rattle.std.specs.Prelude.{◌≡◌, refl, List, ℕ}
+use Rattle.std.proofs.Common.{subst, sym}
 use Rattle.std.proofs.Math.Option.{Option, none, some}
 use Rattle.rules.specs.Circuit.{Name, Given, Output}
-use Rattle.rules.specs.declared.Wire.{Wire}
-use Rattle.rules.specs.Form.{Piece, in_line, out_line}
-use Rattle.forms.specs.declared.InRead.{InRead}
-use Rattle.forms.specs.declared.OutRead.{OutRead}
-use Rattle.text.specs.Capped.{capped, capped_none}
-use Rattle.text.specs.Name.{Named}
-use Rattle.text.specs.Reads.{Reads}
+use Rattle.rules.specs.Form.{Piece, name, weight, in_line, out_line}
+use Rattle.theorems.specs.LineBits.{Gives, onward_gives, then_gives, weight_gives}
 use Rattle.theorems.specs.Weights.{GoodWeight}
-use Rattle.forms.specs.Weight.{one_good}
+use Rattle.forms.specs.declared.Input as I
+use Rattle.forms.specs.declared.Output as O
+use Rattle.text.specs.Capped.{capped, exact_some}
+use Rattle.text.specs.Name.{Named, name_named}
 use Rattle.forms.specs.Wire.{cap_wire}
 
--- ---- `(in NAME)` and `(in NAME W)`
+-- `(in NAME)` and `(in NAME W)`
+abbrev pub given_of : I.Input → Given
+given_of i = record { name = i.name.now; weight = i.weight }
 
-abbrev pub in_from : InRead → ℕ
-in_from (InRead.At a b w e) = a
-in_from InRead.Nothing = 0
-
-abbrev pub in_to : InRead → ℕ
-in_to (InRead.At a b w e) = b
-in_to InRead.Nothing = 0
-
-abbrev pub in_weight : InRead → ℕ
-in_weight (InRead.At a b w e) = w
-in_weight InRead.Nothing = 1
-
-abbrev pub in_end : InRead → ℕ
-in_end (InRead.At a b w e) = e
-in_end InRead.Nothing = 0
-
--- An input whose name stands in s from a up to b.
-abbrev pub given_at : List ℕ → ℕ → ℕ → ℕ → Given
-given_at s a b w = record { name = take (b - a) (drop a s); weight = w }
-
-abbrev pub in_taken : List ℕ → InRead → Option (Piece Given)
-in_taken s (InRead.At a b w e) = some (record { value = given_at s a b w; rest = drop e s })
-in_taken s InRead.Nothing = none
-
-pub record ReadsIn (s : List ℕ) (at : ℕ) (r : InRead) : Type 0 where
-  pub reads : Reads (length s) (in_taken s r) (in_end r) (in_line (drop at s))
-  pub named : Named (length s) (in_from r) (in_to r)
-  pub weighed : GoodWeight (in_weight r)
-
-pub in_none : (s : List ℕ) (at : ℕ) → in_line (drop at s) ≡ none → ReadsIn s at InRead.Nothing
-in_none s at e = record { reads = record { same = sym e; inside = omega arith }; named = omega arith; weighed = one_good }
-
--- ---- `(out NAME WIRE)`
+-- `(out NAME WIRE)`
+abbrev pub output_of : O.Output → Output
+output_of o = record { name = o.name.now; wire = o.wire }
 
 unfoldable pub cap_output : Output → Output
 cap_output o = record { name = o.name; wire = cap_wire o.wire }
 
-pub cap_output_lem : {n : Name} {w : Wire} (u : Wire) → w ≡ cap_wire u → ◌≡◌ {A = Output} (record { name = n; wire = w }) (cap_output (record { name = n; wire = u }))
-unfolding cap_output
-cap_output_lem {n} u e = ap (λ y. record { name = n; wire = y }) e
+-- ---- What was read is named, and weighs what a text can give.
 
-abbrev pub out_from : OutRead → ℕ
-out_from (OutRead.At a b w e) = a
-out_from OutRead.Nothing = 0
+abbrev pub GoodGiven : Given → Type 0
+GoodGiven g = Named g.name × GoodWeight g.weight
 
-abbrev pub out_to : OutRead → ℕ
-out_to (OutRead.At a b w e) = b
-out_to OutRead.Nothing = 0
+abbrev pub NamedOutput : Output → Type 0
+NamedOutput o = Named o.name
 
-abbrev pub out_end : OutRead → ℕ
-out_end (OutRead.At a b w e) = e
-out_end OutRead.Nothing = 0
+name_gives : (s : List ℕ) → Gives Named (name s)
+unfolding Gives
+name_gives s = by (name s) refl
+  where
+    by : (o : Option (Piece Name)) → name s ≡ o → Gives Named o
+    by none e = tt
+    by (some t) e = name_named s t.value t.rest e
 
-abbrev pub out_taken : List ℕ → OutRead → Option (Piece Output)
-out_taken s (OutRead.At a b w e) = some (record { value = record { name = take (b - a) (drop a s); wire = w }; rest = drop e s })
-out_taken s OutRead.Nothing = none
+in_gives : (s : List ℕ) → Gives GoodGiven (in_line s)
+unfolding in_line Gives
+in_gives s =
+    then_gives GoodGiven _ _ (λ _ s. onward_gives Named GoodGiven (name s) _ (name_gives s)
+    (λ n s h. onward_gives GoodWeight GoodGiven (weight s) _ (weight_gives s) (λ w s k. then_gives GoodGiven _ _ (λ _ s. (h, k)))))
 
-pub record ReadsOut (s : List ℕ) (at : ℕ) (r : OutRead) : Type 0 where
-  pub reads : Reads (length s) (out_taken s r) (out_end r) (capped cap_output (out_line (drop at s)))
-  pub named : Named (length s) (out_from r) (out_to r)
+out_gives : (s : List ℕ) → Gives NamedOutput (out_line s)
+unfolding out_line Gives
+out_gives s =
+    then_gives NamedOutput _ _ (λ _ s. onward_gives Named NamedOutput (name s) _ (name_gives s)
+    (λ n s h. then_gives NamedOutput _ _ (λ _ s. then_gives NamedOutput _ _ (λ w s. then_gives NamedOutput _ _ (λ _ s. h)))))
 
-pub out_none : (s : List ℕ) (at : ℕ) → out_line (drop at s) ≡ none → ReadsOut s at OutRead.Nothing
-out_none s at e = record { reads = record { same = capped_none cap_output e; inside = omega arith }; named = omega arith }
+module _ (s x : List ℕ) where
+  pub in_good : (g : Given) → in_line s ≡ some (record { value = g; rest = x }) → GoodGiven g
+  unfolding Gives
+  in_good g e = subst (λ o. Gives GoodGiven o) e (in_gives s)
 
--- Where the name stands, once the answer is taken apart.
-pub named-at : {R : Type 0} (from to : R → ℕ) {n : ℕ} {r q : R} → Named n (from r) (to r) → r ≡ q → Named n (from q) (to q)
-named-at from to {n} h k = subst (λ x. Named n (from x) (to x)) k h
-
--- The weight, once the answer is taken apart.
-pub weighed_at : {r q : InRead} → GoodWeight (in_weight r) → r ≡ q → GoodWeight (in_weight q)
-weighed_at h k = subst (λ x. GoodWeight (in_weight x)) k h
+  pub out_named : (o : Output) → capped cap_output (out_line s) ≡ some (record { value = o; rest = x }) → Named o.name
+  unfolding Gives cap_output
+  out_named o e =
+      let u = exact_some cap_output (out_line s) e in
+      subst (λ (q : Output). Named q.name) (sym u.2) (subst (λ p. Gives NamedOutput p) u.1 (out_gives s))

@@ -1,49 +1,19 @@
 -- A number with a sign, read up to 65536 on both sides of 0.
-use Rattle.std.specs.Prelude.{◌≡◌, refl, List, ℕ, zero, suc, ◌^◌, ◌<◌, min, ℤ, negsuc, neg_ℤ, nat_abs, drop}
+use Rattle.std.specs.Prelude.{◌≡◌, refl, suc, ◌^◌, ◌<◌, min, ℤ, negsuc, neg_ℤ, nat_abs}
 use Rattle.std.proofs.Math.Path.{ap}
-use Rattle.std.proofs.Common.{◌∙◌, arith, eq-eqb, ne_eqb, to_z-of_z, to_z, of_z}
-use Rattle.std.proofs.Math.Option.{Option, none, some}
+use Rattle.std.proofs.Common.{◌∙◌, arith, to_z-of_z, to_z, of_z}
 use Rattle.std.proofs.Math.IntN.{pos}
 use Rattle.std.specs.Int.{w64}
 use Rattle.laws.specs.Integer.{abs_neg, fits_abs}
-use Rattle.rules.specs.Form.{Piece, Reader, give, ◌>>=◌, ◌>>◌, word, number, below}
-use Rattle.forms.specs.declared.Signed.{Signed}
-use Rattle.forms.specs.declared.Signed.TheVariants.{At, Nothing}
+use Rattle.rules.specs.Form.{Reader, ◌>>=◌, ◌>>◌, word, number, below}
 
 unfoldable pub cap_signed : ℤ → ℤ
 cap_signed (pos n) = pos (min 65536 n)
 cap_signed (negsuc n) = neg_ℤ (pos (min 65536 (suc n)))
 
-abbrev pub signed_end : Signed → ℕ
-signed_end (At z e) = e
-signed_end Nothing = 0
-
-abbrev pub signed_taken : List ℕ → Signed → Option (Piece ℤ)
-signed_taken s (At z e) = some (record { value = z; rest = drop e s })
-signed_taken s Nothing = none
-
 -- A minus and a number that is not 0.
 unfoldable pub negative : Reader ℤ
 negative = word "-" >> (number >>= below)
-
--- n is the number itself, v what was read of it.
-module _ (n : ℕ) {v : ℕ} (e : v ≡ min 65536 n) where
-  pub below-zero : (x : List ℕ) → v ≡ 0 → below n x ≡ none
-  unfolding below
-  below-zero x h = rw (eq-eqb n 0 (omega arith))
-
-  pub below_good : (x : List ℕ) → (v ≡ 0 → ⊥) → below n x ≡ give (neg_ℤ (pos n)) x
-  unfolding below
-  below_good x h = let k : n ≡ 0 → ⊥ = λ q. h (omega arith) in rw (ne_eqb n 0 k)
-
-  pub cap_pos : pos v ≡ cap_signed (pos n)
-  unfolding cap_signed
-  cap_pos = ap pos e
-
-pub cap_neg : (n : ℕ) {v : ℕ} → v ≡ min 65536 n → neg_ℤ (pos v) ≡ cap_signed (neg_ℤ (pos n))
-unfolding cap_signed
-cap_neg zero e = ap (λ k. neg_ℤ (pos k)) e
-cap_neg (suc n) e = ap (λ k. neg_ℤ (pos k)) e
 
 -- The cap is the same on both sides of 0, and what is below it is exact.
 pub cap_abs : (z : ℤ) → nat_abs (cap_signed z) ≡ min 65536 (nat_abs z)

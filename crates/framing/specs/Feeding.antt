@@ -1,13 +1,13 @@
 -- The bytes of an input one after the other, and what is printed on the way.
-use Rattle.std.specs.Prelude.{◌≡◌, ℕ, ltb, take}
+use Rattle.std.specs.Prelude.{◌≡◌, ℕ, ltb, take, Option, None, Some, Result, Ok, Err}
 use Rattle.std.proofs.Math.Path.{refl, sym, ap}
 use Rattle.std.proofs.Common.{◌∙◌}
 use mathlib.Core.List.{List, [], ◌∷◌, ◌++◌, append_assoc, flatten}
 use Rattle.laws.specs.Test.{if◌then◌otherwise◌}
 use Rattle.rules.specs.Service.{end_line, refusal_text}
-use Rattle.framing.specs.Step.{next, Fed, fed}
-use Rattle.framing.specs.declared.Event.{Event}
-use Rattle.framing.specs.declared.Event.TheVariants.{More, Job, Long}
+use Rattle.rules.specs.Refusal.{reason_number}
+use Rattle.rules.specs.declared.Reason.{Reason}
+use Rattle.framing.specs.Step.{Fed, fed}
 use Rattle.framing.specs.declared.Feed.{Feed}
 
 -- What the program has between two bytes.
@@ -19,7 +19,7 @@ abbrev pub state_with : Feed → List ℕ → State
 state_with f room = record { feed = f; room = room }
 
 abbrev pub after : Fed → State
-after r = state_with (next r.event) r.room
+after r = state_with r.feed r.room
 
 -- The state after these bytes.
 unfoldable pub fed_all : State → List ℕ → State
@@ -51,19 +51,19 @@ chunks_fed a (c ∷ cs) = chunks_fed (fed_all a c) cs ∙ sym (fed_all_append a 
 
 -- `answer` is what the mapper answers to a job.
 module _ (answer : List ℕ → List ℕ) where
-  -- What is printed at an event, where the kept bytes are these.
-  abbrev pub said : Event → List ℕ → List ℕ
-  said (More f) room = []
-  said (Job n) room = answer (take n room) ++ end_line
-  said Long room = refusal_text 3 0 ++ end_line
+  -- What is printed where a byte closes a job, if it does, and the kept bytes are these.
+  abbrev pub said : Option (Result ℕ Reason) → List ℕ → List ℕ
+  said None room = []
+  said (Some (Ok n)) room = answer (take n room) ++ end_line
+  said (Some (Err r)) room = refusal_text (reason_number r) 0 ++ end_line
 
   -- What is printed while these bytes come.
   unfoldable pub printed : State → List ℕ → List ℕ
   printed a [] = []
-  printed a (b ∷ s) = let r = fed a.feed b a.room in said r.event r.room ++ printed (after r) s
+  printed a (b ∷ s) = let r = fed a.feed b a.room in said r.job r.room ++ printed (after r) s
 
   pub printed-step : (a : State) (b : ℕ) (s : List ℕ) (r : Fed) → fed a.feed b a.room ≡ r
-      → printed a (b ∷ s) ≡ said r.event r.room ++ printed (after r) s
+      → printed a (b ∷ s) ≡ said r.job r.room ++ printed (after r) s
   unfolding printed
   printed-step a b s r e = rw e
 
@@ -72,8 +72,8 @@ module _ (answer : List ℕ → List ℕ) where
   printed-append a [] t = refl
   printed-append a (b ∷ s) t =
       let r = fed a.feed b a.room in
-      ap (λ (o : List ℕ). said r.event r.room ++ o) (printed-append (after r) s t)
-      ∙ sym (append_assoc (said r.event r.room) (printed (after r) s) (printed (fed_all (after r) s) t))
+      ap (λ (o : List ℕ). said r.job r.room ++ o) (printed-append (after r) s t)
+      ∙ sym (append_assoc (said r.job r.room) (printed (after r) s) (printed (fed_all (after r) s) t))
 
   unfoldable pub printed_chunks : State → List (List ℕ) → List ℕ
   printed_chunks a [] = []

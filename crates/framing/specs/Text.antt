@@ -1,5 +1,5 @@
 -- The state as a function of the bytes since the last job, and what a byte more makes of it.
-use Rattle.std.specs.Prelude.{◌≡◌, take, set}
+use Rattle.std.specs.Prelude.{◌≡◌, take, set, None, Some}
 use Rattle.std.proofs.Math.Path.{refl}
 use Rattle.std.proofs.Common.{◌∙◌}
 use mathlib.Core.List.{List, [], ◌∷◌, ◌++◌, append_assoc, append-nil}
@@ -12,10 +12,9 @@ use Rattle.std.proofs.Math.Seq.{take_all, take-take, take-append-le, take-append
 use Rattle.laws.specs.Over.{over, over-length}
 use Rattle.laws.specs.Test.{lt_or_le}
 use Rattle.rules.specs.Service.{reply}
-use Rattle.framing.specs.Step.{closed_by, fed_to, fed, fed_closes, fed_newline, fed_on}
+use Rattle.framing.specs.Step.{start, closed_by, fed_to, fed, fed_closes, fed_newline, fed_on}
 use Rattle.framing.specs.Feeding.{State, said}
 use Rattle.framing.specs.Lines.{match_from, match_more}
-use Rattle.framing.specs.declared.Event.TheVariants.{More}
 use Rattle.framing.specs.declared.Feed.{Feed}
 
 -- `job` has come in whole lines, and `line` of the current one; `old` is what the array held before.
@@ -76,25 +75,25 @@ one_more t b = simp length-append (omega arith)
 
 module _ (old : List ℕ) (size : length old ≡ 32768) (job line : List ℕ) where
   pub step_on : (b : ℕ) → (b ≡ 10 → ⊥)
-      → fed (feed_of job line) b (room_of old (job ++ line)) ≡ fed_to (More (feed_of job (line ++ (b ∷ [])))) (room_of old (job ++ (line ++ (b ∷ []))))
+      → fed (feed_of job line) b (room_of old (job ++ line)) ≡ fed_to (feed_of job (line ++ (b ∷ []))) None (room_of old (job ++ (line ++ (b ∷ []))))
   unfolding feed_of
   step_on b n =
       fed_on (feed_of job line) b (room_of old (job ++ line)) n
       ∙ rw (room_more old size (job ++ line) b, one_more (job ++ line) b, match_more 0 line b, append_assoc)
 
   pub step_newline : (match_from 0 line ≡ 5 → ⊥)
-      → fed (feed_of job line) 10 (room_of old (job ++ line)) ≡ fed_to (More (feed_of (job ++ (line ++ (10 ∷ []))) [])) (room_of old ((job ++ (line ++ (10 ∷ []))) ++ []))
+      → fed (feed_of job line) 10 (room_of old (job ++ line)) ≡ fed_to (feed_of (job ++ (line ++ (10 ∷ []))) []) None (room_of old ((job ++ (line ++ (10 ∷ []))) ++ []))
   unfolding feed_of match_from
   step_newline n =
       fed_newline (feed_of job line) 10 (room_of old (job ++ line)) refl n
       ∙ rw (append-nil (job ++ (line ++ (10 ∷ []))), room_more old size (job ++ line) 10, one_more (job ++ line) 10, append_assoc)
 
-  pub step_closes : match_from 0 line ≡ 5 → fed (feed_of job line) 10 (room_of old (job ++ line)) ≡ fed_to (closed_by (min 32769 (length job))) (room_of old (job ++ line))
+  pub step_closes : match_from 0 line ≡ 5 → fed (feed_of job line) 10 (room_of old (job ++ line)) ≡ fed_to start (Some (closed_by (min 32769 (length job)))) (room_of old (job ++ line))
   unfolding feed_of
   step_closes e = fed_closes (feed_of job line) 10 (room_of old (job ++ line)) refl e
 
   -- the job that is closed gets its answer
-  pub said-reply : (answer : List ℕ → List ℕ) → said answer (closed_by (min 32769 (length job))) (room_of old (job ++ line)) ≡ reply answer job
+  pub said-reply : (answer : List ℕ → List ℕ) → said answer (Some (closed_by (min 32769 (length job)))) (room_of old (job ++ line)) ≡ reply answer job
   unfolding reply
   said-reply answer =
       ⊎_elim

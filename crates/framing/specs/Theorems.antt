@@ -9,27 +9,23 @@ use Rattle.rules.specs.Form.{lines, before}
 use Rattle.rules.specs.Service.{end_line, is_end, last_answer, reply, service_with, mapper_answer, service}
 use Rattle.framing.specs.Jobs.{jobs, rest, replies, service_is}
 use Rattle.framing.specs.Step.{end_word, start}
-use Rattle.framing.specs.Feeding.{State, fed_all, closing, printed, printed-append, output, output_chunks, chunks_output}
-use Rattle.framing.specs.Lines.{plain_none, match_from}
+use Rattle.framing.specs.Feeding.{State, state_with, fed_all, closing, printed, printed-append, output, output_chunks, chunks_output}
+use Rattle.framing.specs.Lines.{plain_none}
 use Rattle.framing.specs.Meaning.{Job, job-jobs}
-use Rattle.framing.specs.Text.{feed_of, state_of, room_none}
-use Rattle.framing.specs.Whole.{Holds, followed}
+use Rattle.framing.specs.Text.{feed_of}
+use Rattle.framing.specs.Whole.{Holds, state_fresh, followed}
 use Rattle.framing.specs.declared.Feed.{Feed}
 
 -- Nothing has come since the last job; the array holds what earlier jobs left in it.
 abbrev pub fresh : List ℕ → State
-fresh room = record { feed = start; room = room }
-
-fresh_is : (room : List ℕ) → length room ≡ 32768 → fresh room ≡ state_of room [] []
-unfolding feed_of match_from
-fresh_is room size = rw (room_none room size)
+fresh room = state_with start room
 
 -- A state after no bytes is fresh.
 module _ (a : State) (h : Holds a []) where
   begins : a ≡ fresh h.old
   begins =
       let e = (append-eq-nil_iff {p = h.job} {q = h.line}).0 h.text in
-      h.state ∙ rw (e.0, e.1) (sym (fresh_is h.old h.size))
+      h.state ∙ rw (e.0, e.1) (sym (state_fresh h.old h.size))
 
 -- The last answer goes by the count of the bytes.
 by_count : (f : Feed) (t : List ℕ) → f.count ≡ min 32769 (length t) → closing f ≡ last_answer t
@@ -44,12 +40,12 @@ held_closing a t h = by_count a.feed t (ap (λ c. c.feed.count) h.state ∙ ap (
 module _ (room : List ℕ) (size : length room ≡ 32768) where
   -- Where these bytes lead.
   led : (s : List ℕ) → Holds (fed_all (fresh room) s) (rest [] (lines s))
-  led s = rw (fresh_is room size) (followed (λ j. j) s room [] [] size plain_none).holds
+  led s = rw (state_fresh room size) (followed (λ j. j) s room [] [] size plain_none).holds
 
   module _ (answer : List ℕ → List ℕ) where
     -- At every moment the jobs that are closed have their replies, in turn, and nothing else is printed.
     pub service_so_far : (s : List ℕ) → printed answer (fresh room) s ≡ replies answer (jobs [] (lines s))
-    service_so_far s = rw (fresh_is room size) (followed answer s room [] [] size plain_none).prints
+    service_so_far s = rw (state_fresh room size) (followed answer s room [] [] size plain_none).prints
 
     output_is : (s : List ℕ) → output answer (fresh room) s ≡ service_with answer s
     unfolding output

@@ -1,16 +1,15 @@
 -- Byte by byte: the state and what is printed follow the definition.
-use Rattle.std.specs.Prelude.{◌≡◌, ℕ, min, leb, length}
+use Rattle.std.specs.Prelude.{◌≡◌, ℕ, length}
 use Rattle.std.proofs.Math.Path.{refl, sym, ap, ap₂}
 use Rattle.std.proofs.Common.{◌∙◌, ⊎_elim}
 use mathlib.Core.List.{List, [], ◌∷◌, ◌++◌, append_assoc, append-nil}
-use Rattle.laws.specs.Test.{if_both, eq-or-ne}
+use Rattle.laws.specs.Test.{eq-or-ne}
 use Rattle.rules.specs.Form.{lines}
 use Rattle.framing.specs.Jobs.{jobs, rest, replies}
-use Rattle.framing.specs.Step.{start, next, closed_by, fed_to}
-use Rattle.framing.specs.Feeding.{State, after, fed_all, fed_all_step, printed, printed-step}
+use Rattle.framing.specs.Step.{start}
+use Rattle.framing.specs.Feeding.{State, state_with, fed_all, fed_all_step, printed, printed-step}
 use Rattle.framing.specs.Lines.{Plain, plain_none, plain_more, match_from, jobs_stop, rest_stop, jobs_closes, rest_closes, jobs_newline, rest_newline}
 use Rattle.framing.specs.Text.{feed_of, room_of, state_of, room-length, room_none, step_on, step_newline, step_closes, said-reply}
-use Rattle.framing.specs.declared.Event.TheVariants.{Job, Long}
 
 -- The state is that after these bytes of a job.
 pub record Holds (a : State) (t : List ℕ) : Type 0 where
@@ -24,13 +23,10 @@ pub record Holds (a : State) (t : List ℕ) : Type 0 where
 held : (a c : State) (t u : List ℕ) → a ≡ c → u ≡ t → Holds c t → Holds a u
 held a c t u e f h = record { old = h.old; job = h.job; line = h.line; size = h.size; text = h.text ∙ sym f; state = e ∙ h.state }
 
--- After a closed job the next one begins.
-next_closed : (n : ℕ) → next (closed_by n) ≡ start
-next_closed n = if_both (λ e. next e ≡ start) (leb n 32768) {x = Job n} {y = Long} refl refl
-
-state_closed : (n : ℕ) (room : List ℕ) → length room ≡ 32768 → after (fed_to (closed_by n) room) ≡ state_of room [] []
+-- Nothing has come since the last job; the array holds what earlier jobs left in it.
+pub state_fresh : (room : List ℕ) → length room ≡ 32768 → state_with start room ≡ state_of room [] []
 unfolding feed_of match_from
-state_closed n room size = rw (next_closed n, room_none room size)
+state_fresh room size = rw (room_none room size)
 
 module _ (answer : List ℕ → List ℕ) where
   -- What is printed on the bytes s, and where they lead, is as the definition has it for these lines after `job`.
@@ -76,7 +72,7 @@ module _ (answer : List ℕ → List ℕ) where
       unfolding replies
       closes m f =
           let e = step_closes old size job line m in
-          let g = state_closed (min 32769 (length job)) room (room-length old size (job ++ line)) in
+          let g = state_fresh room (room-length old size (job ++ line)) in
           record {
             prints =
                 printed-step answer here 10 s _ e

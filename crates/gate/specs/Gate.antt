@@ -1,12 +1,12 @@
 -- A binary gate's steps on the way, and how much room in the store its sides still ask for.
 use Rattle.std.specs.Prelude.{◌≡◌, List, ℕ, ◌+◌, ◌≤◌, ◌<◌, leb}
-use Rattle.std.proofs.Math.Path.{ap}
+use Rattle.std.proofs.Math.Path.{sym, ap}
 use Rattle.std.proofs.Math.Bool.{true}
 use native.Mathlib.Omega.{arith}
-use Rattle.std.proofs.Common.{le-leb}
+use Rattle.std.proofs.Common.{◌∙◌, ⊎_elim, le-leb}
 use Rattle.std.proofs.lemmas.Bool.{lt-leb}
 use Rattle.std.proofs.Math.ListN.{length}
-use Rattle.laws.specs.Test.{if◌then◌otherwise◌, if_both}
+use Rattle.laws.specs.Test.{if◌then◌otherwise◌, if_both, lt_or_le}
 use Rattle.rules.specs.Cone as C
 use Rattle.rules.specs.Cone.{identity}
 use Rattle.rules.specs.Mapper as M
@@ -18,11 +18,11 @@ use Rattle.cone.specs.declared.Cone.{Cone}
 use Rattle.cone.specs.declared.order.Sides.{Sides}
 use Rattle.cone.specs.Order.{side_of, sides_of}
 use Rattle.cone.specs.View.{cone_of, IsCone, view_sources}
-use Rattle.nodes.specs.View.{store_of, IsStore}
+use Rattle.nodes.specs.View.{store_of, store_length, IsStore}
 use Rattle.bootstrap.specs.declared.boot.Booted.{Booted}
 use Rattle.gate.specs.declared.map.Limited.{Limited}
 use Rattle.cone.specs.Sources.{Stands}
-use Rattle.bootstrap.specs.View.{Boots, booted_of, KeepsCentres, centres_same}
+use Rattle.bootstrap.specs.View.{Boots, booted_of, KeepsCentres}
 use Rattle.gate.specs.View.{StandsBoth, limited_of}
 
 -- ---- Room: a bootstrap may add a sum and a table; a cone of no source or one source stays as it was.
@@ -91,31 +91,31 @@ moves s nodes c h = rw (lt-leb (length c.support) 1 h) (omega arith)
 -- ---- what each bootstrap leaves
 
 module _ (c : Cone) (is : IsCone c) (long : length c.support ≡ 11) where
-  pub one_source : c.n ≤ 1 → length (cone_of c).support ≤ 1
-  one_source h = omega (arith, view_sources c is long)
+  -- the room that it asks for
+  pub asks : (count : ℕ) → count + room (cone_of c) ≤ 672 → 1 < c.n → count + 2 ≤ 672
+  asks count f h = omega (arith, room_two (cone_of c) (omega (arith, view_sources c is long)))
 
-  pub more_sources : 1 < c.n → 1 < length (cone_of c).support
-  more_sources h = omega (arith, view_sources c is long)
-
-module _ (s : Settings) (count : ℕ) (c : Cone) where
-  pub stays_is : (bytes : List ℕ) → length (cone_of c).support ≤ 1 → booted_of bytes (record { count = count; cone = c }) ≡ bootstrap_cone s (store_of bytes count) (cone_of c)
+module _ (s : Settings) (count : ℕ) (c : Cone) {old : List ℕ} (bytes : List ℕ) (b : Booted) (boots : Boots s.p old count bytes b)
+    (e : booted_of bytes b ≡ bootstrap_cone s (store_of old count) (cone_of c)) where
+  stayed : length (cone_of c).support ≤ 1 → (b.count ≡ count) × (room (cone_of b.cone) ≡ room (cone_of c))
   unfolding booted_of
-  stays_is bytes h = stays s (store_of bytes count) (cone_of c) h
+  stayed h =
+      let same = e ∙ sym (stays s (store_of old count) (cone_of c) h) in
+      (sym (store_length bytes b.count) ∙ ap (λ (x : Stored). length x.nodes) same ∙ store_length old count, ap (λ (x : Stored). room x.cone) same)
 
-  pub stays_spends : (bytes : List ℕ) → IsStore bytes count → Stands count c → Spends s.p bytes count c bytes (record { count = count; cone = c })
-  stays_spends bytes store stands =
-      record { store = store; stands = stands; least = omega arith; most = omega arith; centred = centres_same }
-
-  pub moves_spends : {old : List ℕ} (bytes : List ℕ) (nodes : List LutNode) (b : Booted) → 1 < length (cone_of c).support → Boots s.p old count bytes b
-      → booted_of bytes b ≡ bootstrap_cone s nodes (cone_of c) → Spends s.p old count c bytes b
+  moved : 1 < length (cone_of c).support → room (cone_of b.cone) ≡ 0
   unfolding booted_of
-  moves_spends bytes nodes b h boots e =
-      let l = boots.grown.most in
-      let few = moves s nodes (cone_of c) h in
-      let same = ap (λ (x : Stored). length x.cone.support) e in
-      let one = room_none (cone_of b.cone) (omega arith) in
-      let two = room_two (cone_of c) h in
-      record { store = boots.grown.store; stands = boots.stands; least = boots.grown.least; most = omega arith; centred = boots.grown.centred }
+  moved h = room_none (cone_of b.cone) (rw (ap (λ (x : Stored). length x.cone.support) e) (moves s (store_of old count) (cone_of c) h))
+
+  most : b.count + room (cone_of b.cone) ≤ count + room (cone_of c)
+  most =
+      ⊎_elim
+      (λ (h : 1 < length (cone_of c).support). omega (arith, boots.grown.most, moved h, room_two (cone_of c) h))
+      (λ (h : length (cone_of c).support ≤ 1). let w = stayed h in omega (arith, w.0, w.1))
+      (lt_or_le 1 (length (cone_of c).support))
+
+  pub spends : Spends s.p old count c bytes b
+  spends = record { store = boots.grown.store; stands = boots.stands; least = boots.grown.least; most = most; centred = boots.grown.centred }
 
 -- Both sides with the bootstrapped one.
 abbrev pub left_booted : Booted → Sides → Limited

@@ -1,16 +1,18 @@
 -- A binary gate's definition, by the cases of each step.
-use Rattle.std.specs.Prelude.{◌≡◌, Bool, List, [], ◌∷◌, ℕ, zero, suc, ◌+◌, ◌*◌, ◌≤◌, ◌<◌, length, drop}
+use Rattle.std.specs.Prelude as P
+use Rattle.std.specs.Prelude.{Some, None, Ok, Err, IfOk, ◌≡◌, Bool, List, [], ◌∷◌, ℕ, zero, suc, ◌+◌, ◌*◌, ◌≤◌, ◌<◌, length, drop}
 use Rattle.std.proofs.Math.Path.{refl, ap}
-use Rattle.std.proofs.Common.{sym, ◌∙◌, add-one, ne_eqb}
+use Rattle.std.proofs.Common.{add_comm, sym, ◌∙◌, add-one}
 use Rattle.std.proofs.Math.Bool.{true, false}
 use native.Mathlib.Omega.{arith}
 use Rattle.std.proofs.Math.ListN.{get_or, take}
-use Rattle.laws.specs.Test.{if◌then◌otherwise◌, zero≢one, T-is, is_T}
+use Rattle.laws.specs.Test.{if◌then◌otherwise◌, T-is, is_T}
 use Rattle.rules.specs.Cone as C
 use Rattle.rules.specs.Composition.{all_equal}
 use Rattle.rules.specs.Cone.{Result, ok, err, ◌>>=◌}
 use Rattle.rules.specs.Mapper as M
 use Rattle.rules.specs.Network.{LutNode}
+use Rattle.rules.specs.declared.Reason.{Reason}
 use Rattle.rules.specs.declared.Settings.{Settings}
 use Rattle.rules.specs.Runs.{all_bits}
 use Rattle.theorems.specs.Bits.{bit_at, all-bits_of}
@@ -18,12 +20,10 @@ use Rattle.theorems.specs.Truths.{through_gate}
 use Rattle.cone.specs.declared.Cone.{Cone}
 use Rattle.cone.specs.declared.order.Sides.{Sides}
 use Rattle.cone.specs.Order.{side_of, sides_of}
-use Rattle.cone.specs.declared.Constant.TheVariants.{Bit, No}
 use Rattle.cone.specs.View.{cone_of, IsCone, constant_of}
 use Rattle.nodes.specs.View.{store_of, IsStore}
 use Rattle.gate.specs.declared.map.Limited.{Limited}
 use Rattle.gate.specs.declared.map.Mapped.{Mapped}
-use Rattle.attempt.specs.declared.Tried.{Tried}
 use Rattle.cone.specs.Sources.{Stands, below_same}
 use Rattle.bootstrap.specs.View.{KeepsCentres, Grown, centres_same, centres_then}
 use Rattle.gate.specs.View.{StandsBoth, Maps, limited_of, mapped_of}
@@ -72,17 +72,21 @@ unfolding attempts M.map_binary_gate
 binary_is s nodes w left right gate e = ap (λ v. attempts s (M.second_attempt s) (M.limit_sources s v)) e
 
 module _ (s : Settings) (next : M.Sides → Result M.Mapped) (q : M.Sides) (bytes : List ℕ) (b : Limited) (e : limited_of bytes b ≡ q)
-    (t : Tried) (a : tried_of t ≡ M.attempt s (sides_of (store_of bytes b.count) b.sides)) where
+    (t : P.Option Cone) (a : tried_of t ≡ M.attempt s (sides_of (store_of bytes b.count) b.sides)) where
   abbrev v : M.Sides
   v = sides_of (store_of bytes b.count) b.sides
 
-  pub step_goes : t.found ≡ true → ok (M.mapped v (cone_of t.cone)) ≡ attempts s next q
-  unfolding attempts limited_of tried_of M.or_else
-  step_goes f = ap (λ o. M.or_else v o (next v)) (rw f at a) ∙ ap (attempts s next) e
+  step : M.or_else v (tried_of t) (next v) ≡ attempts s next q
+  unfolding attempts limited_of
+  step = ap (λ o. M.or_else v o (next v)) a ∙ ap (attempts s next) e
 
-  pub step_none : t.found ≡ false → next v ≡ attempts s next q
-  unfolding attempts limited_of tried_of M.or_else
-  step_none f = ap (λ o. M.or_else v o (next v)) (rw f at a) ∙ ap (attempts s next) e
+  pub step_goes : (c : Cone) → t ≡ Some c → ok (M.mapped v (cone_of c)) ≡ attempts s next q
+  unfolding M.or_else
+  step_goes c f = sym (ap (λ o. M.or_else v (tried_of o) (next v)) f) ∙ step
+
+  pub step_none : t ≡ None → next v ≡ attempts s next q
+  unfolding M.or_else
+  step_none f = sym (ap (λ o. M.or_else v (tried_of o) (next v)) f) ∙ step
 
 -- ---- the store grows by no more than the sides ask for
 
@@ -91,11 +95,13 @@ grows st =
     let m = st.most in
     record { store = st.ready.store; least = st.least; most = omega arith; centred = st.centred }
 
-pub maps_wider : {q before more count less : ℕ} {old mid bytes : List ℕ} {m : Mapped} → before ≤ count → count + less ≤ before + more → KeepsCentres q old before mid count
-    → Maps q mid count less bytes m → Maps q old before more bytes m
-maps_wider h k c p =
+pub maps_wider : {q before count : ℕ} {old mid : List ℕ} (more less : ℕ) (bytes : List ℕ) (r : P.Result Mapped Reason) → before ≤ count → count + less ≤ before + more → KeepsCentres q old before mid count
+    → IfOk r (Maps q mid count less bytes) → IfOk r (Maps q old before more bytes)
+maps_wider more less bytes (Err r) h k c p = tt
+maps_wider more less bytes (Ok m) h k c p =
+    let l = p.grown.least in let u = p.grown.most in
     record {
-      grown = λ z. let l = (p.grown z).least in let u = (p.grown z).most in record { store = (p.grown z).store; least = omega arith; most = omega arith; centred = centres_then c (p.grown z).centred };
+      grown = record { store = p.grown.store; least = omega arith; most = omega arith; centred = centres_then c p.grown.centred };
       stands = p.stands;
       first = p.first;
       second = p.second;
@@ -177,30 +183,15 @@ module _ (left right : Cone) (gate : List ℕ) where
 
 -- ---- what a gate gives
 
-pub refused_is : (m : Mapped) → 0 < m.number → (bytes : List ℕ) → mapped_of bytes m ≡ err m.number
-unfolding mapped_of
-refused_is m h bytes = rw (ne_eqb m.number 0 (λ e. omega arith))
-
-pub refused_maps : (m : Mapped) → 0 < m.number → (p : ℕ) (old : List ℕ) (before more : ℕ) (bytes : List ℕ) → Maps p old before more bytes m
-refused_maps m h p old before more bytes =
-    record { grown = λ z. absurd (omega arith); stands = λ z. absurd (omega arith); first = λ z. absurd (omega arith); second = λ z. absurd (omega arith) }
-
-pub kept_maps : {p : ℕ} {old : List ℕ} (before more : ℕ) (bytes : List ℕ) (m : Mapped) → Grown p old before more bytes m.count → Stands m.count m.cone → Stands m.count m.first.cone
-    → Stands m.count m.second.cone → Maps p old before more bytes m
-kept_maps before more bytes m g c f s = record { grown = λ z. g; stands = λ z. c; first = λ z. f; second = λ z. s }
-
-pub grown_none : {p : ℕ} (bytes : List ℕ) (count : ℕ) → IsStore bytes count → Grown p bytes count 4 bytes count
-grown_none bytes count st = record { store = st; least = omega arith; most = omega arith; centred = centres_same }
-
 -- an attempt's cone
 module _ (bytes : List ℕ) (count : ℕ) (w : Sides) (c : Cone) where
   pub mapped_switched : w.switched ≡ true
-      → mapped_of bytes (record { number = 0; count = count; cone = c; first = w.right; second = w.left }) ≡ ok (M.mapped (sides_of (store_of bytes count) w) (cone_of c))
+      → mapped_of bytes (Ok (record { count = count; cone = c; first = w.right; second = w.left })) ≡ ok (M.mapped (sides_of (store_of bytes count) w) (cone_of c))
   unfolding mapped_of M.mapped sides_of
   mapped_switched e = rw e
 
   pub mapped_kept : w.switched ≡ false
-      → mapped_of bytes (record { number = 0; count = count; cone = c; first = w.left; second = w.right }) ≡ ok (M.mapped (sides_of (store_of bytes count) w) (cone_of c))
+      → mapped_of bytes (Ok (record { count = count; cone = c; first = w.left; second = w.right })) ≡ ok (M.mapped (sides_of (store_of bytes count) w) (cone_of c))
   unfolding mapped_of M.mapped sides_of
   mapped_kept e = rw e
 
@@ -233,20 +224,20 @@ first_ready bytes count left right gate w same store h l r b =
 
 -- ---- a constant side
 
-pub bit_of : (c : C.Cone) (v : ℕ) → Bit v ≡ constant_of c → (M.is_constant c ≡ true) × (v ≡ M.constant_value c)
+pub bit_of : (c : C.Cone) (v : ℕ) → Some v ≡ constant_of c → (M.is_constant c ≡ true) × (v ≡ M.constant_value c)
 unfolding constant_of
 bit_of c v e = by (M.is_constant c) refl e
   where
-    by : (t : Bool) → M.is_constant c ≡ t → Bit v ≡ (if t then Bit (M.constant_value c) otherwise No) → (M.is_constant c ≡ true) × (v ≡ M.constant_value c)
+    by : (t : Bool) → M.is_constant c ≡ t → Some v ≡ (if t then Some (M.constant_value c) otherwise None) → (M.is_constant c ≡ true) × (v ≡ M.constant_value c)
     by true f g = (f, cc)
-    by false f g = absurd (zero≢one (cc))
+    by false f g = absurd cc
 
-pub no_of : (c : C.Cone) → No ≡ constant_of c → M.is_constant c ≡ false
+pub no_of : (c : C.Cone) → None ≡ constant_of c → M.is_constant c ≡ false
 unfolding constant_of
 no_of c e = by (M.is_constant c) refl e
   where
-    by : (t : Bool) → M.is_constant c ≡ t → No ≡ (if t then Bit (M.constant_value c) otherwise No) → M.is_constant c ≡ false
-    by true f g = absurd (zero≢one (cc))
+    by : (t : Bool) → M.is_constant c ≡ t → None ≡ (if t then Some (M.constant_value c) otherwise None) → M.is_constant c ≡ false
+    by true f g = absurd cc
     by false f g = f
 
 two_of : (l : List ℕ) (n : ℕ) → n + 2 ≤ length l → get_or l n 0 ∷ get_or l (suc n) 0 ∷ [] ≡ take 2 (drop n l)
@@ -265,9 +256,12 @@ module _ (s : Settings) (nodes : List LutNode) (left right : C.Cone) (gate : Lis
       (ap (λ n. get_or gate (2 * v) 0 ∷ get_or gate n 0 ∷ []) (add-one (2 * v)) ∙ two_of gate (2 * v) (omega arith) ∙ ap (λ n. take 2 (drop (2 * n) gate)) e))
 
   pub two_right : (v : ℕ) → M.is_constant left ≡ false → M.is_constant right ≡ true → v ≡ M.constant_value right
-      → M.map_unary_gate s nodes left (get_or gate v 0 ∷ get_or gate (2 + v) 0 ∷ []) ≡ M.map_gate s nodes (left ∷ right ∷ []) gate
+      → M.map_unary_gate s nodes left (get_or gate v 0 ∷ get_or gate (v + 2) 0 ∷ []) ≡ M.map_gate s nodes (left ∷ right ∷ []) gate
   unfolding M.map_gate
-  two_right v n c e = rw (n, c) (ap (λ k. M.map_unary_gate s nodes left (get_or gate k 0 ∷ get_or gate (2 + k) 0 ∷ [])) e)
+  two_right v n c e =
+      rw (n, c)
+      (ap (λ k. M.map_unary_gate s nodes left (get_or gate v 0 ∷ get_or gate k 0 ∷ [])) (add_comm v 2)
+      ∙ ap (λ k. M.map_unary_gate s nodes left (get_or gate k 0 ∷ get_or gate (2 + k) 0 ∷ [])) e)
 
   pub two_binary : M.is_constant left ≡ false → M.is_constant right ≡ false → M.map_binary_gate s nodes left right gate ≡ M.map_gate s nodes (left ∷ right ∷ []) gate
   unfolding M.map_gate

@@ -1,6 +1,8 @@
 -- What the structs of a gate stand for, and what holds of them on the way.
-use Rattle.std.specs.Prelude.{◌≡◌, List, ℕ, eqb}
-use Rattle.laws.specs.Test.{if◌then◌otherwise◌}
+use Rattle.std.specs.Prelude as P
+use Rattle.std.specs.Prelude.{List, ℕ, Ok, Err}
+use Rattle.rules.specs.declared.Reason.{Reason}
+use Rattle.rules.specs.Refusal.{reason_number}
 use Rattle.rules.specs.Cone.{Result, ok, err}
 use Rattle.rules.specs.Mapper as M
 use Rattle.cone.specs.declared.order.Sides.{Sides}
@@ -23,20 +25,19 @@ limited_of bytes l = sides_of (store_of bytes l.count) l.sides
 
 -- ---- A gate.
 
-unfoldable pub mapped_of : List ℕ → Mapped → Result M.Mapped
-mapped_of bytes m =
-    if eqb m.number 0
-    then ok
+unfoldable pub mapped_of : List ℕ → P.Result Mapped Reason → Result M.Mapped
+mapped_of bytes (Ok m) =
+    ok
     (record {
       nodes = store_of bytes m.count;
       cone = cone_of m.cone;
       first = M.update (side_of m.first);
       second = M.update (side_of m.second);
     })
-    otherwise err m.number
+mapped_of bytes (Err r) = err (reason_number r)
 
 pub record Maps (p : ℕ) (old : List ℕ) (before more : ℕ) (bytes : List ℕ) (m : Mapped) : Type 0 where
-  pub grown : m.number ≡ 0 → Grown p old before more bytes m.count
-  pub stands : m.number ≡ 0 → Stands m.count m.cone
-  pub first : m.number ≡ 0 → Stands m.count m.first.cone
-  pub second : m.number ≡ 0 → Stands m.count m.second.cone
+  pub grown : Grown p old before more bytes m.count
+  pub stands : Stands m.count m.cone
+  pub first : Stands m.count m.first.cone
+  pub second : Stands m.count m.second.cone

@@ -4,146 +4,129 @@
 
 pub mod start;
 
-ghost use Rattle.std.specs.Prelude.{◌≡◌, true, List, map, ℕ, ◌+◌, ◌*◌, ◌≤◌, ◌<◌, length, get_or};
-ghost use Rattle.rules.specs.Circuit.{Output};
+ghost use Rattle.std.specs.Prelude.{◌≡◌, true, List, map, ℕ, ◌+◌, ◌*◌, ◌≤◌, ◌<◌, length, Ok, IfOk};
+ghost use Rattle.rules.specs.Circuit as C;
 ghost use Rattle.rules.specs.CircuitText.{in_limits};
-ghost use Rattle.rules.specs.Mapper.{is_basic, used_settings, is_forced, map_gate, cone_at, at_line, map_next, map_gates};
+ghost use Rattle.rules.specs.Mapper.{is_basic, used_settings, leads_to, is_forced, at_line, map_gate, map_gates};
+ghost use Rattle.forms.specs.Forms.{output_of};
+ghost use Rattle.circuit.specs.View.{wires_of, answers_of, gate_of};
 ghost use Rattle.cone.specs.View.{cone_of, IsCone};
-ghost use Rattle.nodes.specs.View.{store_of, IsStore};
 ghost use Rattle.cone.specs.Sources.{Stands};
+ghost use Rattle.cone_wires.specs.Wires.{cone_in};
+ghost use Rattle.nodes.specs.View.{store_of, IsStore};
 ghost use Rattle.bootstrap.specs.View.{Boots, booted_of};
 ghost use Rattle.gate.specs.View.{Maps, mapped_of};
-ghost use Rattle.gates.specs.View.{cones_in};
-ghost use Rattle.gates.specs.Wired.{Wired, Renewed, Settled, state_of};
-ghost use Rattle.circuit.specs.View.{wires_in, answers_in, gate_in, gates_in, outputs_in};
-ghost use Rattle.gates.specs.Gates.{named, four_of, forced_cone, GoodGate, GoodGates, state_read, Works};
+ghost use Rattle.gates.specs.View.{place, wire_cone};
+ghost use Rattle.gates.specs.Wired.{WireIn, Wired, Renewed, Settled, state_of};
+ghost use Rattle.gates.specs.Gates.{named, forced_cone, first_of, second_of, GoodFunction, GoodGates, Reads, gate_next, next_read, state_read, Worked};
 
 use bootstrap::boot::{Booted, bootstrap_cone};
+use circuit::{Circuit, Function};
 use cone::Cone;
 use cone::order::Side;
 use cone_wires::{cone_at, put_cone};
+use forms::Output;
 use gate::map::{Mapped, map_two, map_unary};
-use rules::{Policy, Settings};
+use rules::{Policy, Reason, Refusal, Settings, Wire};
 
-// How many nodes there are; or the refusal with its line.
-#[derive(Clone, Copy)]
-pub struct Work {
-    pub number: usize,
-    pub line: usize,
-    pub count: usize,
-}
-
+#[tactic(auto, unfolding(rules::specs::Mapper::is_basic))]
 pub fn is_basic(policy: Policy) -> bool
     ensures { result ≡ is_basic policy }
 {
-    match policy {
-        Policy::Basic => true,
-        Policy::Naive => false,
-        Policy::Span => false,
-    }
+    matches!(policy, Policy::Basic)
 }
 
 // The settings as they are used: Basic's are its own.
+#[tactic(auto, unfolding(rules::specs::Mapper::used_settings))]
 pub fn used(s: Settings) -> Settings
     ensures { result ≡ used_settings s }
 {
-    let policy = s.policy;
-    if !is_basic(policy) {
+    if !is_basic(s.policy) {
         return s;
     }
-    let norm = s.norm;
-    let m = if s.m == s.p { 2 } else { 4 };
     Settings {
         p: 2,
-        m,
-        t: s.t,
-        norm,
-        policy,
-        many: s.many,
+        m: if s.m == s.p { 2 } else { 4 },
+        ..s
+    }
+}
+
+#[tactic(auto, unfolding(rules::specs::Mapper::leads_to))]
+fn leads_to(id: usize, wire: Wire) -> bool
+    ensures { result ≡ leads_to id wire }
+{
+    match wire {
+        Wire::Const(_) => false,
+        Wire::Node(node) => id == node,
     }
 }
 
 // An output names the node.
-fn is_output(ports: &[usize; 192], outs: usize, id: usize) -> bool
-    requires { (length ports.now ≡ 192) × ((outs ≤ 32) × (id < 1000)) }
-    ensures { (text : List ℕ) → result ≡ named id (outputs_in text ports.now outs) }
+fn is_output(outputs: &[Output<'_>], id: usize) -> bool
+    ensures { result ≡ named id (map output_of outputs.now) }
 {
-    let mut i = 0;
-    while i < outs {
-        if ports[64 + 3 * i + 2] == id {
-            return true;
-        }
-        i += 1;
-    }
-    false
+    outputs.iter().any(|o| leads_to(id, o.wire))
 }
 
 // Basic bootstraps every gate; with one table a sum, the gates that an output names are.
 #[tactic(auto, unfolding(rules::specs::Mapper::is_forced, crate::specs::Gates::named))]
-fn is_forced(s: Settings, ports: &[usize; 192], outs: usize, id: usize) -> bool
-    requires { (length ports.now ≡ 192) × ((outs ≤ 32) × (id < 1000)) }
-    ensures { (text : List ℕ) → result ≡ is_forced s (outputs_in text ports.now outs) id }
+fn is_forced(s: Settings, outputs: &[Output<'_>], id: usize) -> bool
+    ensures { result ≡ is_forced s (map output_of outputs.now) id }
 {
-    let policy = s.policy;
-    if is_basic(policy) {
-        return true;
+    is_basic(s.policy) || (!s.many && is_output(outputs, id))
+}
+
+// Where a wire's cone stands: behind those of 128 nodes, the constants'.
+pub fn place_of(wire: Wire) -> usize
+    ensures { result ≡ place wire }
+{
+    match wire {
+        Wire::Node(id) => id,
+        Wire::Const(b) => 128 + b as usize,
     }
-    if s.many {
-        return false;
-    }
-    is_output(ports, outs, id)
 }
 
-fn number(byte: u8) -> usize
-    ensures { result ≡ byte }
+// The cone of a wire.
+pub fn wire_cone(wires: &[u8; 8580], wire: Wire) -> Cone
+    requires { WireIn 128 wire × (length wires.now ≡ 8580) }
+    ensures { result ≡ cone_in wires.now (place wire) }
 {
-    byte as usize
+    cone_at(wires, place_of(wire))
 }
 
-// The slot of a gate's wire.
-fn slot_of(gates: &[u8; 576], at: usize) -> usize
-    requires { (length gates.now ≡ 576) × (at < 576) }
-    ensures { result ≡ get_or gates.now at 0 }
-{
-    number(gates[at])
-}
-
-// The four answers of a gate of two wires.
-fn answers_of(gates: &[u8; 576], i: usize) -> [u8; 4]
-    requires { (length gates.now ≡ 576) × (i < 96) }
-    ensures { result ≡ four_of gates.now i }
-{
-    [
-        gates[6 * i + 2],
-        gates[6 * i + 3],
-        gates[6 * i + 4],
-        gates[6 * i + 5],
-    ]
-}
-
-// map_gate: gate i, whose number among the nodes is id.
+// map_gate
+#[tactic(auto, unfolding(crate::specs::View::wire_cone))]
 fn map_gate(
     s: Settings,
     nodes: &mut [u8; 27552],
     count: usize,
     wires: &[u8; 8580],
-    gates: &[u8; 576],
-    i: usize,
-    id: usize,
-) -> Mapped
-    requires { (in_limits s ≡ true) × ((count + 4 ≤ 672) × (Wired nodes.old count wires.now id × GoodGate gates.now id i)) }
-    ensures is { mapped_of nodes.new result ≡ map_gate s (store_of nodes.old count) (map (cone_at (cones_in wires.now id)) (wires_in gates.now i)) (answers_in gates.now i) }
-    ensures stands { Maps s.p nodes.old count 4 nodes.new result }
+    function: Function,
+) -> Result<Mapped, Reason>
+    requires { (in_limits s ≡ true) × (IsStore nodes.old count × ((count + 4 ≤ 672) × Reads count wires.now function)) }
+    ensures is { mapped_of nodes.new result ≡ map_gate s (store_of nodes.old count) (map (wire_cone wires.now) (wires_of function)) (answers_of function) }
+    ensures stands { IfOk result (λ m. Maps s.p nodes.old count 4 nodes.new m) }
 {
-    let l = slot_of(gates, 6 * i);
-    let r = slot_of(gates, 6 * i + 1);
-    let left = cone_at(wires, l);
-    if r == 255 {
-        return map_unary(s, nodes, count, left, gates[6 * i + 2], gates[6 * i + 3]);
+    match function {
+        Function::Unary(wire, answers) => {
+            map_unary(
+                s,
+                nodes,
+                count,
+                wire_cone(wires, wire),
+                answers[0],
+                answers[1],
+            )
+        }
+        Function::Binary(left, right, answers) => map_two(
+            s,
+            nodes,
+            count,
+            wire_cone(wires, left),
+            wire_cone(wires, right),
+            answers,
+        ),
     }
-    let right = cone_at(wires, r);
-    let gate = answers_of(gates, i);
-    map_two(s, nodes, count, left, right, gate)
 }
 
 // The gate's own cone, bootstrapped where the policy or an output asks for it.
@@ -158,128 +141,93 @@ fn forced(s: Settings, nodes: &mut [u8; 27552], count: usize, c: Cone, force: bo
     Booted { count, cone: c }
 }
 
-// A side that was bootstrapped takes its wire's place; a constant has none.
-fn put_new(wires: &mut [u8; 8580], slot: usize, side: Side)
-    requires { (length wires.old ≡ 8580) × IsCone side.cone }
-    ensures { Renewed wires.old slot side wires.new }
+// The gate's wires. A second one that there is not is a constant, which no side replaces.
+fn wires_of(function: Function) -> (Wire, Wire)
+    ensures { (result.0 ≡ first_of function) × (result.1 ≡ second_of function) }
 {
-    if !side.new {
-        return;
+    match function {
+        Function::Unary(wire, _) => (wire, Wire::Const(0)),
+        Function::Binary(left, right, _) => (left, right),
     }
-    if 128 <= slot {
-        return;
-    }
-    let c = side.cone;
-    put_cone(wires, slot, c);
 }
 
-// What a gate leaves in the slots: of its wires l and r, and its own.
+// A side that was bootstrapped takes its wire's place; a constant keeps its cone.
+fn put_new(wires: &mut [u8; 8580], wire: Wire, side: Side)
+    requires { (length wires.old ≡ 8580) × (WireIn 128 wire × IsCone side.cone) }
+    ensures { Renewed wires.old wire side wires.new }
+{
+    let Wire::Node(id) = wire else {
+        return;
+    };
+    if side.new {
+        put_cone(wires, id, side.cone);
+    }
+}
+
+// What a gate leaves among the wires: of its own wires, and its cone.
 fn settle(
     wires: &mut [u8; 8580],
-    l: usize,
-    r: usize,
+    function: Function,
     id: usize,
     first: Side,
     second: Side,
     own: Cone,
 )
-    requires { (length wires.old ≡ 8580) × ((id < 128) × (IsCone first.cone × (IsCone second.cone × IsCone own))) }
-    ensures { Settled wires.old l r id first second own wires.new }
+    requires { (length wires.old ≡ 8580) × ((id < 128) × (GoodFunction 128 function × (IsCone first.cone × (IsCone second.cone × IsCone own)))) }
+    ensures { Settled wires.old (first_of function) (second_of function) id first second own wires.new }
 {
-    put_new(wires, l, first);
-    put_new(wires, r, second);
+    let (left, right) = wires_of(function);
+    put_new(wires, left, first);
+    put_new(wires, right, second);
     put_cone(wires, id, own);
 }
 
-// The same for gate i, whose wires stand in its bytes.
-fn settle_gate(
-    wires: &mut [u8; 8580],
-    gates: &[u8; 576],
-    i: usize,
-    id: usize,
-    first: Side,
-    second: Side,
-    own: Cone,
-)
-    requires { (length wires.old ≡ 8580) × (GoodGate gates.now id i × (IsCone first.cone × (IsCone second.cone × IsCone own))) }
-    ensures { Settled wires.old (get_or gates.now (6 * i) 0) (get_or gates.now (6 * i + 1) 0) id first second own wires.new }
-{
-    let l = slot_of(gates, 6 * i);
-    let r = slot_of(gates, 6 * i + 1);
-    settle(wires, l, r, id, first, second, own);
-}
-
-fn refused(number: usize, line: usize, count: usize) -> Work
-    ensures { (result.number ≡ number) × (result.line ≡ line) }
-{
-    Work {
-        number,
-        line,
-        count,
-    }
-}
-
-// One gate: gate i is node id.
+// One gate, which is node `id` of the circuit.
 fn map_one(
     s: Settings,
     nodes: &mut [u8; 27552],
     count: usize,
     wires: &mut [u8; 8580],
-    gates: &[u8; 576],
-    i: usize,
+    function: Function,
     id: usize,
     force: bool,
-) -> Work
-    requires { (in_limits s ≡ true) × ((count + 6 ≤ 672) × ((id < 128) × (Wired nodes.old count wires.old id × GoodGate gates.now id i))) }
-    ensures is { (outputs : List Output) (inputs : ℕ) → force ≡ is_forced s outputs id → state_read nodes.new wires.new (id + 1) result ≡ at_line (id + 2) (map_next s outputs (state_of nodes.old count wires.old id) (gate_in gates.now inputs i)) }
-    ensures works { Works s.p nodes.old count 6 nodes.new wires.new (id + 1) result }
+) -> Result<usize, Reason>
+    requires { (in_limits s ≡ true) × ((count + 6 ≤ 672) × ((id < 128) × (Wired nodes.old count wires.old id × GoodFunction id function))) }
+    ensures is { (outputs : List C.Output) → force ≡ is_forced s outputs id → next_read nodes.new wires.new (id + 1) result ≡ gate_next s outputs (state_of nodes.old count wires.old id) function }
+    ensures works { IfOk result (λ k. Worked s.p nodes.old count 6 nodes.new wires.new (id + 1) k) }
 {
-    let m = map_gate(s, nodes, count, wires, gates, i, id);
-    if m.number != 0 {
-        return refused(m.number, id + 2, m.count);
-    }
-    let c = m.cone;
-    let b = forced(s, nodes, m.count, c, force);
-    let first = m.first;
-    let second = m.second;
-    let own = b.cone;
-    settle_gate(wires, gates, i, id, first, second, own);
-    Work {
-        number: 0,
-        line: 0,
-        count: b.count,
-    }
+    let m = map_gate(s, nodes, count, wires, function)?;
+    let b = forced(s, nodes, m.count, m.cone, force);
+    settle(wires, function, id, m.first, m.second, b.cone);
+    Ok(b.count)
 }
 
-// The loop of map_once over the gates. Asks that the inputs are the first nodes, each in its slot.
+// A refusal gets its line.
+#[tactic(auto, unfolding(rules::specs::Mapper::at_line, crate::specs::Gates::next_read, crate::specs::Gates::state_read))]
+fn at_line(line: usize, next: Result<usize, Reason>) -> Result<usize, Refusal>
+    ensures is { (nodes wires : List ℕ) (n : ℕ) → state_read nodes wires n result ≡ at_line line (next_read nodes wires n next) }
+    ensures count { (k : ℕ) → result ≡ Ok k → next ≡ Ok k }
+{
+    next.map_err(|reason| Refusal { reason, line })
+}
+
+// The loop of map_once over the gates. Asks that the inputs are the first nodes, each at its place.
 pub fn map_gates(
     s: Settings,
     nodes: &mut [u8; 27552],
     wires: &mut [u8; 8580],
-    gates: &[u8; 576],
-    ports: &[usize; 192],
-    inputs: usize,
-    n: usize,
-    outs: usize,
-) -> Work
-    requires { (in_limits s ≡ true) × ((inputs ≤ 32) × (Wired nodes.old inputs wires.old inputs × (GoodGates gates.now inputs n × ((length ports.now ≡ 192) × (outs ≤ 32))))) }
-    ensures is { (text : List ℕ) → state_read nodes.new wires.new (inputs + n) result ≡ map_gates s (outputs_in text ports.now outs) (state_of nodes.old inputs wires.old inputs) (gates_in gates.now inputs n) }
-    ensures works { Works s.p nodes.old inputs (6 * n) nodes.new wires.new (inputs + n) result }
+    c: &Circuit<'_>,
+) -> Result<usize, Refusal>
+    requires { (in_limits s ≡ true) × (Wired nodes.old (length c.now.inputs.items) wires.old (length c.now.inputs.items) × GoodGates (length c.now.inputs.items) c.now.gates.items) }
+    ensures is { state_read nodes.new wires.new (length c.now.inputs.items + length c.now.gates.items) result ≡ map_gates s (map output_of c.now.outputs.items) (state_of nodes.old (length c.now.inputs.items) wires.old (length c.now.inputs.items)) (map gate_of c.now.gates.items) }
+    ensures works { IfOk result (λ k. Worked s.p nodes.old (length c.now.inputs.items) (6 * length c.now.gates.items) nodes.new wires.new (length c.now.inputs.items + length c.now.gates.items) k) }
 {
-    let mut k = inputs;
-    let mut i = 0;
-    while i < n {
-        let force = is_forced(s, ports, outs, inputs + i);
-        let w = map_one(s, nodes, k, wires, gates, i, inputs + i, force);
-        if w.number != 0 {
-            return w;
-        }
-        k = w.count;
-        i += 1;
+    let inputs = c.inputs.len();
+    let mut count = inputs;
+    for (i, gate) in c.gates.iter().enumerate() {
+        let force = is_forced(s, &c.outputs, inputs + i);
+        let next = map_one(s, nodes, count, wires, gate.function, inputs + i, force);
+        count = at_line(gate.line, next)?;
     }
-    Work {
-        number: 0,
-        line: 0,
-        count: k,
-    }
+    Ok(count)
 }

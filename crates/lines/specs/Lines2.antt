@@ -2,10 +2,11 @@
 use Rattle.std.specs.Prelude.{List, ◌++◌, ℕ}
 use Rattle.rules.specs.declared.Limit.{Limit}
 use Rattle.rules.specs.Form.{bytes}
-use Rattle.rules.specs.Writing.{digits, bits_text, limit_text}
+use Rattle.rules.specs.Writing.{digits, bits_text}
+use Rattle.lines.specs.Lines.{settings_text}
 
 unfoldable pub net2_text : ℕ → ℕ → Limit → List ℕ
-net2_text p m norm = bytes "(net2 " ++ digits p ++ bytes " " ++ digits m ++ bytes " " ++ limit_text norm ++ bytes ")\n"
+net2_text p m norm = settings_text (bytes "(net2 ") p m norm
 
 -- before its tables
 unfoldable pub many_text : ℕ → List ℕ

@@ -109,21 +109,21 @@ bits_done s i h l = left_none (rw (drop_of_length-le s h) at l)
 
 -- ---- A number, digit by digit.
 
-pub put_one : {at next d n : ℕ} {before after : List ℕ} → n < 10 → d ≡ 48 + n → Put at (d ∷ []) before next after → Put at (digits n) before next after
-put_one {at} {next} {d} {n} {before} {after} h e p = rw (digits-one n h, ← e) p
+pub put_one : {at next n : ℕ} {before after : List ℕ} → n < 10 → Put at ((48 + n) ∷ []) before next after → Put at (digits n) before next after
+put_one {at} {next} {n} {before} {after} h p = rw (digits-one n h) p
 
-pub put_more : {at to next d n : ℕ} {before out after : List ℕ} → 10 ≤ n → Put at (digits (n / 10)) before to out → d ≡ 48 + n % 10 → Put to (d ∷ []) out next after
+pub put_more : {at to next n : ℕ} {before out after : List ℕ} → 10 ≤ n → Put at (digits (n / 10)) before to out → Put to ((48 + n % 10) ∷ []) out next after
     → Put at (digits n) before next after
-put_more {at} {to} {next} {d} {n} h p e q = rw (digits_more n h, ← e) (put_both p q)
+put_more {at} {to} {next} {n} h p q = rw (digits_more n h) (put_both p q)
 
-pub one-room : {at d n : ℕ} → n < 10 → d ≡ 48 + n → Room at (digits n) → Room at (d ∷ [])
-one-room {at} {d} {n} h e r = record { fits = rw (digits-one n h) at r.fits }
+pub one-room : {at n : ℕ} → n < 10 → Room at (digits n) → Room at ((48 + n) ∷ [])
+one-room {at} {n} h r = record { fits = rw (digits-one n h) at r.fits }
 
 pub front-room : {at n : ℕ} → 10 ≤ n → Room at (digits n) → Room at (digits (n / 10))
 front-room {at} {n} h r = shorter ((48 + n % 10) ∷ []) (rw (digits_more n h) at r)
 
-pub last-room : {at to d n : ℕ} {before out : List ℕ} → 10 ≤ n → Put at (digits (n / 10)) before to out → d ≡ 48 + n % 10 → Room at (digits n) → Room to (d ∷ [])
-last-room {at} {to} {d} {n} h p e r = rw e (room p (rw (digits_more n h) at r))
+pub last-room : {at to n : ℕ} {before out : List ℕ} → 10 ≤ n → Put at (digits (n / 10)) before to out → Room at (digits n) → Room to ((48 + n % 10) ∷ [])
+last-room {at} {to} {n} h p r = room p (rw (digits_more n h) at r)
 
 -- ---- A signed number.
 
@@ -176,3 +176,11 @@ blank-room {at} {w} h r = shorter (digits w) (room_text (weight-written w h) r)
 
 pub weight-room : {at to w : ℕ} {before out : List ℕ} → (w ≡ 1 → ⊥) → Room at (weight_text w) → Put at (32 ∷ []) before to out → Room to (digits w)
 weight-room {w = w} h r p = room p (room_text (weight-written w h) r)
+
+pub ruleset byte_steps = (byte-room, byte_step, bytes_done)
+
+pub ruleset bit_steps = (bit-room, bit-step, bits_done)
+
+pub ruleset one_steps = (put_stored, put_lost)
+
+pub ruleset pieces = (put_both, room, shorter, laid-append)

@@ -3,7 +3,7 @@ ghost use Rattle.std.specs.Prelude.{[], ◌∷◌, ◌++◌, ℕ, ◌≤◌, nat
 ghost use Rattle.rules.specs.Network.{Bootstrap};
 ghost use Rattle.rules.specs.Writing.{digits, limit_text, wire_text, weight_text, node_text};
 ghost use Rattle.lines.specs.Put.{Put, Room};
-ghost use Rattle.lines.specs.Lines.{net_text, in_text, term_text, out_text};
+ghost use Rattle.lines.specs.Lines.{settings_text, in_text, term_text, out_text};
 
 use crate::put::{put, put_all, put_bits, put_number, put_signed};
 use rules::{Limit, Wire};
@@ -19,12 +19,13 @@ pub fn put_norm(out: &mut [u8], at: usize, norm: Limit) -> usize
     }
 }
 
-// `(net P M NORM)`
-pub fn put_net(out: &mut [u8], at: usize, p: usize, m: usize, norm: Limit) -> usize
-    requires { Room at (net_text p m norm) }
-    ensures { Put at (net_text p m norm) out.old result out.new }
+// The first line, `(net P M NORM)` or `(net2 P M NORM)`, from the word that opens it.
+#[tactic(auto, using(crate::specs::Put::pieces))]
+pub fn put_net(out: &mut [u8], at: usize, word: &[u8], p: usize, m: usize, norm: Limit) -> usize
+    requires { Room at (settings_text word.now p m norm) }
+    ensures { Put at (settings_text word.now p m norm) out.old result out.new }
 {
-    let a = put_all(out, at, b"(net ");
+    let a = put_all(out, at, word);
     let b = put_number(out, a, p);
     let c = put(out, b, b' ');
     let d = put_number(out, c, m);
@@ -46,6 +47,7 @@ fn put_weight(out: &mut [u8], at: usize, weight: usize) -> usize
 }
 
 // `(in NAME)` or `(in NAME W)`
+#[tactic(auto, using(crate::specs::Put::pieces), unfolding(crate::specs::Lines::in_text))]
 pub fn put_in(out: &mut [u8], at: usize, name: &[u8], weight: usize) -> usize
     requires { Room at (in_text name.now weight) }
     ensures { Put at (in_text name.now weight) out.old result out.new }
@@ -57,6 +59,7 @@ pub fn put_in(out: &mut [u8], at: usize, name: &[u8], weight: usize) -> usize
 }
 
 // ` (COEF ID)`
+#[tactic(auto, using(crate::specs::Put::pieces), unfolding(crate::specs::Lines::term_text))]
 pub fn put_term(out: &mut [u8], at: usize, c: i64, node: usize) -> usize
     requires c_bound { nat_abs c ≤ 31 }
     requires room { Room at (term_text c node) }
@@ -70,6 +73,7 @@ pub fn put_term(out: &mut [u8], at: usize, c: i64, node: usize) -> usize
 }
 
 // `(boot ID BITS)`
+#[tactic(auto, using(crate::specs::Put::pieces), unfolding(rules::specs::Writing::node_text))]
 pub fn put_boot(out: &mut [u8], at: usize, source: usize, table: &[u8]) -> usize
     requires by_index { (i : ℕ) → get_or table.now i 0 ≤ 1 }
     requires room { Room at (node_text (Bootstrap source table.now)) }
@@ -83,6 +87,7 @@ pub fn put_boot(out: &mut [u8], at: usize, source: usize, table: &[u8]) -> usize
 }
 
 // A bracket with a number in it, as wires are.
+#[tactic(auto, using(crate::specs::Put::pieces))]
 fn put_numbered(out: &mut [u8], at: usize, word: &[u8], n: usize) -> usize
     requires { Room at (word.now ++ digits n ++ (41 ∷ [])) }
     ensures { Put at (word.now ++ digits n ++ (41 ∷ [])) out.old result out.new }
@@ -104,6 +109,7 @@ fn put_wire(out: &mut [u8], at: usize, wire: Wire) -> usize
 }
 
 // `(out NAME WIRE)`
+#[tactic(auto, using(crate::specs::Put::pieces), unfolding(crate::specs::Lines::out_text))]
 pub fn put_out(out: &mut [u8], at: usize, name: &[u8], wire: Wire) -> usize
     requires { Room at (out_text name.now wire) }
     ensures { Put at (out_text name.now wire) out.old result out.new }

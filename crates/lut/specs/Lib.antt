@@ -3,4 +3,5 @@ pub mod Store
 pub mod Order
 pub mod Reuse
 pub mod Forms
+pub mod First
 pub mod Ports

@@ -1,17 +1,25 @@
 -- A node among the nodes by its record.
-use Rattle.std.specs.Prelude.{◌≡◌, refl, Bool, true, false, List, [], ◌∷◌, ◌++◌, ℕ, suc, ◌+◌, ◌≤◌, ◌<◌, nat_abs, length, drop}
-use Rattle.std.proofs.Common.{sym, ap, ap₂, subst, ◌∙◌, arith, lt-ltb, le-ltb}
+use Rattle.std.specs.Prelude.{◌≡◌, refl, Bool, true, false, List, [], ◌∷◌, ◌++◌, ℕ, suc, ◌+◌, ◌≤◌, ◌-◌, ◌*◌, ◌&&◌, cond, eqb, ◌<◌, nat_abs, length, take, drop, ltb, Some, None, MatchOption}
+use Rattle.std.specs.Prelude as P
+use Rattle.std.proofs.Common.{sym, ap, ap₂, subst, ◌∙◌, arith, lt-ltb, le-ltb, take_all, append_assoc, drop-drop}
+use borrow.Rule.Slice.PartMut.{put_mid}
+use Rattle.std.specs.List.{position, position_or_len}
+use Rattle.std.proofs.lemmas.List.Recursion.{is_position_or_len}
+use lib.Pointwise.{pointwise}
 use Rattle.std.proofs.Math.Option.{Option, none, some, get_or}
+use Rattle.laws.specs.Test.{if◌then◌otherwise◌}
+use Rattle.rules.specs.declared.Wire.TheVariants.{Node}
 use Rattle.rules.specs.Builder.{Entries, opposed, completion, last_tried}
 use Rattle.rules.specs.CircuitText.{same_name}
 use Rattle.rules.specs.Network.{LutNode, Linear, Bootstrap, node_at, node_depth, node_centre}
 use Rattle.rules.specs.Store.{same_node, number_of, intern, linear_terms}
-use Rattle.theorems.specs.Interned.{number_here, number_on, number_end, number-new}
+use Rattle.theorems.specs.Interned.{number-new}
+use Rattle.theorems.specs.NodesAt.{no_input}
 use Rattle.theorems.specs.Bits.{bit_at}
 use Rattle.theorems.specs.Completions.{Completes, completes_bits, opposed_completes, completion_is}
 use Rattle.lut.specs.declared.Linked.{Linked}
-use Rattle.lut.specs.declared.Signal.TheVariants as Signals
 use Rattle.nodes.specs.declared.record.Terms.{Terms}
+use Rattle.lut.specs.First.{FirstOf, first_is, position_some, position_none}
 use Rattle.lut.specs.Order.{Arranged}
 use Rattle.nodes.specs.Centre.{Centred, centre_store, centre_is_store, put_centred}
 use Rattle.nodes.specs.Depth.{put_still, put_is_node, put_store, put_is_store}
@@ -24,6 +32,10 @@ pub record IsRecord (i : ℕ) (r : List ℕ) : Type 0 where
   pub fine : Fine i (node_in r)
   pub kept : r ≡ record_of (node_in r)
 
+-- the node's number, if it is among the nodes
+unfoldable pub found_in : List LutNode → LutNode → P.Option ℕ
+found_in nodes n = position (same_node n) nodes
+
 -- One node more, with its depth and the centre c: with a P that gives its table this centre, all keep theirs.
 pub record Adds (c : ℕ) (n : LutNode) (bytes : List ℕ) (count : ℕ) (after : List ℕ) : Type 0 where
   pub store : store_of after (count + 1) ≡ store_of bytes count ++ (n ∷ [])
@@ -33,9 +45,31 @@ pub record Adds (c : ℕ) (n : LutNode) (bytes : List ℕ) (count : ℕ) (after 
 -- The node is among the nodes or was appended with the centre c, and its number is told.
 pub record Interns (c : ℕ) (n : LutNode) (bytes : List ℕ) (count : ℕ) (after : List ℕ) (r : Linked) : Type 0 where
   pub store : store_of after r.count ≡ intern n (store_of bytes count)
-  pub signal : r.signal ≡ Signals.Node (number_of n (intern n (store_of bytes count)))
+  pub signal : r.signal ≡ Node (number_of n (intern n (store_of bytes count)))
   pub still : IsStore after r.count
   pub centred : (p : ℕ) → c ≡ node_centre p n → Centred p bytes count → Centred p after r.count
+
+-- ---- laws: a record's bytes
+
+-- `==` of bytes is the definition's
+pub same_bytes : (w v : List ℕ) → pointwise eqb w v ≡ same_name w v
+unfolding same_name
+same_bytes [] [] = refl
+same_bytes [] (c ∷ v) = refl
+same_bytes (b ∷ w) [] = refl
+same_bytes (b ∷ w) (c ∷ v) = ap (λ r. eqb b c && r) (same_bytes w v)
+
+pub record_slice : (bytes : List ℕ) (i : ℕ) → take (41 * i + 38 - 41 * i) (drop (41 * i) bytes) ≡ record_at bytes i
+unfolding record_at
+record_slice bytes i = let e : 41 * i + 38 - 41 * i ≡ 38 = omega arith in ap (λ k. take k (drop (41 * i) bytes)) e
+
+pub put_slice : (bytes r s : List ℕ) (i : ℕ) → length r ≡ 38 → s ≡ r → put_mid (41 * i) (41 * i + 38 - 41 * i) bytes s ≡ put_at bytes i r
+unfolding put_at
+put_slice bytes r s i l e =
+    let n : 41 * i + 38 - 41 * i ≡ 38 = omega arith in
+    rw (n, e, drop-drop, take_all 38 r (omega arith)) (sym (append_assoc (take (41 * i) bytes) r (drop (41 * i + 38) bytes)))
+
+pub ruleset record_tests = (same_bytes, record_slice)
 
 -- ---- laws
 
@@ -46,6 +80,23 @@ intern-old n ms h = rw (lt-ltb (number_of n ms) (length ms) h)
 intern-new : (n : LutNode) (ms : List LutNode) → length ms ≤ number_of n ms → intern n ms ≡ ms ++ (n ∷ [])
 unfolding intern
 intern-new n ms h = rw (le-ltb (number_of n ms) (length ms) h)
+
+-- the number is the place
+number_is : (n : LutNode) (ms : List LutNode) → number_of n ms ≡ position_or_len (same_node n) ms
+unfolding number_of
+number_is n = is_position_or_len (number_of n) (same_node n) refl (λ m ms. by (same_node n m) (number_of n ms))
+  where
+    by : (b : Bool) (k : ℕ) → (if b then 0 otherwise suc k) ≡ cond b 0 (1 + k)
+    by true k = refl
+    by false k = omega arith
+
+found_some : (n : LutNode) (ms : List LutNode) (at : ℕ) → Some at ≡ found_in ms n → (at ≡ number_of n ms) × (number_of n ms < length ms)
+unfolding found_in
+found_some n ms at e = rw (number_is n ms) (position_some (same_node n) ms at (sym e))
+
+found_none : (n : LutNode) (ms : List LutNode) → found_in ms n ≡ None → length ms ≤ number_of n ms
+unfolding found_in
+found_none n ms e = rw (number_is n ms) (position_none (same_node n) ms e)
 
 pub is_record : (i : ℕ) (n : LutNode) (r : List ℕ) → Fine i n → r ≡ record_of n → IsRecord i r × (node_in r ≡ n)
 is_record i n r f e =
@@ -58,33 +109,29 @@ module _ (bytes : List ℕ) (count : ℕ) (r : List ℕ) (s : IsStore bytes coun
       rw (at_store bytes i count h)
       (ap₂ {C = Bool} same_name q.kept (s.kept i h) ∙ same_record count i (node_in r) (node_of bytes i) q.fine (s.fine i h))
 
-  -- a turn of the loop that looks for the record
-  pub find_here : (i : ℕ) → i < count → same_name r (record_at bytes i) ≡ true → number_of (node_in r) (drop i (store_of bytes count)) ≡ 0
-  find_here i h e = number_here (node_in r) (store_of bytes count) i (rw (store_length bytes count) h) (sym (same_here i h) ∙ e)
-
-  pub find_on : (i : ℕ) → i < count → same_name r (record_at bytes i) ≡ false
-      → number_of (node_in r) (drop i (store_of bytes count)) ≡ suc (number_of (node_in r) (drop (i + 1) (store_of bytes count)))
-  find_on i h e = number_on (node_in r) (store_of bytes count) i (rw (store_length bytes count) h) (sym (same_here i h) ∙ e)
-
-  pub find_end : (i : ℕ) → count ≤ i → number_of (node_in r) (drop i (store_of bytes count)) ≡ 0
-  find_end i h = number_end (node_in r) (store_of bytes count) i (rw (store_length bytes count) h)
+  -- what `find` gives over the nodes' numbers
+  pub record_found : (o : P.Option ℕ) → FirstOf count (λ k. same_name r (record_at bytes k)) o → o ≡ found_in (store_of bytes count) (node_in r)
+  unfolding found_in node_at
+  record_found o f =
+      first_is (same_node (node_in r)) (store_of bytes count) no_input (λ k. same_name r (record_at bytes k)) (λ k h. same_here k (rw (store_length bytes count) at h)) o
+      (subst (λ n. FirstOf n (λ k. same_name r (record_at bytes k)) o) (sym (store_length bytes count)) f)
 
   -- it was found, or is put at the end
-  module _ (c at : ℕ) (e : at ≡ number_of (node_in r) (store_of bytes count)) where
-    pub interns_old : at < count → Interns c (node_in r) bytes count bytes (record { count = count; signal = Signals.Node at })
-    interns_old h =
-        let l : number_of (node_in r) (store_of bytes count) < length (store_of bytes count) = rw (store_length bytes count, ← e) h in
-        let i = intern-old (node_in r) (store_of bytes count) l in
-        record { store = sym i; signal = ap Signals.Node (rw i e); still = s; centred = λ p f z. z }
+  module _ (c : ℕ) where
+    pub interns_old : (at : ℕ) → Some at ≡ found_in (store_of bytes count) (node_in r) → Interns c (node_in r) bytes count bytes (record { count = count; signal = Node at })
+    interns_old at e =
+        let f = found_some (node_in r) (store_of bytes count) at e in
+        let i = intern-old (node_in r) (store_of bytes count) f.1 in
+        record { store = sym i; signal = ap Node (rw i f.0); still = s; centred = λ p f z. z }
 
-    pub interns_new : count ≤ at → (after : List ℕ) → Adds c (node_in r) bytes count after
-        → Interns c (node_in r) bytes count after (record { count = count + 1; signal = Signals.Node count })
-    interns_new h after a =
-        let l : length (store_of bytes count) ≤ number_of (node_in r) (store_of bytes count) = rw (store_length bytes count, ← e) h in
+    pub interns_new : found_in (store_of bytes count) (node_in r) ≡ None → (after : List ℕ) → Adds c (node_in r) bytes count after
+        → Interns c (node_in r) bytes count after (record { count = count + 1; signal = Node count })
+    interns_new e after a =
+        let l = found_none (node_in r) (store_of bytes count) e in
         let i = intern-new (node_in r) (store_of bytes count) l in
         record {
           store = rw i a.store;
-          signal = ap Signals.Node (rw i (sym (number-new (node_in r) (store_of bytes count) l ∙ store_length bytes count)));
+          signal = ap Node (rw i (sym (number-new (node_in r) (store_of bytes count) l ∙ store_length bytes count)));
           still = a.still;
           centred = a.centred;
         }

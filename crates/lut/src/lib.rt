@@ -17,19 +17,13 @@ ghost use Rattle.lut.specs.Store.{Interns};
 
 use nodes::record::Terms;
 use rotation::{centre_of, complete};
+use rules::Wire;
 
-// LutSignal
-#[derive(Clone, Copy)]
-pub enum Signal {
-    Const(u8),
-    Node(usize),
-}
-
-// The count of nodes, and the signal that was made or found.
+// The count of nodes, and the signal that was made or found (LutSignal).
 #[derive(Clone, Copy)]
 pub struct Linked {
     pub count: usize,
-    pub signal: Signal,
+    pub signal: Wire,
 }
 
 // LutCircuit::linear

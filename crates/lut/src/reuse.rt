@@ -8,7 +8,7 @@ ghost use Rattle.lut.specs.Reuse.{takes_record};
 
 use crate::order::linear_terms;
 use crate::store::is_record;
-use nodes::node::{BOOTSTRAP, kind_of, source_of};
+use nodes::node::{Kind, kind_of, source_of};
 use nodes::record;
 use nodes::record::Terms;
 
@@ -17,11 +17,10 @@ fn takes(nodes: &[u8; 27552], i: usize, bytes: &[u8; 38]) -> bool
     requires { IsNode nodes.now i × (length bytes.now ≡ 38) }
     ensures { result ≡ takes_record bytes.now nodes.now (node_of nodes.now i) }
 {
-    if kind_of(nodes, i) != BOOTSTRAP {
-        return false;
+    match kind_of(nodes, i) {
+        Kind::Bootstrap => is_record(nodes, source_of(nodes, i, 0), bytes),
+        _ => false,
     }
-    let source = source_of(nodes, i, 0);
-    is_record(nodes, source, bytes)
 }
 
 // Whether a bootstrap takes the node with this record.
@@ -29,14 +28,7 @@ fn is_taken(nodes: &[u8; 27552], count: usize, bytes: &[u8; 38]) -> bool
     requires { IsStore nodes.now count × IsRecord count bytes.now }
     ensures { result ≡ has_bootstrap (store_of nodes.now count) (node_in bytes.now) }
 {
-    let mut i = 0;
-    while i < count {
-        if takes(nodes, i, bytes) {
-            return true;
-        }
-        i += 1;
-    }
-    false
+    (0..count).any(|i| takes(nodes, i, bytes))
 }
 
 // has_bootstrap, of the sum with these terms (there are many tables a sum).

@@ -1,31 +1,37 @@
-// The lowest of 21 to 24, 38 and 39 that a `many` line of edition 2 meets after the lines before it, 0 for none (document 02, S-11).
+// The first of 21 to 24, 38 and 39 that a `many` line of edition 2 meets after the lines before it (document 02, S-11).
 // It leans on `network_bounds`, `network_judge` and `many_text`.
 #![tactic(auto)]
 
-mod table;
-
-ghost use Rattle.std.specs.Prelude.{◌≡◌, ◌≤◌, length};
+ghost use Rattle.std.specs.Prelude.{◌≡◌, Bool, List, ℕ, ◌≤◌, IfOk, Some, length};
+ghost use Rattle.laws.specs.Select.{any};
+ghost use Rattle.rules.specs.Edition2.{Table as Whole, other_centre};
 ghost use Rattle.rules.specs.Network.{boot_sources, member};
+ghost use Rattle.rules.specs.Refusal.{number_met};
 ghost use Rattle.text.specs.Judged.{lowest};
 ghost use Rattle.nodes.specs.View.{node_of, store_of, IsNode, IsStore};
-ghost use Rattle.many_text.specs.Tables.{tables_from};
-ghost use Rattle.many_text.specs.Walk.{GoodTables};
+ghost use Rattle.network_text.specs.Lines.{TableBits};
+ghost use Rattle.network_judge.specs.View.{prefix_of};
+ghost use Rattle.many_text.specs.Tables.{table_of, tables_in, GoodTables};
 ghost use Rattle.many_judge.specs.Sources.{takes_source};
 ghost use Rattle.many_judge.specs.Conditions.{room_conditions, many_conditions};
 
-use crate::table::{Fault, any_table};
-use network_judge::Header;
-use nodes::node::{BOOTSTRAP, kind_of, source_of};
+use forms::Net;
+use many_text::{Table, read_table};
+use network_bounds::table::{is_rotatable, table_of};
+use network_judge::{Prefix, is_fitting};
+use nodes::node::{Kind, kind_of, source_of};
+use rules::Reason;
 
 // Node i is a table on this node.
+#[tactic(auto, using(nodes::specs::Nodes::some_need, crate::specs::Sources::takes_not, crate::specs::Sources::takes_so))]
 fn takes(nodes: &[u8; 27552], i: usize, source: usize) -> bool
     requires { IsNode nodes.now i }
     ensures { result ≡ takes_source source (node_of nodes.now i) }
 {
-    if kind_of(nodes, i) != BOOTSTRAP {
-        return false;
+    match kind_of(nodes, i) {
+        Kind::Bootstrap => source == source_of(nodes, i, 0),
+        _ => false,
     }
-    source == source_of(nodes, i, 0)
 }
 
 // A table stands on this node already: it has a `many` line.
@@ -33,61 +39,76 @@ fn has_tables(nodes: &[u8; 27552], count: usize, source: usize) -> bool
     requires { IsStore nodes.now count }
     ensures { result ≡ member source (boot_sources (store_of nodes.now count)) }
 {
-    let mut i = 0;
-    while i < count {
-        if takes(nodes, i, source) {
+    (0..count).any(|i| takes(nodes, i, source))
+}
+
+// The limits of the `net2` line, where there is room for so many tables.
+#[tactic(auto, using(crate::specs::Conditions::tests), unfolding(crate::specs::Conditions::conditions))]
+fn room(w: &Prefix, n: usize) -> Result<Net, Reason>
+    requires { w.now.count ≤ 672 }
+    ensures number { (nodes : List ℕ) → number_met result ≡ lowest (room_conditions (prefix_of nodes w.now) n) }
+    ensures net { IfOk result (λ net. w.now.net ≡ Some net) }
+{
+    match w.net {
+        Some(net) if w.outputs.is_empty() && n <= 672 - w.count => Ok(net),
+        _ => Err(Reason::BadLine),
+    }
+}
+
+// The centre is not the builder's.
+#[tactic(auto, unfolding(rules::specs::Edition2::other_centre))]
+fn is_other(p: usize, t: Table) -> bool
+    requires { TableBits t.bits.now }
+    ensures { result ≡ other_centre p (table_of t.entry) }
+{
+    let table = table_of(t.bits);
+    t.centre != rotation::centre_of(&table[..t.bits.len()], p)
+}
+
+// One of the tables at the front of some bytes is faulty.
+#[tactic(auto, using(many_text::specs::Tables::one_by_one, many_text::specs::Tables::good_more, many_text::specs::Tables::table_good), unfolding(laws::specs::Select::any))]
+fn any_table<F: Fn(Table<'_>) -> bool>(s: &[u8], is_faulty: F) -> bool
+    requires good { GoodTables s.now }
+    requires callable { (t : _) → TableBits t.bits.now → F.pre is_faulty t }
+    ensures { (f : Whole → Bool) → ((t : _) (r : Bool) → TableBits t.bits.now → F.post is_faulty t r → r ≡ f (table_of t)) → result ≡ any f (tables_in s.now) }
+{
+    let mut rest = s;
+    while let Some((table, after)) = read_table(rest) {
+        if is_faulty(table) {
             return true;
         }
-        i += 1;
+        rest = after;
     }
     false
 }
 
-// So many tables, after the lines before.
-fn room_number(h: Header, n: usize) -> usize
-    requires { h.count ≤ 672 }
-    ensures { result ≡ lowest (room_conditions h n) }
-{
-    if h.p == 0 {
-        return 21;
-    }
-    if 1 <= h.outputs {
-        return 21;
-    }
-    if 672 - h.count < n { 21 } else { 0 }
-}
-
-// The n tables from `at` on, which stand on this node.
-pub fn many_number(
-    h: Header,
+// The n tables at the front of some bytes, which stand on this node.
+#[tactic(auto, using(crate::specs::Conditions::tests), unfolding(crate::specs::Conditions::conditions, rules::specs::Edition2::not_fitting, rules::specs::Edition2::not_turning))]
+pub fn check_many(
+    w: &Prefix,
     nodes: &[u8; 27552],
-    l: &[u8],
     source: usize,
-    at: usize,
+    tables: &[u8],
     n: usize,
-) -> usize
-    requires { IsStore nodes.now h.count × GoodTables l.now at × (length (tables_from l.now at) ≡ n) }
-    ensures { result ≡ lowest (many_conditions h (store_of nodes.now h.count) source (tables_from l.now at)) }
+) -> Result<(), Reason>
+    requires { IsStore nodes.now w.now.count × GoodTables tables.now × (length (tables_in tables.now) ≡ n) }
+    ensures { number_met result ≡ lowest (many_conditions (prefix_of nodes.now w.now) source (tables_in tables.now)) }
 {
-    let number = room_number(h, n);
-    if number != 0 {
-        return number;
+    let net = room(w, n)?;
+    if source >= w.count {
+        return Err(Reason::BadSource);
     }
-    if h.count <= source {
-        return 22;
+    if any_table(tables, |t| !is_fitting(nodes, source, net.m, t.bits)) {
+        return Err(Reason::BadLength);
     }
-    if any_table(Fault::Misfit, h.p, h.m, nodes, source, l, at) {
-        return 23;
+    if any_table(tables, |t| !is_rotatable(net.p, t.bits)) {
+        return Err(Reason::NoRotation);
     }
-    if any_table(Fault::Bent, h.p, h.m, nodes, source, l, at) {
-        return 24;
+    if any_table(tables, |t| is_other(net.p, t)) {
+        return Err(Reason::OtherCentre);
     }
-    if any_table(Fault::Centre, h.p, h.m, nodes, source, l, at) {
-        return 38;
+    if has_tables(nodes, w.count, source) {
+        return Err(Reason::SecondLine);
     }
-    if has_tables(nodes, h.count, source) {
-        39
-    } else {
-        0
-    }
+    Ok(())
 }

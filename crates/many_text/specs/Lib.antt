@@ -1,4 +1,4 @@
--- What the code reads of edition 2's lines, and how that stands for the definitions of crates/rules.
+-- What the code reads of the lines of edition 2.
 pub mod Tables
-pub mod Walk
 pub mod Lines
+pub mod Readers

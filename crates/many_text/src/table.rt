@@ -1,100 +1,58 @@
-// `(BITS CENTRE)` on a `many` line: a line's tables are not kept but read again, one by one from a place on.
-ghost use Rattle.std.specs.Prelude.{◌≡◌, ◌≤◌, length, drop};
+// `(BITS CENTRE)` on a `many` line: a line's tables are not kept but read again, one by one.
+ghost use Rattle.std.specs.Prelude.{◌≡◌};
 ghost use Rattle.rules.specs.Edition2.{centre_digit};
-ghost use Rattle.text.specs.Reads.{Reads};
-ghost use Rattle.many_text.specs.Tables.{centre_taken, centre_end, ReadsTable, TablesRead};
+ghost use Rattle.text.specs.Pieces.{piece, piece_as};
+ghost use Rattle.many_text.specs.Tables.{table_of, spaced_table, counted};
 
-use text::Found;
+use text::{read_bits, read_word};
 
-// A centre, and where it ends.
+// A table: its bits as they stand in the text, and its centre.
 #[derive(Clone, Copy)]
-enum CentreRead {
-    At(u8, usize),
-    Nothing,
+pub struct Table<'a> {
+    pub bits: &'a [u8],
+    pub centre: u8,
 }
 
-// 0, 1 or 2, from `at` on.
-fn read_centre(l: &[u8], at: usize) -> CentreRead
-    requires { at ≤ length l.now }
-    ensures { Reads (length l.now) (centre_taken l.now result) (centre_end result) (centre_digit (drop at l.now)) }
+// 0, 1 or 2.
+fn read_centre(s: &[u8]) -> Option<(u8, &[u8])>
+    ensures { piece result ≡ centre_digit s.now }
 {
-    if let Found::At(e) = text::read_word(l, at, b"0") {
-        return CentreRead::At(0, e);
+    if let Some(rest) = read_word(s, b"0") {
+        return Some((0, rest));
     }
-    if let Found::At(e) = text::read_word(l, at, b"1") {
-        return CentreRead::At(1, e);
+    if let Some(rest) = read_word(s, b"1") {
+        return Some((1, rest));
     }
-    let Found::At(e) = text::read_word(l, at, b"2") else {
-        return CentreRead::Nothing;
-    };
-    CentreRead::At(2, e)
+    let rest = read_word(s, b"2")?;
+    Some((2, rest))
 }
 
-// A table: where its bits start and end, its centre, and where it ends.
-#[derive(Clone, Copy)]
-pub enum TableRead {
-    At(usize, usize, u8, usize),
-    Nothing,
-}
-
-// A blank and `(BITS CENTRE)`, from `at` on.
-pub fn read_table(l: &[u8], at: usize) -> TableRead
-    requires { at ≤ length l.now }
-    ensures { ReadsTable l.now at result }
+// A blank and `(BITS CENTRE)`.
+pub fn read_table(s: &[u8]) -> Option<(Table<'_>, &[u8])>
+    ensures { piece_as table_of result ≡ spaced_table s.now }
 {
-    let Found::At(a) = text::read_word(l, at, b" ") else {
-        return TableRead::Nothing;
-    };
-    let Found::At(b) = text::read_word(l, a, b"(") else {
-        return TableRead::Nothing;
-    };
-    let Found::At(e) = text::read_bits(l, b) else {
-        return TableRead::Nothing;
-    };
-    let Found::At(f) = text::read_word(l, e, b" ") else {
-        return TableRead::Nothing;
-    };
-    let CentreRead::At(centre, g) = read_centre(l, f) else {
-        return TableRead::Nothing;
-    };
-    let Found::At(next) = text::read_word(l, g, b")") else {
-        return TableRead::Nothing;
-    };
-    TableRead::At(b, e, centre, next)
+    let s = read_word(s, b" ")?;
+    let s = read_word(s, b"(")?;
+    let (bits, s) = read_bits(s)?;
+    let s = read_word(s, b" ")?;
+    let (centre, s) = read_centre(s)?;
+    let s = read_word(s, b")")?;
+    Some((Table { bits, centre }, s))
 }
 
-// How many tables there are and where they end, if none has over 32 bits.
-#[derive(Clone, Copy)]
-pub struct Tables {
-    pub good: bool,
-    pub n: usize,
-    pub end: usize,
-}
-
-// The tables from `at` on.
-pub fn count_tables(l: &[u8], at: usize) -> Tables
-    requires { at ≤ length l.now }
-    ensures { TablesRead l.now at result }
+// How many tables there are, if none has over 32 bits, and what is left.
+#[tactic(auto, using(crate::specs::Tables::one_by_one), unfolding(crate::specs::Tables::counted, laws::specs::Select::any, rules::specs::Edition2::too_long))]
+pub fn count_tables(s: &[u8]) -> Option<(usize, &[u8])>
+    ensures { piece result ≡ counted s.now }
 {
     let mut n = 0;
-    let mut i = at;
-    loop {
-        let read = read_table(l, i);
-        let TableRead::At(a, e, _, next) = read else {
-            return Tables {
-                good: true,
-                n,
-                end: i,
-            };
-        };
-        if 32 < e - a {
-            return Tables {
-                good: false,
-                n,
-                end: i,
-            };
+    let mut rest = s;
+    while let Some((table, after)) = read_table(rest) {
+        if table.bits.len() > 32 {
+            return None;
         }
         n += 1;
-        i = next;
+        rest = after;
     }
+    Some((n, rest))
 }

@@ -1,3 +1,3 @@
--- The store and the wires on the way through gates and outputs, and the laws that the mapper is proved by.
-pub mod Once
+-- What a circuit that was read gives to the steps, and what the steps give back.
+pub mod Asked
 pub mod Entry

@@ -20,6 +20,7 @@ fn above(x: i32, low: i64) -> usize
 }
 
 // The place of a row in the grid.
+#[tactic(auto, using(crate::specs::RowsFrame::cell_lt), unfolding(crate::specs::RowsFrame::cell_of))]
 fn cell(f: Frame, x: i32, y: i32, truth: u8) -> usize
     requires { InFrame f x y truth }
     ensures { (result ≡ cell_of f x y truth) × (result < 2048) }
@@ -41,27 +42,24 @@ pub fn compact_rows(
     ensures same { Compacted (take rows xs.old) (take rows ys.old) (take rows truth.old) (take result xs.new) (take result ys.new) (take result truth.new) (take result counts.new) }
     ensures moved { Moved rows result xs.new ys.new truth.new counts.new }
 {
-    // Each met cell's row, counted from 1.
-    let mut places = [0u16; 2048];
+    // Where each met cell's row stands.
+    let mut places: [Option<u16>; 2048] = [None; 2048];
     let mut n = 0;
-    let mut i = 0;
-    while i < rows {
+    for i in 0..rows {
         let x = xs[i];
         let y = ys[i];
         let t = truth[i];
         let k = cell(f, x, y, t);
-        let p = places[k] as usize;
-        if p == 0 {
+        if let Some(p) = places[k] {
+            counts[p as usize] += 1;
+        } else {
             xs[n] = x;
             ys[n] = y;
             truth[n] = t;
             counts[n] = 1;
+            places[k] = Some(n as u16);
             n += 1;
-            places[k] = n as u16;
-        } else {
-            counts[p - 1] = counts[p - 1] + 1;
         }
-        i += 1;
     }
     n
 }

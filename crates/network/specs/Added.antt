@@ -1,213 +1,345 @@
--- A line with no fault added: the arrays stand for the lines with it.
-use Rattle.std.specs.Prelude.{◌≡◌, Bool, true, ◌&&◌, ℕ, ◌+◌, ◌*◌, ◌-◌, ◌<◌, ◌≤◌, leb, eqb, drop}
-use Rattle.std.proofs.Math.Path.{refl, ap, subst}
-use Rattle.std.proofs.Common.{sym, ◌∙◌, true≢false, leb→le}
-use Rattle.std.proofs.Math.Bool.{false, not}
-use mathlib.Core.List.{List, [], ◌∷◌, ◌++◌}
-use Rattle.std.proofs.Math.Option.{Option, none, some, some-injective, none-ne-some}
-use native.Mathlib.Omega.{arith}
-use borrow.Author.Tests.{eq-eqb, ne_eqb, eqb-true}
-use Rattle.std.proofs.Math.ListN.{length, take}
-use Rattle.laws.specs.Tabulate.{tabulate-length}
-use Rattle.laws.specs.Test.{if◌then◌otherwise◌, is_some, and_left, is_T}
-use Rattle.rules.specs.declared.Limit.{Limit}
+-- A line with no fault, put behind those before it: the store and the lines so far stand for the lines with it.
+use Rattle.std.specs.Prelude as P
+use Rattle.std.specs.Prelude.{◌≡◌, Bool, true, false, ◌||◌, List, [], ◌∷◌, ◌++◌, map, ℕ, ◌+◌, ◌<◌, ◌≤◌, leb, length, All}
+use Rattle.std.proofs.Common.{refl, sym, ap, subst, ◌∙◌, ⊎_elim, arith, true≢false, not-suc-le-zero, leb-false}
+use Rattle.std.proofs.Math.Option.{Option, none, some}
+use Rattle.std.proofs.lemmas.List.{length-map, map-append, length-append}
+use Rattle.std.proofs.lemmas.List.Elements.{All-append}
+use borrow.Author.Tests.{lt-ltb, le-ltb, eqb-true, lt-leb}
+use Rattle.laws.specs.Tabulate.{tabulate, tabulate_same}
+use Rattle.laws.specs.Test.{if◌then◌otherwise◌, is_some, lt_or_le, neither_left, neither_right}
 use Rattle.rules.specs.declared.Wire.{Wire}
+use Rattle.rules.specs.declared.Wire.TheVariants.{Const, Node}
 use Rattle.rules.specs.Builder.{table_limits}
-use Rattle.rules.specs.Circuit.{Given, Output}
 use Rattle.rules.specs.CircuitText.{no_node}
-use Rattle.rules.specs.Network.{LutNode, Input, Linear, Bootstrap, is_input, node_centre}
-use Rattle.rules.specs.NetworkText as N
-use Rattle.rules.specs.NetworkText.{Net, NetworkLine, NetLine, NodeLine, OutLine, network_line, all_inputs, settings_of, with_network_line}
+use Rattle.rules.specs.Form.{bits_from}
 use Rattle.rules.specs.Rotation.{centre_of}
-use Rattle.text.specs.Name.{Named}
-use Rattle.theorems.specs.LineBits.{WireBit, LineBits, line-bits}
-use Rattle.lut.specs.Ports.{port_output}
+use Rattle.rules.specs.Network as W
+use Rattle.rules.specs.Network.{Term, LutNode, Input, Linear, Bootstrap, is_input, is_linear, node_at, node_centre}
+use Rattle.rules.specs.NetworkText.{NetPrefix, NetworkLine, NetLine, NodeLine, network_line, started, all_inputs, sources, unknown, any_bad_source, with_network_line}
+use Rattle.theorems.specs.Counts.{count_snoc, count_most}
+use Rattle.theorems.specs.LineBits.{LineBits, line-bits}
+use Rattle.theorems.specs.NodesAt.{node-before, node_next}
+use Rattle.forms.specs.Forms.{output_of}
+use Rattle.forms.specs.declared.Net.{Net}
+use Rattle.forms.specs.declared.Output.{Output}
+use Rattle.nodes.specs.Centre.{none_centred}
+use Rattle.nodes.specs.View.{FineTerms, terms_in, node_of, store_of, at_store, store_length, no-nodes}
 use Rattle.lut.specs.Store.{Adds}
-use Rattle.nodes.specs.Centre.{Centred, none_centred}
-use Rattle.nodes.specs.View.{store_of, store_length}
-use Rattle.network_text.specs.Lines.{line_in, line_of, good_line, Within, LineRead}
-use Rattle.network_text.specs.Terms.{terms_of}
+use Rattle.network_text.specs.Lines.{net_of, line_of, good_line, TableBits, Within, LineRead}
 use Rattle.network_text.specs.declared.line.Line.{Line}
-use Rattle.network_text.specs.declared.line.Line.TheVariants.{Bad, Net as NetRead, In, Lin as Sum, Boot, Out}
-use Rattle.network_text.specs.declared.line.Read.{Read}
-use Rattle.network_text.specs.declared.sum.Lin.{Lin}
-use Rattle.network.specs.Numbers.{Says}
-use Rattle.network.specs.Put.{signal_of, with_port, with_net, with_node, with_input, with_output, Follows}
-use Rattle.network_bounds.specs.Table.{table_length}
-use Rattle.network.specs.Verdict.{refusal, good_same, net_limits, net-first, node-started, inputs-only, sum_sound, out_known}
-use Rattle.network.specs.View.{outputs_of, net_of, prefix_of, Sound, Holds}
-use Rattle.network_judge.specs.declared.Header.{Header}
-use Rattle.network.specs.NodeAdded.{holds_node, holds_input}
-use Rattle.network.specs.OutputAdded.{outputs_more, new-output, holds_output}
+use Rattle.network_text.specs.declared.line.Line.TheVariants as L
+use Rattle.network_judge.specs.Conditions.{line_conditions}
+use Rattle.network_judge.specs.Scans.{bits_length}
+use Rattle.network_judge.specs.View.{Kept, net_so_far, prefix_of}
+use Rattle.network_judge.specs.declared.Prefix.{Prefix}
+use Rattle.network.specs.Put.{Has, RoomFor, Ready, Follows, period}
+use Rattle.network.specs.Verdict.{refusal, with_form, good_refusal, good_refusal_lem, good_same, net_limits, net-first, node-started, node_room, inputs-only, sum_sound, boot_known, out_known, out-started}
+use Rattle.network.specs.View.{Sound, GoodOutput, Holds, HoldsBehind, HoldsSoFar}
+use Rattle.text.specs.Judged.{lowest}
 
--- ---- What holds of the arrays says what the lines so far say.
+-- ---- The store with one node more.
 
-net-started : (h : Header) → eqb h.p 0 ≡ not (is_some (net_of h))
-unfolding net_of
-net-started h = by (eqb h.p 0)
-  where
-    by : (b : Bool) → b ≡ not (is_some {A = Net} (if b then none otherwise some (record { p = h.p; m = h.m; norm = h.norm })))
-    by true = refl
-    by false = refl
+module _ (nodes after : List ℕ) (count : ℕ) {c : ℕ} (n : LutNode) (k : Adds c n nodes count after) where
+  old-node : (i : ℕ) → i < count → node_of after i ≡ node_of nodes i
+  old-node i h =
+      sym (at_store after i (count + 1) (omega arith))
+      ∙ ap (λ (ns : List LutNode). node_at ns i) k.store
+      ∙ node-before (store_of nodes count) (n ∷ []) i (rw (store_length nodes count) h)
+      ∙ at_store nodes i count h
 
-net_some : (h : Header) → (h.p ≡ 0 → ⊥) → net_of h ≡ some (record { p = h.p; m = h.m; norm = h.norm })
-unfolding net_of
-net_some h e = rw (ne_eqb h.p 0 e)
+  new-node : node_of after count ≡ n
+  new-node =
+      sym (at_store after count (count + 1) (omega arith))
+      ∙ ap (λ (ns : List LutNode). node_at ns count) k.store
+      ∙ node_next (store_of nodes count) n [] count (store_length nodes count)
 
-outputs-length : (text ports : List ℕ) (n : ℕ) → length (outputs_of text ports n) ≡ n
-unfolding outputs_of
-outputs-length text ports n = tabulate-length n (port_output text ports)
+  old_store : (i : ℕ) → i ≤ count → store_of after i ≡ store_of nodes i
+  unfolding store_of
+  old_store i h = tabulate_same i (node_of after) (node_of nodes) (λ j l. old-node j (omega arith))
 
-pub holds_says : {text nodes ports : List ℕ} {h : Header} → Holds text nodes ports h → Says h (prefix_of text nodes ports h)
-unfolding prefix_of N.started settings_of
-holds_says {text} {nodes} {ports} {h} k =
+  -- a fact of each node and those before it
+  node_more : (Q : List LutNode → LutNode → Type 0) → ((i : ℕ) → i < count → Q (store_of nodes i) (node_of nodes i)) → Q (store_of nodes count) n
+      → (i : ℕ) → i < count + 1 → Q (store_of after i) (node_of after i)
+  node_more Q f q i h =
+      ⊎_elim (λ (l : i < count). rw (old_store i (omega arith), old-node i l) (f i l))
+      (λ (l : count ≤ i). let e : i ≡ count = omega arith in rw (e, old_store count (omega arith), new-node) q) (lt_or_le i count)
+
+known_more : (count : ℕ) (w : Wire) → no_node count w ≡ false → no_node (count + 1) w ≡ false
+unfolding no_node
+known_more count (Const b) e = refl
+known_more count (Node i) e = let l = leb-false count i e in lt-leb (count + 1) i (omega arith)
+
+good_more : (count : ℕ) (os : List Output) → All (GoodOutput count) os → All (GoodOutput (count + 1)) os
+good_more count os h k d l = let g = h k d l in record { name = g.name; known = known_more count (P.get_or os k d).wire g.known; bit = g.bit }
+
+good_one : (count : ℕ) (o : Output) → GoodOutput count o → All (GoodOutput count) (o ∷ [])
+good_one count o g P.zero d l = g
+good_one count o g (P.suc k) d l = absurd (omega arith)
+
+module _ {nodes : List ℕ} {net : Net} {count inputs : ℕ} {outs : List Output} (k : Holds nodes net count inputs outs) (after : List ℕ) (n : LutNode)
+    (a : Adds (node_centre net.p n) n nodes count after) (s : Sound (store_of nodes count) n) where
+  input_count : W.count is_input (store_of after (count + 1)) ≡ inputs + (if is_input n then 1 otherwise 0)
+  input_count = ap (W.count is_input) a.store ∙ count_snoc is_input (store_of nodes count) n ∙ ap (λ m. m + (if is_input n then 1 otherwise 0)) (sym k.counted)
+
+  few : inputs ≤ count
+  few = rw k.counted (omega (arith, count_most is_input (store_of nodes count), store_length nodes count))
+
+  pub holds_node : is_input n ≡ false → Holds after net (count + 1) inputs outs
+  holds_node e =
+      record {
+        store = a.still;
+        few_inputs = k.few_inputs;
+        few_outputs = k.few_outputs;
+        counted = sym (input_count ∙ rw e (omega arith));
+        first = λ i l.
+            ⊎_elim (λ (q : i < count). rw (old-node nodes after count n a i q) (k.first i q))
+            (λ (q : count ≤ i). let c : i ≡ count = omega arith in rw (c, new-node nodes after count n a, e) (sym (le-ltb count inputs few))) (lt_or_le i count);
+        sound = node_more nodes after count n a Sound k.sound s;
+        outputs = good_more count outs k.outputs;
+        limits = k.limits;
+        centred = a.centred net.p refl k.centred;
+      }
+
+  pub holds_input : is_input n ≡ true → inputs ≡ count → count < 32 → Holds after net (count + 1) (inputs + 1) outs
+  holds_input e all most =
+      record {
+        store = a.still;
+        few_inputs = omega arith;
+        few_outputs = k.few_outputs;
+        counted = sym (input_count ∙ rw e);
+        first = λ i l.
+            ⊎_elim (λ (q : i < count). rw (old-node nodes after count n a i q, k.first i q, lt-ltb i inputs (omega arith)) (sym (lt-ltb i (inputs + 1) (omega arith))))
+            (λ (q : count ≤ i). let c : i ≡ count = omega arith in rw (c, new-node nodes after count n a, e) (sym (lt-ltb count (inputs + 1) (omega arith)))) (lt_or_le i count);
+        sound = node_more nodes after count n a Sound k.sound s;
+        outputs = good_more count outs k.outputs;
+        limits = k.limits;
+        centred = a.centred net.p refl k.centred;
+      }
+
+holds_output : {nodes : List ℕ} {net : Net} {count inputs : ℕ} {outs : List Output} → Holds nodes net count inputs outs → (o : Output) → length outs < 32 → GoodOutput count o
+    → Holds nodes net count inputs (outs ++ (o ∷ []))
+holds_output {count = count} {outs = outs} k o h g =
     record {
-      unstarted = net-started h;
-      settings = λ e. ap settings_of (net_some h e);
-      count = sym (store_length nodes h.count);
-      inputs = k.inputs;
-      outputs = sym (outputs-length text ports h.outputs);
-      most = k.store.most;
+      store = k.store;
       few_inputs = k.few_inputs;
+      few_outputs = simp length-append (omega arith);
+      counted = k.counted;
+      first = k.first;
+      sound = k.sound;
+      outputs = All-append (GoodOutput count) outs (o ∷ []) k.outputs (good_one count o g);
+      limits = k.limits;
+      centred = k.centred;
     }
 
--- ---- The line that was read.
+-- with the `net` line alone
+holds_net : (nodes : List ℕ) (n : Net) → length nodes ≡ 27552 → table_limits n.p n.m ≡ true → Holds nodes n 0 0 []
+unfolding store_of tabulate W.count
+holds_net nodes n e t =
+    record {
+      store = no-nodes nodes e;
+      few_inputs = omega arith;
+      few_outputs = omega arith;
+      counted = refl;
+      first = λ i l. absurd (not-suc-le-zero l);
+      sound = λ i l. absurd (not-suc-le-zero l);
+      outputs = λ k d l. absurd (not-suc-le-zero l);
+      limits = t;
+      centred = none_centred n.p nodes;
+    }
+
+-- ---- What judging asks.
+
+kept_behind : (o : P.Option Net) (nodes : List ℕ) (w : Prefix) → HoldsBehind o nodes w.count w.inputs w.outputs.items → Kept nodes w
+unfolding store_of tabulate W.count
+kept_behind P.None nodes w k =
+    record {
+      store = rw k.1 (no-nodes nodes k.0);
+      first = λ i l. absurd (omega (arith, k.1));
+      counted = rw (k.1, k.2) refl;
+    }
+kept_behind (P.Some n) nodes w k = record { store = k.store; first = k.first; counted = k.counted }
+
+pub kept : (nodes : List ℕ) (w : Prefix) → HoldsSoFar nodes w → Kept nodes w
+kept nodes w k = kept_behind w.net nodes w k
+
+-- ---- The number of a line that was read is the definition's.
+
+pub read_number : (judge : Bool) (nodes : List ℕ) (w : Prefix) → HoldsSoFar nodes w → {l : List ℕ} (line : Line) → LineRead l (P.Some line)
+    → lowest (line_conditions judge (prefix_of nodes w) (line_of line)) ≡ refusal judge (prefix_of nodes w) (network_line l)
+unfolding good_refusal
+read_number judge nodes w k {l} line q =
+    let most = (kept nodes w k).store.most in
+    ap (good_refusal judge (prefix_of nodes w)) q.same ∙ good_refusal_lem judge (prefix_of nodes w) (rw (store_length nodes w.count) (omega arith)) (network_line l)
+
+pub unread_number : (judge : Bool) (nodes : List ℕ) (w : Prefix) → HoldsSoFar nodes w → {l : List ℕ} → LineRead l P.None
+    → 21 ≡ refusal judge (prefix_of nodes w) (network_line l)
+unfolding good_refusal
+unread_number judge nodes w k {l} q =
+    let most = (kept nodes w k).store.most in
+    ap (good_refusal judge (prefix_of nodes w)) q.same ∙ good_refusal_lem judge (prefix_of nodes w) (rw (store_length nodes w.count) (omega arith)) (network_line l)
+
+-- A line with no fault is the text's.
+none_refused : (judge : Bool) (p : NetPrefix) → refusal judge p none ≡ 0 → ⊥
+unfolding refusal
+none_refused judge p e = omega arith
+
+pub text_line : (judge : Bool) (nodes : List ℕ) (w : Prefix) → HoldsSoFar nodes w → {l : List ℕ} (line : Line) → LineRead l (P.Some line)
+    → refusal judge (prefix_of nodes w) (network_line l) ≡ 0 → network_line l ≡ some (line_of line)
+text_line judge nodes w k {l} line q = by (network_line l) refl
+  where
+    by : (o : Option NetworkLine) → network_line l ≡ o → refusal judge (prefix_of nodes w) o ≡ 0 → o ≡ some (line_of line)
+    by none e z = absurd (none_refused judge (prefix_of nodes w) z)
+    by (some m) e z =
+        let most = (kept nodes w k).store.most in
+        sym (q.same ∙ ap good_line e ∙ good_same judge (prefix_of nodes w) (rw (store_length nodes w.count) (omega arith)) m z)
+
+-- ---- There is room for it.
+
+fine_known : (m : ℕ) (ns : List LutNode) (ts : List Term) → FineTerms m ts → any_bad_source ns (sources ts) ≡ false → FineTerms (length ns) ts
+unfolding FineTerms any_bad_source sources unknown
+fine_known m ns [] f e = tt
+fine_known m ns (t ∷ ts) f e =
+    let a = neither_left (leb (length ns) t.node || is_linear (node_at ns t.node)) (any_bad_source ns (sources ts)) e in
+    let b = neither_right (leb (length ns) t.node || is_linear (node_at ns t.node)) (any_bad_source ns (sources ts)) e in
+    (f.0, leb-false (length ns) t.node (neither_left (leb (length ns) t.node) (is_linear (node_at ns t.node)) a), fine_known m ns ts f.2 b)
+
+few_behind : (o : P.Option Net) (nodes : List ℕ) (w : Prefix) → HoldsBehind o nodes w.count w.inputs w.outputs.items → w.inputs ≤ 32
+few_behind P.None nodes w k = rw k.2 (omega arith)
+few_behind (P.Some n) nodes w k = k.few_inputs
+
+module _ (judge : Bool) (nodes : List ℕ) (w : Prefix) (k : HoldsSoFar nodes w) where
+  room : (line : Line) → Within line → refusal judge (prefix_of nodes w) (some (line_of line)) ≡ 0 → RoomFor w line
+  unfolding is_input
+  room (L.Net n) i e = tt
+  room (L.In g) i e =
+      let o = inputs-only judge (prefix_of nodes w) _ e in
+      let c = rw (store_length nodes w.count) at o.1 in
+      (omega arith, few_behind w.net nodes w k, i)
+  room (L.Lin t) i e =
+      let c = rw (store_length nodes w.count) at (node_room judge (prefix_of nodes w) (Linear t.constant (terms_in t)) refl e) in
+      let s = sum_sound judge (prefix_of nodes w) t.constant (terms_in t) e in
+      (c, record { few = i.few; near = i.near; fine = rw (store_length nodes w.count) at (fine_known 65537 (store_of nodes w.count) (terms_in t) i.fine s.1) })
+  room (L.Boot j b) i e =
+      let c = rw (store_length nodes w.count) at (node_room judge (prefix_of nodes w) (Bootstrap j (bits_from b.now)) refl e) in
+      let s = rw (store_length nodes w.count) at (boot_known judge (prefix_of nodes w) j (bits_from b.now) e) in
+      (c, s, i)
+  room (L.Out o) i e = rw length-map at (out_known judge (prefix_of nodes w) (output_of o) e).0
+
+  pub ready : (line : Line) → Within line → refusal judge (prefix_of nodes w) (some (line_of line)) ≡ 0 → Ready nodes w line
+  ready line i e = ((kept nodes w k).store, room line i e)
+
+-- ---- What is there with it.
+
+has_holds : (after : List ℕ) (v : Prefix) {o : P.Option Net} {c i : ℕ} {os : List Output} → Has v o c i os → HoldsBehind o after c i os → HoldsSoFar after v
+has_holds after v h k = rw (h.net, h.count, h.inputs, h.outs) k
+
+has_prefix : (after : List ℕ) (v : Prefix) {o : P.Option Net} {c i : ℕ} {os : List Output} → Has v o c i os
+    → prefix_of after v ≡ record { net = net_so_far o; nodes = store_of after c; outputs = map output_of os }
+has_prefix after v h = rw (h.net, h.count, h.outs) refl
 
 -- What a line with no fault adds.
-pub record Added (text : List ℕ) (nodes ports : List ℕ) (h : Header) (m : NetworkLine) (s : Header) (nodes₁ ports₁ : List ℕ) : Type 0 where
-  pub prefix : (i : ℕ) → prefix_of text nodes₁ ports₁ s ≡ with_network_line i (prefix_of text nodes ports h) m
-  pub holds : Holds text nodes₁ ports₁ s
+pub record Added (nodes : List ℕ) (w : Prefix) (m : NetworkLine) (after : List ℕ) (v : Prefix) : Type 0 where
+  pub prefix : (i : ℕ) → prefix_of after v ≡ with_network_line i (prefix_of nodes w) m
+  pub holds : HoldsSoFar after v
 
-limits_positive : (p m : ℕ) → table_limits p m ≡ true → p ≡ 0 → ⊥
-unfolding table_limits
-limits_positive p m e z =
-    let c = is_T _ e in
-    let d = leb→le 2 p (and_left (leb 2 p) (leb p 16) (and_left (leb 2 p && leb p 16) (leb p m) (and_left (leb 2 p && leb p 16 && leb p m) (leb m (2 * p)) c))) in
-    omega arith
+started_some : (o : P.Option Net) → is_some (net_so_far o) ≡ true → (n : Net) × (o ≡ P.Some n)
+started_some P.None e = absurd (true≢false (sym e))
+started_some (P.Some n) e = (n, refl)
 
-module _ (judge : Bool) {text nodes ports : List ℕ} {h : Header} (k : Holds text nodes ports h) where
-  pub net_added : (p m : ℕ) (n : Limit) → refusal judge (prefix_of text nodes ports h) (some (NetLine (record { p = p; m = m; norm = n }))) ≡ 0
-      → Added text nodes ports h (NetLine (record { p = p; m = m; norm = n })) (with_net h p m n) nodes ports
-  unfolding with_net prefix_of with_network_line
-  net_added p m n e =
-      let unstarted : h.p ≡ 0 = eqb-true h.p 0 ((holds_says k).unstarted ∙ ap not (net-first judge (prefix_of text nodes ports h) (record { p = p; m = m; norm = n }) e)) in
-      let t = net_limits judge (prefix_of text nodes ports h) (record { p = p; m = m; norm = n }) e in
+started-none : (o : P.Option Net) → is_some (net_so_far o) ≡ false → o ≡ P.None
+started-none P.None e = refl
+started-none (P.Some n) e = absurd (true≢false e)
+
+-- where there are nodes there is a `net` line
+some_behind : (o : P.Option Net) (nodes : List ℕ) (w : Prefix) → HoldsBehind o nodes w.count w.inputs w.outputs.items → 0 < w.count
+    → (m : Net) × (o ≡ P.Some m) × Holds nodes m w.count w.inputs w.outputs.items
+some_behind P.None nodes w k z = absurd (omega (arith, k.1))
+some_behind (P.Some n) nodes w k z = (n, refl, k)
+
+module _ (judge : Bool) (nodes : List ℕ) (w : Prefix) (k : HoldsSoFar nodes w) (after : List ℕ) (v : Prefix) where
+  pub net_added : (n : Net) → refusal judge (prefix_of nodes w) (some (NetLine (net_of n))) ≡ 0 → Follows nodes w (L.Net n) after v → Added nodes w (NetLine (net_of n)) after v
+  unfolding with_network_line started
+  net_added n e f =
+      let h : HoldsBehind P.None nodes w.count w.inputs w.outputs.items
+      = subst (λ o. HoldsBehind o nodes w.count w.inputs w.outputs.items) (started-none w.net (net-first judge (prefix_of nodes w) (net_of n) e)) k in
+      let t = net_limits judge (prefix_of nodes w) (net_of n) e in
       record {
-        prefix = λ i. ap (λ (x : Option Net). record { net = x; nodes = store_of nodes h.count; outputs = outputs_of text ports h.outputs }) (net_some (with_net h p m n) (limits_positive p m t));
-        holds = record {
-          store = k.store;
-          long = k.long;
-          few_inputs = k.few_inputs;
-          few_outputs = k.few_outputs;
-          inputs = k.inputs;
-          first = k.first;
-          sound = k.sound;
-          name = k.name;
-          signal = k.signal;
-          limits = λ _. t;
-          unstarted = λ z. absurd (limits_positive p m t z);
-          centred = subst (Centred p nodes) (sym (k.unstarted unstarted)) (none_centred p nodes);
-        };
+        prefix = λ i. has_prefix after v f.0 ∙ ap (λ x. record { net = some (net_of n); nodes = store_of x w.count; outputs = map output_of w.outputs.items }) f.1;
+        holds = has_holds after v f.0 (rw (f.1, h.1, h.2, h.3) (holds_net nodes n h.0 t));
       }
 
   -- a node stands behind the `net` line
-  has_net : (n : LutNode) → refusal judge (prefix_of text nodes ports h) (some (NodeLine n)) ≡ 0 → h.p ≡ 0 → ⊥
-  has_net n e z = true≢false (sym (eq-eqb h.p 0 z) ∙ (holds_says k).unstarted ∙ ap not (node-started judge (prefix_of text nodes ports h) n e))
+  behind : (n : LutNode) → refusal judge (prefix_of nodes w) (some (NodeLine n)) ≡ 0 → (m : Net) × (w.net ≡ P.Some m) × Holds nodes m w.count w.inputs w.outputs.items
+  unfolding started
+  behind n e =
+      let s = started_some w.net (node-started judge (prefix_of nodes w) n e) in
+      (s.0, s.1, subst (λ o. HoldsBehind o nodes w.count w.inputs w.outputs.items) s.1 k)
 
-  node_prefix : (n : LutNode) (after : List ℕ) → Adds (node_centre h.p n) n nodes h.count after → (s : Header) → net_of s ≡ net_of h → s.count ≡ h.count + 1 → s.outputs ≡ h.outputs
-      → (i : ℕ) → prefix_of text after ports s ≡ with_network_line i (prefix_of text nodes ports h) (NodeLine n)
-  unfolding prefix_of with_network_line
-  node_prefix n after a s e f g i =
-      rw (e, f, g) (ap (λ (x : List LutNode). record { net = net_of h; nodes = x; outputs = outputs_of text ports h.outputs }) a.store)
+  node_prefix : {c i : ℕ} (n : LutNode) → Has v w.net (w.count + 1) i w.outputs.items → Adds c n nodes w.count after
+      → (j : ℕ) → prefix_of after v ≡ with_network_line j (prefix_of nodes w) (NodeLine n)
+  unfolding with_network_line
+  node_prefix n h a j = has_prefix after v h ∙ ap (λ x. record { net = net_so_far w.net; nodes = x; outputs = map output_of w.outputs.items }) a.store
 
-  in_added : (n : Given) (after : List ℕ) → Adds 0 (Input n) nodes h.count after → refusal judge (prefix_of text nodes ports h) (some (NodeLine (Input n))) ≡ 0
-      → Added text nodes ports h (NodeLine (Input n)) (with_input h) after ports
-  unfolding is_input Sound net_of all_inputs prefix_of with_input node_centre
-  in_added n after a e =
-      let o = inputs-only judge (prefix_of text nodes ports h) n e in
-      let l = store_length nodes h.count in
-      let all : h.inputs ≡ h.count = k.inputs ∙ eqb-true _ _ o.0 ∙ l in
+  -- another node than an input
+  node_added : {c : ℕ} (n : LutNode) → is_input n ≡ false → (b : (m : Net) × (w.net ≡ P.Some m) × Holds nodes m w.count w.inputs w.outputs.items)
+      → ((m : Net) → w.net ≡ P.Some m → c ≡ node_centre m.p n) → Sound (store_of nodes w.count) n
+      → Has v w.net (w.count + 1) w.inputs w.outputs.items → Adds c n nodes w.count after → Added nodes w (NodeLine n) after v
+  node_added n i b c s h a =
       record {
-        prefix = node_prefix (Input n) after a (with_input h) refl refl refl;
-        holds = holds_input k (has_net (Input n) e) after (Input n) a tt refl all (omega (arith, o.1));
+        prefix = node_prefix n h a;
+        holds = has_holds after v h
+            (subst (λ o. HoldsBehind o after (w.count + 1) w.inputs w.outputs.items) (sym b.1)
+            (holds_node b.2 after n (subst (λ x. Adds x n nodes w.count after) (c b.0 b.1) a) s i));
       }
 
-  sum_added : (v : Lin) (after : List ℕ) → Adds 0 (Linear v.constant (terms_of v)) nodes h.count after
-      → refusal judge (prefix_of text nodes ports h) (some (NodeLine (Linear v.constant (terms_of v)))) ≡ 0
-      → Added text nodes ports h (NodeLine (Linear v.constant (terms_of v))) (with_node h) after ports
-  unfolding is_input Sound net_of prefix_of with_node node_centre
-  sum_added v after a e =
+  table_added : (i : ℕ) (d : List ℕ) → TableBits d → (m : Net) × (w.net ≡ P.Some m) × Holds nodes m w.count w.inputs w.outputs.items
+      → Has v w.net (w.count + 1) w.inputs w.outputs.items → Adds (centre_of (period w.net) (bits_from d)) (Bootstrap i (bits_from d)) nodes w.count after
+      → Added nodes w (NodeLine (Bootstrap i (bits_from d))) after v
+  unfolding is_input Sound node_centre
+  table_added i d g b h a =
+      node_added (Bootstrap i (bits_from d)) refl b (λ m q. ap (λ o. centre_of (period o) (bits_from d)) q) (rw (bits_length d) g.some) h a
+
+  -- a table where there are nodes
+  pub boot_added : (i : ℕ) (d : List ℕ) → TableBits d → 0 < w.count → Has v w.net (w.count + 1) w.inputs w.outputs.items
+      → Adds (centre_of (period w.net) (bits_from d)) (Bootstrap i (bits_from d)) nodes w.count after → Added nodes w (NodeLine (Bootstrap i (bits_from d))) after v
+  boot_added i d g z = table_added i d g (some_behind w.net nodes w k z)
+
+  line_added : (line : Line) → Within line → LineBits (line_of line) → refusal judge (prefix_of nodes w) (some (line_of line)) ≡ 0 → Follows nodes w line after v
+      → Added nodes w (line_of line) after v
+  unfolding started is_input Sound node_centre all_inputs with_network_line LineBits
+  line_added (L.Net n) i b e f = net_added n e f
+  line_added (L.In g) i b e f =
+      let o = inputs-only judge (prefix_of nodes w) _ e in
+      let h = behind _ e in
+      let l = store_length nodes w.count in
+      let all : w.inputs ≡ w.count = h.2.counted ∙ eqb-true _ _ o.0 ∙ l in
       record {
-        prefix = node_prefix (Linear v.constant (terms_of v)) after a (with_node h) refl refl refl;
-        holds = holds_node k (has_net (Linear v.constant (terms_of v)) e) after (Linear v.constant (terms_of v)) a (sum_sound judge (prefix_of text nodes ports h) v.constant (terms_of v) e) refl;
+        prefix = node_prefix _ f.0 f.1;
+        holds = has_holds after v f.0
+            (subst (λ o. HoldsBehind o after (w.count + 1) (w.inputs + 1) w.outputs.items) (sym h.1) (holds_input h.2 after _ f.1 tt refl all (rw l at o.1)));
       }
-
-  pub boot_added : (i : ℕ) (table after : List ℕ) → 1 ≤ length table → Adds (centre_of h.p table) (Bootstrap i table) nodes h.count after → (h.p ≡ 0 → ⊥)
-      → Added text nodes ports h (NodeLine (Bootstrap i table)) (with_node h) after ports
-  unfolding is_input Sound net_of with_node node_centre
-  boot_added i table after t a e =
-      record { prefix = node_prefix (Bootstrap i table) after a (with_node h) refl refl refl; holds = holds_node k e after (Bootstrap i table) a t refl }
-
-  out_added : (at end a e : ℕ) (u : Wire) → (at ≤ end) × (end ≤ length text) → Named (length (take (end - at) (drop at text))) a e → WireBit u
-      → refusal judge (prefix_of text nodes ports h) (some (OutLine (record { name = take (e - a) (drop a (take (end - at) (drop at text))); wire = u }))) ≡ 0
-      → Added text nodes ports h (OutLine (record { name = take (e - a) (drop a (take (end - at) (drop at text))); wire = u })) (with_output h) nodes
-      (with_port ports h.outputs (at + a) (at + e) (signal_of u))
-  unfolding prefix_of with_network_line net_of with_output
-  out_added at end a e u o n t z =
-      let q = out_known judge (prefix_of text nodes ports h) (record { name = take (e - a) (drop a (take (end - at) (drop at text))); wire = u }) z in
-      let few : h.outputs < 32 = omega (arith, q.0, outputs-length text ports h.outputs) in
-      let known : no_node h.count u ≡ false = rw (store_length nodes h.count) at q.1 in
+  line_added (L.Lin t) i b e f =
+      node_added (Linear t.constant (terms_in t)) refl (behind _ e) (λ m q. refl) (sum_sound judge (prefix_of nodes w) t.constant (terms_in t) e) f.0 f.1
+  line_added (L.Boot j d) i b e f = table_added j d.now i (behind _ e) f.0 f.1
+  line_added (L.Out o) i b e f =
+      let q = out_known judge (prefix_of nodes w) (output_of o) e in
+      let s = started_some w.net (out-started judge (prefix_of nodes w) (output_of o) e) in
+      let h : Holds nodes s.0 w.count w.inputs w.outputs.items = subst (λ o. HoldsBehind o nodes w.count w.inputs w.outputs.items) s.1 k in
       record {
         prefix = λ i.
-            ap (λ (x : List Output). record { net = net_of h; nodes = store_of nodes h.count; outputs = x })
-            (outputs_more ports h.outputs (at + a) (at + e) (signal_of u) k.long few text
-            ∙ ap (λ (x : Output). outputs_of text ports h.outputs ++ (x ∷ [])) (new-output k at end a e u o few n known t));
-        holds = holds_output k at end a e u o few n known t;
+            has_prefix after v f.0
+            ∙ ap (λ x. record { net = net_so_far w.net; nodes = store_of x w.count; outputs = map output_of (w.outputs.items ++ (o ∷ [])) }) f.1
+            ∙ ap (λ x. record { net = net_so_far w.net; nodes = store_of nodes w.count; outputs = x }) (map-append output_of w.outputs.items (o ∷ []));
+        holds = has_holds after v f.0
+            (rw f.1
+            (subst (λ p. HoldsBehind p nodes w.count w.inputs (w.outputs.items ++ (o ∷ []))) (sym s.1)
+            (holds_output h o (rw length-map at q.0) (record { name = i; known = rw (store_length nodes w.count) at q.1; bit = b }))));
       }
 
-  -- each kind of line
-  line_added : (at end : ℕ) → (at ≤ end) × (end ≤ length text) → (line : Line) (v : Lin) (m : NetworkLine) (s : Header) (nodes₁ ports₁ : List ℕ)
-      → Within (take (end - at) (drop at text)) line
-      → LineBits m
-      → refusal judge (prefix_of text nodes ports h) (some m) ≡ 0
-      → line_in (take (end - at) (drop at text)) line v ≡ some m
-      → Follows h at (take (end - at) (drop at text)) line v nodes ports s nodes₁ ports₁
-      → Added text nodes ports h m s nodes₁ ports₁
-  unfolding line_in Follows LineBits
-  line_added at end o Bad v m s nodes₁ ports₁ i b z e f = absurd (none-ne-some _ e)
-  line_added at end o (NetRead p q n) v m s nodes₁ ports₁ i b z e f =
-      let d = some-injective _ _ e in
-      rw (← d, f.0, f.1, f.2) (net_added p q n (rw (← d) at z))
-  line_added at end o (In a t y) v m s nodes₁ ports₁ i b z e f =
-      let d = some-injective _ _ e in
-      rw (← d, f.0, f.2) (in_added _ nodes₁ f.1 (rw (← d) at z))
-  line_added at end o Sum v m s nodes₁ ports₁ i b z e f =
-      let d = some-injective _ _ e in
-      rw (← d, f.0, f.2) (sum_added v nodes₁ f.1 (rw (← d) at z))
-  line_added at end o (Boot j a t) v m s nodes₁ ports₁ i b z e f =
-      let d = some-injective _ _ e in
-      rw (← d, f.0, f.2) (boot_added j _ nodes₁ (rw (table_length i) i.some) f.1 (has_net (Bootstrap j _) (rw (← d) at z)))
-  line_added at end o (Out a t u) v m s nodes₁ ports₁ i b z e f =
-      let d = some-injective _ _ e in
-      rw (← d, f.0, f.1, f.2) (out_added at end a t u o i (rw (← d) at b) (rw (← d) at z))
-
-  none_refused : refusal judge (prefix_of text nodes ports h) none ≡ 0 → ⊥
-  unfolding refusal
-  none_refused e = omega arith
-
-  pub added : (at end : ℕ) → (at ≤ end) × (end ≤ length text) → {r : Read} → LineRead (take (end - at) (drop at text)) r
-      → refusal judge (prefix_of text nodes ports h) (network_line (take (end - at) (drop at text))) ≡ 0
-      → {s : Header} {nodes₁ ports₁ : List ℕ} → Follows h at (take (end - at) (drop at text)) r.line r.lin nodes ports s nodes₁ ports₁
-      → (m : NetworkLine) × (network_line (take (end - at) (drop at text)) ≡ some m) × Added text nodes ports h m s nodes₁ ports₁
-  unfolding line_of
-  added at end o {r} q z {s} {nodes₁} {ports₁} f = by (network_line (take (end - at) (drop at text))) refl z
-    where
-      few : length (prefix_of text nodes ports h).nodes ≤ 65536
-      few = let y = holds_says k in omega (arith, y.count, y.most)
-
-      by : (x : Option NetworkLine) → network_line (take (end - at) (drop at text)) ≡ x → refusal judge (prefix_of text nodes ports h) x ≡ 0
-          → (m : NetworkLine) × (network_line (take (end - at) (drop at text)) ≡ some m) × Added text nodes ports h m s nodes₁ ports₁
-      by none g y = absurd (none_refused y)
-      by (some m) g y =
-          let same : line_in (take (end - at) (drop at text)) r.line r.lin ≡ some m = q.same ∙ ap good_line g ∙ good_same judge (prefix_of text nodes ports h) few m y in
-          (m, g, line_added at end o r.line r.lin m s nodes₁ ports₁ q.within (line-bits _ m g) y same f)
+  pub added : {l : List ℕ} (line : Line) → LineRead l (P.Some line) → refusal judge (prefix_of nodes w) (network_line l) ≡ 0 → Follows nodes w line after v
+      → HoldsSoFar after v × ((i : ℕ) → prefix_of after v ≡ with_form i (prefix_of nodes w) (network_line l))
+  added {l} line q z f =
+      let e = text_line judge nodes w k line q z in
+      let a = line_added line q.within (line-bits l (line_of line) e) (rw e at z) f in
+      (a.holds, rw e a.prefix)

@@ -1,9 +1,6 @@
--- How a network that was read stands for the definitions of crates/rules, and what the code does on the way.
+-- A network read line by line into the node store.
 pub mod View
-pub mod Verdict
 pub mod Put
-pub mod Numbers
-pub mod NodeAdded
-pub mod OutputAdded
+pub mod Verdict
 pub mod Added
-pub mod Step
+pub mod Reading

@@ -1,7 +1,7 @@
 -- The number that a line is refused with, and what of a line that was read decides it.
-use Rattle.std.specs.Prelude.{◌≡◌, Bool, ◌||◌, ℕ, ◌+◌, ◌*◌, ◌-◌, ◌<◌, ◌≤◌, min, ltb, ℤ, take, drop}
+use Rattle.std.specs.Prelude.{◌≡◌, Bool, ◌||◌, ℕ, ◌+◌, ◌*◌, ◌<◌, ◌≤◌, min, ltb, ℤ}
 use Rattle.std.proofs.Math.Path.{refl, sym, ap}
-use Rattle.std.proofs.Common.{◌∙◌, arith}
+use Rattle.std.proofs.Common.{◌∙◌, arith, true≢false}
 use Rattle.std.proofs.Math.Bool.{true, false, not}
 use mathlib.Core.List.{List, [], ◌∷◌, ◌++◌, append-nil}
 use Rattle.std.proofs.Math.Logic.{⊎_elim}
@@ -15,16 +15,16 @@ use Rattle.rules.specs.declared.Wire.{Wire}
 use Rattle.rules.specs.declared.Wire.TheVariants.{Const, Node}
 use Rattle.rules.specs.Builder.{table_limits}
 use Rattle.rules.specs.Circuit.{Name, Given, Output}
-use Rattle.rules.specs.CircuitText.{listed, no_node}
-use Rattle.rules.specs.Form.{Condition, ◌when◌, Reading, Refused}
-use Rattle.rules.specs.Network.{Term, LutNode, Input, Linear, Bootstrap, Network, is_linear, weight_of, norm, node_norm, node_at}
-use Rattle.rules.specs.NetworkText.{Net, NetworkLine, NetLine, NodeLine, OutLine, NetPrefix, network_line, good_sum, names, all_inputs, unknown, sources, any_bad_source, started, ending, text_conditions, safety_conditions, admission_conditions, settings_of, over, with_network_line, network_ended, no_network, read_network, read_admitted}
+use Rattle.rules.specs.CircuitText.{no_node}
+use Rattle.rules.specs.Form.{Condition, ◌when◌}
+use Rattle.rules.specs.Network.{Term, LutNode, Input, Linear, Bootstrap, is_input, is_linear, weight_of, norm, node_norm, node_at}
+use Rattle.rules.specs.NetworkText.{Net, NetworkLine, NetLine, NodeLine, OutLine, NetPrefix, good_sum, all_inputs, unknown, sources, any_bad_source, started, ending, text_conditions, safety_conditions, admission_conditions, settings_of, over, with_network_line}
 use Rattle.theorems.specs.NodesAt.{node_none}
 use Rattle.text.specs.Cap.{cap_small}
 use Rattle.forms.specs.Forms.{cap_output}
-use Rattle.text.specs.Judged.{lowest, Numbered, unmet, read_from, read_end, read_no-form, read_refused, read_next}
-use Rattle.text.specs.Line.{LineEnd}
+use Rattle.text.specs.Judged.{lowest, Numbered, unmet}
 use Rattle.forms.specs.Wire.{cap_wire}
+use Rattle.network_judge.specs.Conditions.{room_conditions, later_conditions, safety, line_conditions}
 use Rattle.network_text.specs.Lines.{cap_term, cap_terms, good_form, good_line}
 
 -- Admission judges 21 to 26, a run 21 and 22.
@@ -36,6 +36,10 @@ conditions_of false = text_conditions
 unfoldable pub refusal : Bool → NetPrefix → Option NetworkLine → ℕ
 refusal judge w none = 21
 refusal judge w (some l) = lowest (conditions_of judge w l)
+
+abbrev pub with_form : ℕ → NetPrefix → Option NetworkLine → NetPrefix
+with_form i w none = w
+with_form i w (some l) = with_network_line i w l
 
 -- ---- The lines in turn go by that number.
 
@@ -52,60 +56,11 @@ numbered false w (NodeLine (Linear c ts)) = (omega arith, (omega arith, (omega a
 numbered false w (NodeLine (Bootstrap i t)) = (omega arith, (omega arith, (omega arith, (omega arith, (omega arith, tt)))))
 numbered false w (OutLine o) = (omega arith, (omega arith, (omega arith, tt)))
 
--- The lines from a place on.
-unfoldable pub network_from : Bool → List ℕ → ℕ → NetPrefix → ℕ → Reading Network
-network_from judge s i w a = read_from network_line 21 (conditions_of judge) with_network_line network_ended s i w a
-
-pub network_read : (s : List ℕ) → read_network s ≡ network_from false s 1 no_network 0
-unfolding read_network network_from read_from conditions_of
-network_read s = refl
-
-pub network_admitted : (s : List ℕ) → read_admitted s ≡ network_from true s 1 no_network 0
-unfolding read_admitted network_from read_from conditions_of
-network_admitted s = refl
-
-pub network_end : (judge : Bool) (s : List ℕ) (i : ℕ) (w : NetPrefix) (a : ℕ) → length s ≤ a → network_from judge s i w a ≡ network_ended i w
-unfolding network_from
-network_end judge s i w a h = read_end network_line 21 (conditions_of judge) with_network_line network_ended s i w a h
-
-module _ (judge : Bool) (s : List ℕ) (i : ℕ) (w : NetPrefix) (a e : ℕ) (h : LineEnd s a e) where
-  pub line_refused : (n : ℕ) → refusal judge w (network_line (take (e - a) (drop a s))) ≡ n → (n ≡ 0 → ⊥) → network_from judge s i w a ≡ Refused n i
-  unfolding network_from refusal
-  line_refused n = by (network_line (take (e - a) (drop a s))) refl
-    where
-      by : (o : Option NetworkLine) → network_line (take (e - a) (drop a s)) ≡ o → refusal judge w o ≡ n → (n ≡ 0 → ⊥)
-          → read_from network_line 21 (conditions_of judge) with_network_line network_ended s i w a ≡ Refused n i
-      by none f g z = read_no-form network_line 21 (conditions_of judge) with_network_line network_ended s i w a e h f ∙ ap (λ k. Refused k i) g
-      by (some l) f g z = read_refused network_line 21 (conditions_of judge) with_network_line network_ended s i w a e h l n f g z
-
-  pub line_next : (l : NetworkLine) → network_line (take (e - a) (drop a s)) ≡ some l → refusal judge w (network_line (take (e - a) (drop a s))) ≡ 0
-      → network_from judge s i w a ≡ network_from judge s (i + 1) (with_network_line i w l) e
-  unfolding network_from refusal
-  line_next l f g = read_next network_line 21 (conditions_of judge) with_network_line network_ended s i w a e h l f (numbered judge w l) (ap (refusal judge w) (sym f) ∙ g)
-
 -- ---- A line that is good on its own: what stands before it decides.
-
-unfoldable pub later_conditions : NetPrefix → NetworkLine → List Condition
-later_conditions w (NetLine n) = (21 when started w) ∷ []
-later_conditions w (NodeLine (Input n)) =
-    (21 when not (started w))
-    ∷ (21 when (ending w || not (all_inputs w.nodes)))
-    ∷ (21 when leb 32 (length w.nodes))
-    ∷ (21 when listed n.name (names w.nodes))
-    ∷ []
-later_conditions w (NodeLine (Linear c ts)) =
-    (21 when not (started w)) ∷ (21 when ending w) ∷ (21 when leb 672 (length w.nodes)) ∷ (22 when any_bad_source w.nodes (sources ts)) ∷ []
-later_conditions w (NodeLine (Bootstrap i table)) =
-    (21 when not (started w)) ∷ (21 when ending w) ∷ (21 when leb 672 (length w.nodes)) ∷ (22 when unknown w.nodes i) ∷ []
-later_conditions w (OutLine o) =
-    (21 when not (started w)) ∷ (21 when leb 32 (length w.outputs)) ∷ (22 when no_node (length w.nodes) o.wire) ∷ []
-
-unfoldable pub safety : Bool → NetPrefix → NetworkLine → List Condition
-safety judge w l = if judge then safety_conditions w l otherwise []
 
 unfoldable pub good_refusal : Bool → NetPrefix → Option NetworkLine → ℕ
 good_refusal judge w none = 21
-good_refusal judge w (some l) = lowest (later_conditions w l ++ safety judge w l)
+good_refusal judge w (some l) = lowest (line_conditions judge w l)
 
 conditions_are : (judge : Bool) (w : NetPrefix) (l : NetworkLine) → conditions_of judge w l ≡ text_conditions w l ++ safety judge w l
 unfolding conditions_of safety admission_conditions
@@ -167,7 +122,7 @@ long_table n = ⊎_elim (λ (l : 32 < n). rw (lt-ltb 32 n l, lt-leb n 32 l)) (λ
 
 module _ (judge : Bool) (w : NetPrefix) (h : length w.nodes ≤ 65536) where
   good_net : (n : Net) (t : Bool) → good_refusal judge w (if t then some (NetLine n) otherwise none) ≡ lowest ((21 when not t) ∷ (21 when started w) ∷ safety judge w (NetLine n))
-  unfolding good_refusal later_conditions lowest
+  unfolding good_refusal line_conditions room_conditions later_conditions lowest
   good_net n true = refl
   good_net n false = refl
 
@@ -176,7 +131,7 @@ module _ (judge : Bool) (w : NetPrefix) (h : length w.nodes ≤ 65536) where
   safe_lin c ts = ap (λ k. if judge then (25 when over (settings_of w.net).norm k) ∷ [] otherwise []) (cap_norm w.nodes h ts)
 
   good_in : (n : Given) → good_refusal judge w (some (NodeLine (Input n))) ≡ lowest (text_conditions w (NodeLine (Input n)) ++ safety judge w (NodeLine (Input n)))
-  unfolding good_refusal later_conditions text_conditions
+  unfolding good_refusal line_conditions room_conditions later_conditions text_conditions
   good_in n = refl
 
   good_lin : (c : ℤ) (ts : List Term) (t : Bool)
@@ -186,7 +141,7 @@ module _ (judge : Bool) (w : NetPrefix) (h : length w.nodes ≤ 65536) where
       ∷ (21 when ending w)
       ∷ (21 when leb 672 (length w.nodes))
       ∷ (21 when not t) ∷ (22 when any_bad_source w.nodes (sources ts)) ∷ safety judge w (NodeLine (Linear c ts)))
-  unfolding good_refusal later_conditions lowest
+  unfolding good_refusal line_conditions room_conditions later_conditions lowest
   good_lin c ts true = rw (cap_sources w.nodes h ts, safe_lin c ts)
   good_lin c ts false = sym (same_of_four (not (started w)) (ending w) (leb 672 (length w.nodes)) 21)
 
@@ -197,7 +152,7 @@ module _ (judge : Bool) (w : NetPrefix) (h : length w.nodes ≤ 65536) where
       ∷ (21 when ending w)
       ∷ (21 when leb 672 (length w.nodes))
       ∷ (21 when not t) ∷ (22 when unknown w.nodes i) ∷ safety judge w (NodeLine (Bootstrap i table)))
-  unfolding good_refusal later_conditions lowest
+  unfolding good_refusal line_conditions room_conditions later_conditions lowest
   good_boot i table true =
       exact_or_unknown w.nodes h
       (λ x y.
@@ -217,7 +172,7 @@ module _ (judge : Bool) (w : NetPrefix) (h : length w.nodes ≤ 65536) where
   good_out : (n : Name) (u : Wire)
       → good_refusal judge w (some (OutLine (record { name = n; wire = cap_wire u })))
       ≡ lowest (text_conditions w (OutLine (record { name = n; wire = u })) ++ safety judge w (OutLine (record { name = n; wire = u })))
-  unfolding good_refusal later_conditions text_conditions cap_wire no_node unknown lowest
+  unfolding good_refusal line_conditions room_conditions later_conditions text_conditions cap_wire no_node unknown lowest
   good_out n (Const b) = refl
   good_out n (Node i) =
       exact_or_unknown w.nodes h
@@ -306,3 +261,24 @@ module _ (judge : Bool) (w : NetPrefix) where
   out_known o e =
       let order = unmet _ _ (omega arith) (unmet _ _ (omega arith) (free (OutLine o) e)).1 in
       (leb-false 32 (length w.outputs) order.0, (unmet _ _ (omega arith) order.1).0)
+
+  -- a sum or a boot
+  pub node_room : (n : LutNode) → is_input n ≡ false → refusal judge w (some (NodeLine n)) ≡ 0 → length w.nodes < 672
+  unfolding text_conditions is_input
+  node_room (Input n) h e = absurd (true≢false h)
+  node_room (Linear c ts) h e =
+      let order = unmet _ _ (omega arith) (unmet _ _ (omega arith) (free (NodeLine (Linear c ts)) e)).1 in
+      leb-false 672 (length w.nodes) (unmet _ _ (omega arith) order.1).0
+  node_room (Bootstrap i table) h e =
+      let order = unmet _ _ (omega arith) (unmet _ _ (omega arith) (free (NodeLine (Bootstrap i table)) e)).1 in
+      leb-false 672 (length w.nodes) (unmet _ _ (omega arith) order.1).0
+
+  pub boot_known : (i : ℕ) (table : List ℕ) → refusal judge w (some (NodeLine (Bootstrap i table))) ≡ 0 → i < length w.nodes
+  unfolding text_conditions unknown
+  boot_known i table e =
+      let order = unmet _ _ (omega arith) (unmet _ _ (omega arith) (unmet _ _ (omega arith) (free (NodeLine (Bootstrap i table)) e)).1).1 in
+      leb-false (length w.nodes) i (unmet _ _ (omega arith) (unmet _ _ (omega arith) order.1).1).0
+
+  pub out-started : (o : Output) → refusal judge w (some (OutLine o)) ≡ 0 → started w ≡ true
+  unfolding text_conditions
+  out-started o e = not-false (started w) (unmet _ _ (omega arith) (free (OutLine o) e)).0

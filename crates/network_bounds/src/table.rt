@@ -1,36 +1,27 @@
 // The table on a `boot` line.
-ghost use Rattle.std.specs.Prelude.{◌≡◌, ◌-◌, take, drop};
+ghost use Rattle.std.specs.Prelude.{◌≡◌};
 ghost use Rattle.rules.specs.Form.{bits_from};
 ghost use Rattle.rules.specs.Rotation.{rotatable};
-ghost use Rattle.network_text.specs.Lines.{TablePlace};
-ghost use Rattle.network_bounds.specs.Table.{bit_of, TableIs};
+ghost use Rattle.network_text.specs.Lines.{TableBits};
+ghost use Rattle.network_bounds.specs.Table.{TableIs};
 
-fn bit_of(b: u8) -> u8
-    ensures { result ≡ bit_of b }
+// The bits that stand in the text.
+#[tactic(auto, using(crate::proofs::Tables::bits_done))]
+pub fn table_of(bits: &[u8]) -> [u8; 32]
+    requires { TableBits bits.now }
+    ensures { TableIs bits.now result }
 {
-    if b == b'1' { 1 } else { 0 }
-}
-
-// The bits from a to e.
-pub fn table_of(l: &[u8], a: usize, e: usize) -> [u8; 32]
-    requires { TablePlace l.now a e }
-    ensures { TableIs l.now a e result }
-{
-    let mut t = [0u8; 32];
-    let mut i = 0;
-    while i < e - a {
-        t[i] = bit_of(l[a + i]);
-        i += 1;
+    let mut table = [0; 32];
+    for (i, byte) in bits.iter().enumerate() {
+        table[i] = byte.saturating_sub(b'0');
     }
-    t
+    table
 }
 
-// A rotation of period p gives the bits from a to e.
-pub fn is_rotatable(p: usize, l: &[u8], a: usize, e: usize) -> bool
-    requires { TablePlace l.now a e }
-    ensures { result ≡ rotatable p (bits_from (take (e - a) (drop a l.now))) }
+// A rotation of period p gives the bits.
+pub fn is_rotatable(p: usize, bits: &[u8]) -> bool
+    requires { TableBits bits.now }
+    ensures { result ≡ rotatable p (bits_from bits.now) }
 {
-    let table = table_of(l, a, e);
-    let t = &table[..];
-    rotation::is_fbs_table_valid(&t[0..e - a], p)
+    rotation::is_fbs_table_valid(&table_of(bits)[..bits.len()], p)
 }

@@ -1,3 +1,4 @@
--- The conditions on a line as the code tests them.
+-- The lines so far, and the conditions on a line after them.
+pub mod View
 pub mod Scans
 pub mod Conditions

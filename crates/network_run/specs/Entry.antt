@@ -1,35 +1,34 @@
 -- The run as an entry: the text, the bits and the buffer tested in turn, and whether it broke off.
-use Rattle.std.specs.Prelude.{◌≡◌, Bool, true, false, ◌||◌, not, List, [], ◌∷◌, ℕ, zero, suc, ◌<◌, ◌≤◌, leb, ℤ, pos, length, get_or}
+use Rattle.std.specs.Prelude as P
+use Rattle.std.specs.Prelude.{◌≡◌, Bool, true, false, ◌||◌, not, List, [], ◌∷◌, ℕ, zero, suc, ◌<◌, ◌≤◌, leb, ℤ, pos, length, get_or, take}
 use Rattle.std.proofs.Math.Path.{refl, sym, ap}
 use Rattle.std.proofs.Common.{ap₂, subst, ◌∙◌, not-suc-le-zero, le_of_suc-le-suc, arith}
 use Rattle.std.proofs.Math.Option.{map}
 use borrow.Author.Tests.{le-ltb, leb-false, not-false}
 use Rattle.laws.specs.Over.{over}
-use Rattle.laws.specs.Tabulate.{tabulate-length}
+use Rattle.std.proofs.lemmas.List.{length-map}
 use Rattle.laws.specs.Test.{neither_left, neither_right}
+use Rattle.rules.specs.declared.Refusal.{Refusal}
+use Rattle.rules.specs.Circuit as C
 use Rattle.rules.specs.Form as F
 use Rattle.rules.specs.Network.{Term, LutNode, Input, Linear, Bootstrap, is_input, is_linear, count, node_values, output_values, network_run, node_at}
-use Rattle.rules.specs.NetworkText.{sources, unknown, any_bad_source, read_network}
-use Rattle.rules.specs.Outcome.{written, refused}
-use Rattle.rules.specs.Runs.{RunOutcome, Numbered, NotBits, NoRoom, BreakOff, ran, bits_for, with_values, run_on, run_network_on, run_network}
+use Rattle.rules.specs.NetworkText.{sources, unknown, any_bad_source}
+use Rattle.rules.specs.Outcome.{written}
+use Rattle.rules.specs.Runs.{RunOutcome, Numbered, NotBits, NoRoom, BreakOff, ran, bits_for, with_values, run_on, run_network_on}
 use Rattle.rules.specs.Store.{terms_of}
 use Rattle.bits.specs.Bits.{bad_bits, short_buffer}
 use Rattle.nodes.specs.View.{node_of, store_of, term, at_store, store_length, IsStore}
-use Rattle.network.specs.View.{outputs_of, network_of, reading_of, Sound, Holds, Held, SignalsIn}
-use Rattle.network_judge.specs.declared.Header.{Header}
-use Rattle.network.specs.declared.Reading.{Reading}
-use Rattle.network.specs.declared.Reading.TheVariants.{Good, Refused}
+use Rattle.forms.specs.Forms.{output_of}
+use Rattle.network.specs.View.{network_of, Sound, Held}
+use Rattle.network.specs.declared.Network.{Network}
 use Rattle.network_run.specs.Nodes.{Flat, values_in}
-use Rattle.network_run.specs.Write.{Signals, signal_values, values_length, output-values}
+use Rattle.network_run.specs.Write.{outputs_many}
 
 -- What a run asks of a network that was read.
-pub record Runnable (nodes ports : List ℕ) (h : Header) : Type 0 where
-  pub store : IsStore nodes h.count
-  pub flat : Flat (store_of nodes h.count)
-  pub long : length ports ≡ 160
-  pub few : h.outputs ≤ 32
-  pub inputs : h.inputs ≡ count is_input (store_of nodes h.count)
-  pub signal : SignalsIn ports h
+pub record Runnable (nodes : List ℕ) (w : Network) : Type 0 where
+  pub store : IsStore nodes w.count
+  pub flat : Flat (store_of nodes w.count)
+  pub inputs : w.inputs ≡ count is_input (store_of nodes w.count)
 
 -- ---- laws: what was read can be run
 
@@ -65,70 +64,46 @@ read_flat bytes n s = record { flat = by }
         let w : is_linear (node_at (store_of bytes n) j) ≡ false = ap is_linear (at_store bytes j n (omega arith) ∙ sym (at_store bytes j i c)) ∙ q.1 in
         subst (λ (x : LutNode). is_linear (node_at (store_of bytes n) (get_or (terms_of x) k (term (pos 0) 0)).node) ≡ false) (sym e) w
 
-pub read_runnable : {text nodes ports : List ℕ} {h : Header} → Holds text nodes ports h → Runnable nodes ports h
-read_runnable {nodes = nodes} {h = h} q =
-    record {
-      store = q.store;
-      flat = read_flat nodes h.count q.sound;
-      long = q.long;
-      few = q.few_outputs;
-      inputs = q.inputs;
-      signal = q.signal;
-    }
-
-pub runnable_signals : {nodes ports : List ℕ} {h : Header} → Runnable nodes ports h → Signals ports h.outputs
-runnable_signals r =
-    record {
-      long = r.long;
-      few = r.few;
-      signal = λ i k. let g = r.signal i k in record { most = g.most; node = λ l. let b = g.node l in omega (arith, r.store.most) };
-    }
+pub read_runnable : {nodes : List ℕ} {w : Network} → Held nodes (P.Ok w) → Runnable nodes w
+read_runnable {nodes} {w} q = record { store = q.store; flat = read_flat nodes w.count q.sound; inputs = q.counted }
 
 -- ---- laws: a network that was read
 
-module _ (nodes ports : List ℕ) (h : Header) (bits : List ℕ) (buffer : List ℤ) (r : Runnable nodes ports h) where
-  abbrev answer : List ℕ → RunOutcome ℤ
-  answer s = run_network_on (F.Good (network_of s nodes ports h)) bits buffer
+module _ (nodes : List ℕ) (w : Network) (bits : List ℕ) (buffer : List ℤ) (r : Runnable nodes w) where
+  abbrev outs : List C.Output
+  outs = P.map output_of w.outputs.items
 
-  opened : (s : List ℕ) → answer s ≡ run_on h.inputs h.outputs bits buffer (map (output_values (outputs_of s ports h.outputs)) (node_values h.p bits [] (store_of nodes h.count)))
-  unfolding run_network_on network_of network_run outputs_of
-  opened s = rw (r.inputs, tabulate-length) refl
+  abbrev answer : RunOutcome ℤ
+  answer = run_network_on (F.Good (network_of nodes w)) bits buffer
 
-  module _ (s : List ℕ) (b : Bool) (f : b ≡ bits_for h.inputs bits) where
-    pub run_bad_bits : not b ≡ true → ran NotBits buffer ≡ answer s
-    run_bad_bits k = bad_bits _ _ bits buffer _ f k ∙ sym (opened s)
+  opened : answer ≡ run_on w.inputs (length w.outputs.items) bits buffer (map (output_values outs) (node_values w.net.p bits [] (store_of nodes w.count)))
+  unfolding run_network_on network_run
+  opened = rw (r.inputs, length-map) refl
+
+  module _ (b : Bool) (f : b ≡ bits_for w.inputs bits) where
+    pub run_bad_bits : not b ≡ true → ran NotBits buffer ≡ answer
+    run_bad_bits k = bad_bits _ _ bits buffer _ f k ∙ sym opened
 
     module _ (k : not b ≡ false) where
-      given : bits_for h.inputs bits ≡ true
+      given : bits_for w.inputs bits ≡ true
       given = sym f ∙ not-false b k
 
-      pub run_short : length buffer < h.outputs → ran NoRoom buffer ≡ answer s
-      run_short l = short_buffer _ _ bits buffer _ f k l ∙ sym (opened s)
+      pub run_short : length buffer < length w.outputs.items → ran NoRoom buffer ≡ answer
+      run_short l = short_buffer _ _ bits buffer _ f k l ∙ sym opened
 
-      module _ (l : h.outputs ≤ length buffer) (o : Bool) (found : List ℤ) (e : values_in o found h.count ≡ node_values h.p bits [] (store_of nodes h.count)) where
-        pub run_broken : o ≡ false → ran BreakOff buffer ≡ answer s
+      module _ (l : length w.outputs.items ≤ length buffer) (o : Bool) (found : List ℤ) (e : values_in o found w.count ≡ node_values w.net.p bits [] (store_of nodes w.count)) where
+        pub run_broken : o ≡ false → ran BreakOff buffer ≡ answer
         unfolding run_on with_values values_in
-        run_broken z = sym (opened s ∙ rw (given, le-ltb (length buffer) h.outputs l, ← e, z))
+        run_broken z = sym (opened ∙ rw (given, le-ltb (length buffer) (length w.outputs.items) l, ← e, z))
 
-        pub run_ran : o ≡ true → (out : List ℤ) → out ≡ over (signal_values ports found h.outputs) buffer → ran (Numbered (written h.outputs)) out ≡ answer s
+        pub run_ran : o ≡ true → (out : List ℤ) → out ≡ over (output_values outs (take w.count found)) buffer → ran (Numbered (written (length w.outputs.items))) out ≡ answer
         unfolding run_on with_values values_in
         run_ran z out q =
-            let v = output-values s ports found h.count h.outputs r.signal in
             sym
-            (opened s ∙ rw (given, le-ltb (length buffer) h.outputs l, ← e, z, v)
-            (ap₂ (λ n x. ran (Numbered (written n)) x) (values_length ports found h.outputs) (sym q)))
+            (opened ∙ rw (given, le-ltb (length buffer) (length w.outputs.items) l, ← e, z)
+            (ap₂ (λ n x. ran (Numbered (written n)) x) (outputs_many (take w.count found) w.outputs.items) (sym q)))
 
 -- ---- laws: the text
 
-module _ (s nodes ports bits : List ℕ) (buffer : List ℤ) (r : Reading) (e : reading_of s nodes ports r ≡ read_network s) where
-  pub run_unreadable : (k i : ℕ) → r ≡ Refused k i → ran (Numbered (refused k i)) buffer ≡ run_network s bits buffer
-  unfolding run_network run_network_on
-  run_unreadable k i q = sym (ap (λ x. run_network_on x bits buffer) (sym e ∙ ap (reading_of s nodes ports) q))
-
-  module _ (h : Header) (q : r ≡ Good h) where
-    pub run_good : (x : RunOutcome ℤ) → x ≡ run_network_on (F.Good (network_of s nodes ports h)) bits buffer → x ≡ run_network s bits buffer
-    unfolding run_network
-    run_good x f = f ∙ ap (λ y. run_network_on y bits buffer) (sym (ap (reading_of s nodes ports) q) ∙ e)
-
-    pub run_held : Held s nodes ports r → Runnable nodes ports h
-    run_held l = read_runnable (subst (Held s nodes ports) q l).0
+pub held_runnable : {nodes : List ℕ} {r : P.Result Network Refusal} {w : Network} → r ≡ P.Ok w → Held nodes r → Runnable nodes w
+held_runnable {nodes} z l = read_runnable (subst (Held nodes) z l)

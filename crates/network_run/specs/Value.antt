@@ -1,13 +1,14 @@
 -- The value of one node, read off its table where a rotation gives that.
+use Rattle.std.specs.Prelude as P
 use Rattle.std.specs.Prelude.{◌≡◌, Bool, true, false, List, [], ◌∷◌, ℕ, zero, suc, ◌+◌, ◌*◌, ◌<◌, ◌≤◌, T, ltb, ℤ, pos, negsuc, nat_abs, ◌+ℤ◌, ◌*ℤ◌, length, get_or, take, drop}
 use Rattle.std.proofs.Math.Path.{refl, ap}
-use Rattle.std.proofs.Common.{sym, ap₂, ◌∙◌, true≢false, ⊎_elim, arith, lt-ltb, le-ltb, drop_of_length-le, get_or-take, length-take-le, SFits, Fits, to_z}
+use Rattle.std.proofs.Common.{sym, ap₂, ◌∙◌, true≢false, ⊎_elim, arith, lt-ltb, le-ltb, drop_of_length-le, get_or-take, length-take-le, SFits, Fits}
 use Rattle.std.proofs.Math.Option.{Option, none, some}
 use Rattle.std.proofs.Math.Numerals.{add-one}
 use Rattle.std.proofs.Math.Seq.{drop-cons}
 use Rattle.std.specs.Int.Signed.{lt_z, non_neg}
 use Rattle.std.specs.Int.{w64}
-use Rattle.laws.specs.Integer.{plus, minus, lt_z_true, lt_z_false, read_back, abs_add}
+use Rattle.laws.specs.Integer.{plus, minus, lt_z_true, lt_z_false, abs_add}
 use Rattle.laws.specs.Test.{if◌then◌otherwise◌, if_both, is_some, lt_or_le, is_T}
 use Rattle.rules.specs.Network.{Term, LutNode, Input, Linear, Bootstrap, is_linear, sum_from, node_value}
 use Rattle.rules.specs.Rotation.{centre, rotatable, rotated}
@@ -15,18 +16,17 @@ use Rattle.rules.specs.Runs.{all_bits}
 use Rattle.rules.specs.Store.{needs, terms_of}
 use Rattle.theorems.specs.Bits.{all-bits_of}
 use Rattle.theorems.specs.RotationRule.{rotation_rule}
+use Rattle.nodes.specs.declared.node.Kind.TheVariants as Kinds
 use Rattle.nodes.specs.Nodes.{kind_of, constant_of, bytes_in}
 use Rattle.nodes.specs.View.{node_of, term, Fine, FineTerms, IsNode}
-use Rattle.network_run.specs.declared.value.Value.{Value}
-use Rattle.network_run.specs.declared.value.Value.TheVariants.{At, Broken}
 
-abbrev pub value_of : Value → Option ℤ
-value_of (At v) = some v
-value_of Broken = none
+abbrev pub value_of : P.Option ℤ → Option ℤ
+value_of (P.Some v) = some v
+value_of P.None = none
 
-abbrev pub SmallValue : Value → Type 0
-SmallValue (At v) = nat_abs v ≤ 255
-SmallValue Broken = Unit {0}
+abbrev pub SmallValue : P.Option ℤ → Type 0
+SmallValue (P.Some v) = nat_abs v ≤ 255
+SmallValue P.None = Unit {0}
 
 -- A rotation of period P gives the node's table, if it has one.
 unfoldable pub turns : ℕ → LutNode → Bool
@@ -51,7 +51,7 @@ pub record Before (bytes : List ℕ) (i : ℕ) (values : List ℤ) : Type 0 wher
   pub long : length values ≡ 672
   pub small : (k : ℕ) → k < length (terms_of (node_of bytes i)) → nat_abs (get_or values (get_or (terms_of (node_of bytes i)) k (term (pos 0) 0)).node (pos 0)) ≤ 255
 
-pub record Valued (bytes : List ℕ) (i : ℕ) (bits : List ℕ) (values : List ℤ) (r : Value) : Type 0 where
+pub record Valued (bytes : List ℕ) (i : ℕ) (bits : List ℕ) (values : List ℤ) (r : P.Option ℤ) : Type 0 where
   pub is : value_of r ≡ value_at bits values i (node_of bytes i)
   pub small : is_linear (node_of bytes i) ≡ false → SmallValue r
 
@@ -105,14 +105,6 @@ value_none P bits values (Bootstrap j table) t = rotated_none P table (get_or va
 
 -- ---- laws: by the code's tests
 
-pub wide_is : (x : ℕ) → x < 256 → (to_z w64 x ≡ pos x) × (nat_abs (to_z w64 x) ≤ 255)
-wide_is x h = let e : to_z w64 x ≡ pos x = read_back (pos x) (omega arith) in (e, rw e (omega arith))
-
-pub no-bit : (bits : List ℕ) (i : ℕ) → length bits ≤ i → pos 0 ≡ pos (get_or bits i 0)
-no-bit [] i h = refl
-no-bit (b ∷ bits) zero h = absurd (omega arith)
-no-bit (b ∷ bits) (suc i) h = no-bit bits i (omega arith)
-
 module _ (table : List ℕ) where
   pub looked_below : (v : ℤ) → lt_z v (pos 0) ≡ true → none ≡ looked table v
   unfolding looked plus minus
@@ -163,38 +155,44 @@ sum_size c x k h l = omega (arith, abs_add c x)
 -- ---- laws: each kind of node
 
 module _ (bits : List ℕ) (values : List ℤ) (i : ℕ) where
-  pub input_value : (n : LutNode) (x : ℤ) → kind_of n ≡ 0 → x ≡ pos (get_or bits i 0) → some x ≡ value_at bits values i n
+  pub input_value : (n : LutNode) (x : ℤ) → kind_of n ≡ Kinds.Input → x ≡ pos (get_or bits i 0) → some x ≡ value_at bits values i n
   unfolding kind_of value_at
   input_value (Input g) x h e = ap {B = Option ℤ} some e
-  input_value (Linear c ts) x h e = absurd (omega arith)
-  input_value (Bootstrap j table) x h e = absurd (omega arith)
+  input_value (Linear c ts) x h e = cc
+  input_value (Bootstrap j table) x h e = cc
 
-  pub sum_value : (n : LutNode) (x : ℤ) → kind_of n ≡ 1 → x ≡ sum_from values (constant_of n) (terms_of n) → some x ≡ value_at bits values i n
+  pub sum_value : (n : LutNode) (x : ℤ) → kind_of n ≡ Kinds.Linear → x ≡ sum_from values (constant_of n) (terms_of n) → some x ≡ value_at bits values i n
   unfolding kind_of value_at constant_of terms_of
-  sum_value (Input g) x h e = absurd (omega arith)
+  sum_value (Input g) x h e = cc
   sum_value (Linear c ts) x h e = ap {B = Option ℤ} some e
-  sum_value (Bootstrap j table) x h e = absurd (omega arith)
+  sum_value (Bootstrap j table) x h e = cc
 
-  pub table_value : (n : LutNode) (o : Option ℤ) → kind_of n ≡ 2 → o ≡ looked (bytes_in n) (get_or values (get_or (needs n) 0 0) (pos 0)) → o ≡ value_at bits values i n
+  pub table_value : (n : LutNode) (o : Option ℤ) → kind_of n ≡ Kinds.Bootstrap → o ≡ looked (bytes_in n) (get_or values (get_or (needs n) 0 0) (pos 0)) → o ≡ value_at bits values i n
   unfolding kind_of value_at bytes_in needs
-  table_value (Input g) o h e = absurd (omega arith)
-  table_value (Linear c ts) o h e = absurd (omega arith)
+  table_value (Input g) o h e = cc
+  table_value (Linear c ts) o h e = cc
   table_value (Bootstrap j table) o h e = e
 
-pub other-turns : (P : ℕ) (n : LutNode) → (kind_of n ≡ 2 → ⊥) → true ≡ turns P n
+pub input_turns : (P : ℕ) (n : LutNode) → kind_of n ≡ Kinds.Input → true ≡ turns P n
 unfolding kind_of turns
-other-turns P (Input g) h = refl
-other-turns P (Linear c ts) h = refl
-other-turns P (Bootstrap j table) h = absurd (h refl)
+input_turns P (Input g) h = refl
+input_turns P (Linear c ts) h = refl
+input_turns P (Bootstrap j table) h = cc
 
-pub table_turns : (P : ℕ) (n : LutNode) → kind_of n ≡ 2 → rotatable P (bytes_in n) ≡ turns P n
+pub sum_turns : (P : ℕ) (n : LutNode) → kind_of n ≡ Kinds.Linear → true ≡ turns P n
+unfolding kind_of turns
+sum_turns P (Input g) h = refl
+sum_turns P (Linear c ts) h = refl
+sum_turns P (Bootstrap j table) h = cc
+
+pub table_turns : (P : ℕ) (n : LutNode) → kind_of n ≡ Kinds.Bootstrap → rotatable P (bytes_in n) ≡ turns P n
 unfolding kind_of turns bytes_in
-table_turns P (Input g) h = absurd (omega arith)
-table_turns P (Linear c ts) h = absurd (omega arith)
+table_turns P (Input g) h = cc
+table_turns P (Linear c ts) h = cc
 table_turns P (Bootstrap j table) h = refl
 
-pub table_bits : (i : ℕ) (n : LutNode) → Fine i n → kind_of n ≡ 2 → T (all_bits (bytes_in n))
+pub table_bits : (i : ℕ) (n : LutNode) → Fine i n → kind_of n ≡ Kinds.Bootstrap → T (all_bits (bytes_in n))
 unfolding kind_of bytes_in Fine
-table_bits i (Input name) f h = absurd (omega arith)
-table_bits i (Linear c ts) f h = absurd (omega arith)
+table_bits i (Input name) f h = cc
+table_bits i (Linear c ts) f h = cc
 table_bits i (Bootstrap j table) f h = all-bits_of table (λ k l. f.2 k)

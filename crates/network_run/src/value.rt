@@ -6,14 +6,7 @@ ghost use Rattle.nodes.specs.Nodes.{constant_of};
 ghost use Rattle.nodes.specs.View.{node_of};
 ghost use Rattle.network_run.specs.Value.{value_of, SmallValue, looked, Before, Valued};
 
-use nodes::node::{INPUT, LINEAR, coef_of, constant_of, kind_of, size_of, source_of, table_of};
-
-// A node's value, or that its boot breaks off.
-#[derive(Clone, Copy)]
-pub enum Value {
-    At(i64),
-    Broken,
-}
+use nodes::node::{Kind, coef_of, constant_of, kind_of, size_of, source_of, table_of};
 
 fn wide(x: u8) -> i64
     ensures { (result ≡ pos x) × (nat_abs result ≤ 255) }
@@ -41,44 +34,41 @@ fn sum_of(nodes: &[u8; 27552], i: usize, values: &[i64; 672]) -> i64
     requires { Before nodes.now i values.now × (is_linear (node_of nodes.now i) ≡ true) }
     ensures { result ≡ sum_from values.now (constant_of (node_of nodes.now i)) (terms_of (node_of nodes.now i)) }
 {
-    let n = size_of(nodes, i);
     let mut sum = constant_of(nodes, i);
-    let mut k = 0;
-    while k < n {
+    for k in 0..size_of(nodes, i) {
         let source = source_of(nodes, i, k);
         let coef = coef_of(nodes, i, k);
-        sum = sum + term_value(coef, values[source]);
-        k += 1;
+        sum += term_value(coef, values[source]);
     }
     sum
 }
 
-// What a boot of a table that a rotation gives is at v: the table read off.
-fn look_up(table: &[u8], v: i64) -> Value
+// What a boot of a table that a rotation gives is at v: the table read off. None: it breaks off.
+fn look_up(table: &[u8], v: i64) -> Option<i64>
     ensures { (value_of result ≡ looked table.now v) × SmallValue result }
 {
     if v < 0 {
-        return Value::Broken;
+        return None;
     }
     let k = v as usize;
     if table.len() <= k {
-        return Value::Broken;
+        return None;
     }
-    Value::At(wide(table[k]))
+    Some(wide(table[k]))
 }
 
-// The value of node i where a rotation gives its table.
-pub fn node_value(nodes: &[u8; 27552], i: usize, bits: &[u8], values: &[i64; 672]) -> Value
+// The value of node i where a rotation gives its table. None: its boot breaks off.
+pub fn node_value(nodes: &[u8; 27552], i: usize, bits: &[u8], values: &[i64; 672]) -> Option<i64>
     requires { Before nodes.now i values.now }
     ensures { Valued nodes.now i bits.now values.now result }
 {
-    let kind = kind_of(nodes, i);
-    if kind == INPUT {
-        return Value::At(bit_at(bits, i));
+    match kind_of(nodes, i) {
+        Kind::Input => Some(bit_at(bits, i)),
+        Kind::Linear => Some(sum_of(nodes, i, values)),
+        Kind::Bootstrap => {
+            let source = source_of(nodes, i, 0);
+            let v = values[source];
+            look_up(table_of(nodes, i), v)
+        }
     }
-    if kind == LINEAR {
-        return Value::At(sum_of(nodes, i, values));
-    }
-    let source = source_of(nodes, i, 0);
-    look_up(table_of(nodes, i), values[source])
 }

@@ -6,18 +6,19 @@ ghost use Rattle.nodes.specs.View.{node_of, store_of, IsNode, IsStore};
 ghost use Rattle.network_run.specs.Value.{turns};
 ghost use Rattle.network_run.specs.Nodes.{Flat, values_in};
 
-use crate::value::{Value, node_value};
-use nodes::node::{BOOTSTRAP, kind_of, table_of};
+use crate::value::node_value;
+use nodes::node::{Kind, kind_of, table_of};
 
 // A rotation of period p gives the node's table, if it has one.
 fn is_rotatable(nodes: &[u8; 27552], i: usize, p: usize) -> bool
     requires { IsNode nodes.now i }
     ensures { result ≡ turns p (node_of nodes.now i) }
 {
-    if kind_of(nodes, i) != BOOTSTRAP {
-        return true;
+    match kind_of(nodes, i) {
+        Kind::Input => true,
+        Kind::Linear => true,
+        Kind::Bootstrap => rotation::is_fbs_table_valid(table_of(nodes, i), p),
     }
-    rotation::is_fbs_table_valid(table_of(nodes, i), p)
 }
 
 // A rotation of period p gives every table. Where it does not, a run breaks off for all bits.
@@ -25,12 +26,10 @@ pub fn are_rotatable(nodes: &[u8; 27552], count: usize, p: usize) -> bool
     requires { IsStore nodes.now count }
     ensures { result ≡ all (turns p) (store_of nodes.now count) }
 {
-    let mut i = 0;
-    while i < count {
+    for i in 0..count {
         if !is_rotatable(nodes, i, p) {
             return false;
         }
-        i += 1;
     }
     true
 }
@@ -47,13 +46,11 @@ pub fn run_rotatable(
     ensures is { (p : ℕ) → all (turns p) (store_of nodes.now count) ≡ true → values_in result values.new count ≡ node_values p bits.now [] (store_of nodes.now count) }
     ensures long { length values.new ≡ 672 }
 {
-    let mut i = 0;
-    while i < count {
-        let Value::At(v) = node_value(nodes, i, bits, values) else {
+    for i in 0..count {
+        let Some(v) = node_value(nodes, i, bits, values) else {
             return false;
         };
         values[i] = v;
-        i += 1;
     }
     true
 }

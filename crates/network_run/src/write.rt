@@ -1,30 +1,29 @@
 // The outputs' values written.
-ghost use Rattle.std.specs.Prelude.{◌≡◌, ◌≤◌, length};
+ghost use Rattle.std.specs.Prelude.{◌≡◌, ◌≤◌, map, length};
 ghost use Rattle.laws.specs.Over.{over};
-ghost use Rattle.rules.specs.Network.{wire_value};
-ghost use Rattle.lut.specs.Ports.{signal_wire};
-ghost use Rattle.network.specs.View.{IsSignal};
-ghost use Rattle.network_run.specs.Write.{Signals, signal_values};
+ghost use Rattle.rules.specs.Network.{wire_value, output_values};
+ghost use Rattle.forms.specs.Forms.{output_of};
 
-// The value of a node, or a constant.
-fn signal_value(found: &[i64; 672], signal: usize) -> i64
-    requires { (length found.now ≡ 672) × IsSignal 672 signal }
-    ensures { result ≡ wire_value found.now (signal_wire signal) }
+use forms::Output;
+use rules::Wire;
+
+// The value of a node, or a constant; 0 where there is no such node.
+#[tactic(auto, unfolding(rules::specs::Network::wire_value))]
+fn wire_value(found: &[i64], wire: Wire) -> i64
+    ensures { result ≡ wire_value found.now wire }
 {
-    if signal < 1000 {
-        return found[signal];
+    match wire {
+        Wire::Const(b) => b as i64,
+        Wire::Node(id) => found.get(id).copied().unwrap_or(0),
     }
-    (signal - 1000) as i64
 }
 
-// The values of the first n outputs written to the buffer's front.
-pub fn write_values(ports: &[usize; 160], n: usize, found: &[i64; 672], values: &mut [i64])
-    requires { Signals ports.now n × (length found.now ≡ 672) × (n ≤ length values.old) }
-    ensures { values.new ≡ over (signal_values ports.now found.now n) values.old }
+// The outputs' values written to the buffer's front.
+pub fn write_values(outputs: &[Output<'_>], found: &[i64], values: &mut [i64])
+    requires { length outputs.now ≤ length values.old }
+    ensures { values.new ≡ over (output_values (map output_of outputs.now) found.now) values.old }
 {
-    let mut i = 0;
-    while i < n {
-        values[i] = signal_value(found, ports[64 + 3 * i + 2]);
-        i += 1;
+    for (i, output) in outputs.iter().enumerate() {
+        values[i] = wire_value(found, output.wire);
     }
 }

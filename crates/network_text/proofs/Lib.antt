@@ -1,2 +1,5 @@
--- Lemmas on two nodes of a sum told apart by their digits: they stand on the definition in specs/, so that a wrong one is refused here.
+-- Which form a line is, and what the bits and the terms are that were read.
+pub mod Bits
+pub mod LineForms
+pub mod GoodSums
 pub mod Gather

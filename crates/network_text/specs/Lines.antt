@@ -1,37 +1,76 @@
 -- What the code says of a line, and what of a line is good on its own.
-use Rattle.std.specs.Prelude.{◌≡◌, List, [], ◌∷◌, ℕ, ◌-◌, ◌≤◌, min, T, leb, length, take, drop}
+use Rattle.std.specs.Prelude.{◌≡◌, List, [], ◌∷◌, ℕ, ◌≤◌, min, T, leb, length}
+use Rattle.std.specs.Prelude as P
+use Rattle.std.specs.Borrow.{Bor}
 use Rattle.std.proofs.Math.Option.{Option, none, some}
 use Rattle.laws.specs.Test.{if◌then◌otherwise◌}
 use Rattle.rules.specs.Builder.{table_limits}
-use Rattle.rules.specs.Circuit.{Given}
-use Rattle.rules.specs.Form.{bits_from}
-use Rattle.rules.specs.Network.{Term, Input, Linear, Bootstrap}
-use Rattle.rules.specs.NetworkText.{NetworkLine, NetLine, NodeLine, OutLine, network_line, good_sum}
+use Rattle.rules.specs.Form.{Piece, Reader, give, onward, ◌>>=◌, ◌>>◌, ◌or◌, word, number, norm, bits, bits_from, in_line, out_line}
+use Rattle.rules.specs.Network.{Term, LutNode, Input, Linear, Bootstrap}
+use Rattle.rules.specs.NetworkText.{Net, NetworkLine, NetLine, NodeLine, OutLine, net_line, lin_line, boot_line, network_line, good_sum}
 use Rattle.rules.specs.Runs.{all_bits}
-use Rattle.forms.specs.Forms.{cap_output}
+use Rattle.text.specs.Pieces.{piece_as}
 use Rattle.text.specs.Name.{Named}
-use Rattle.theorems.specs.Weights.{GoodWeight}
-use Rattle.network_text.specs.Terms.{terms_of, Small}
+use Rattle.forms.specs.Forms.{given_of, output_of, cap_output, GoodGiven}
+use Rattle.forms.specs.declared.Net as F
+use Rattle.nodes.specs.View.{terms_in, GoodTerms}
 use Rattle.network_text.specs.declared.line.Line.{Line}
-use Rattle.network_text.specs.declared.line.Line.TheVariants.{Bad, Net as NetRead, In, Lin as Sum, Boot, Out}
-use Rattle.network_text.specs.declared.line.Read.{Read}
-use Rattle.network_text.specs.declared.sum.Lin.{Lin}
+use Rattle.network_text.specs.declared.line.Line.TheVariants as L
 
--- The input with the name from a to e.
-abbrev pub given_at : List ℕ → ℕ → ℕ → ℕ → Given
-given_at l a e w = record { name = take (e - a) (drop a l); weight = w }
+abbrev pub net_of : F.Net → Net
+net_of n = record { p = n.p; m = n.m; norm = n.norm }
 
--- The line that the code's answer stands for, of the bytes l.
-unfoldable pub line_in : List ℕ → Line → Lin → Option NetworkLine
-line_in l Bad v = none
-line_in l (NetRead p m n) v = some (NetLine (record { p = p; m = m; norm = n }))
-line_in l (In a e w) v = some (NodeLine (Input (given_at l a e w)))
-line_in l Sum v = some (NodeLine (Linear v.constant (terms_of v)))
-line_in l (Boot i a e) v = some (NodeLine (Bootstrap i (bits_from (take (e - a) (drop a l)))))
-line_in l (Out a e w) v = some (OutLine (record { name = take (e - a) (drop a l); wire = w }))
+abbrev pub net_line_of : F.Net → NetworkLine
+net_line_of n = NetLine (net_of n)
 
-unfoldable pub line_of : List ℕ → Read → Option NetworkLine
-line_of l r = line_in l r.line r.lin
+-- The line that the code's answer stands for.
+abbrev pub line_of : Line → NetworkLine
+line_of (L.Net n) = NetLine (net_of n)
+line_of (L.In g) = NodeLine (Input (given_of g))
+line_of (L.Lin t) = NodeLine (Linear t.constant (terms_in t))
+line_of (L.Boot i b) = NodeLine (Bootstrap i (bits_from b.now))
+line_of (L.Out o) = OutLine (output_of o)
+
+abbrev pub line_read : P.Option Line → Option NetworkLine
+line_read P.None = none
+line_read (P.Some l) = some (line_of l)
+
+-- ---- The forms, behind the word that each begins with.
+
+-- A line, of any length: `network_line` is one that is all of the bytes.
+unfoldable pub line_form : Reader NetworkLine
+line_form =
+    (net_line >>= (λ n. give (NetLine n)))
+    or (in_line >>= (λ n. give (NodeLine (Input n))))
+    or (lin_line >>= (λ n. give (NodeLine n)))
+    or (boot_line >>= (λ n. give (NodeLine n)))
+    or (out_line >>= (λ o. give (OutLine o)))
+
+-- `boot`
+unfoldable pub boot_rest : Reader LutNode
+boot_rest = do
+  i ← number
+  word " "
+  b ← bits
+  word ")\n"
+  give (Bootstrap i b)
+
+abbrev pub node_form : Option (Piece LutNode) → Option (Piece NetworkLine)
+node_form o = onward o (λ n. give (NodeLine n))
+
+-- `net`, and `net2` of edition 2
+unfoldable pub net_rest : Reader Net
+net_rest = do
+  p ← number
+  word " "
+  m ← number
+  word " "
+  l ← norm
+  word ")\n"
+  give (record { p = p; m = m; norm = l })
+
+abbrev pub net_form : Option (Piece Net) → Option (Piece NetworkLine)
+net_form o = onward o (λ n. give (NetLine n))
 
 -- ---- What 21 refuses whatever stands before the line is no good line; a node's number counts up to 65536, which is no network's node.
 
@@ -49,30 +88,49 @@ good_form (NodeLine (Linear c ts)) = if good_sum c ts then some (NodeLine (Linea
 good_form (NodeLine (Bootstrap i table)) = if leb (length table) 32 then some (NodeLine (Bootstrap (min 65536 i) table)) otherwise none
 good_form (OutLine o) = some (OutLine (cap_output o))
 
+abbrev pub good_value : Option NetworkLine → List ℕ → Option (Piece NetworkLine)
+good_value none x = none
+good_value (some l) x = give l x
+
+-- A good line at the front of some bytes.
+unfoldable pub good_piece : Option (Piece NetworkLine) → Option (Piece NetworkLine)
+good_piece none = none
+good_piece (some t) = good_value (good_form t.value) t.rest
+
 unfoldable pub good_line : Option NetworkLine → Option NetworkLine
 good_line none = none
 good_line (some l) = good_form l
 
 -- ---- What the code knows of a line that it read.
 
--- A table of 1 to 32 bits, within the line.
-pub record TablePlace (l : List ℕ) (a e : ℕ) : Type 0 where
-  pub later : a ≤ e
-  pub inside : e ≤ length l
-  pub some : 1 ≤ e - a
-  pub short : e - a ≤ 32
-  pub bits : T (all_bits (bits_from (take (e - a) (drop a l))))
+-- A table's 1 to 32 bits as they stand in the text.
+pub record TableBits (b : List ℕ) : Type 0 where
+  pub some : 1 ≤ length b
+  pub short : length b ≤ 32
+  pub bits : T (all_bits (bits_from b))
 
-abbrev pub Within : List ℕ → Line → Type 0
-Within l Bad = Unit {0}
-Within l (NetRead p m n) = Unit {0}
-Within l (In a e w) = Named (length l) a e × GoodWeight w
-Within l Sum = Unit {0}
-Within l (Boot i a e) = TablePlace l a e
-Within l (Out a e w) = Named (length l) a e
+-- Of a sum's terms, at most 11, CONST and COEF are within -31..31 and a node's number is below 65537.
+abbrev pub Within : Line → Type 0
+Within (L.Net n) = Unit {0}
+Within (L.In g) = GoodGiven (given_of g)
+Within (L.Lin t) = GoodTerms 65537 t
+Within (L.Boot i b) = TableBits b.now
+Within (L.Out o) = Named o.name.now
+
+abbrev pub ReadWithin : P.Option Line → Type 0
+ReadWithin P.None = Unit {0}
+ReadWithin (P.Some l) = Within l
+
+abbrev pub FormWithin : P.Option (Line × Bor (List ℕ)) → Type 0
+FormWithin P.None = Unit {0}
+FormWithin (P.Some p) = Within p.0
+
+-- The good line of what was read.
+pub record IsForm (o : Option (Piece NetworkLine)) (r : P.Option (Line × Bor (List ℕ))) : Type 0 where
+  pub same : piece_as line_of r ≡ good_piece o
+  pub within : FormWithin r
 
 -- The good line that the bytes are.
-pub record LineRead (l : List ℕ) (r : Read) : Type 0 where
-  pub same : line_of l r ≡ good_line (network_line l)
-  pub small : Small r.lin
-  pub within : Within l r.line
+pub record LineRead (l : List ℕ) (r : P.Option Line) : Type 0 where
+  pub same : line_read r ≡ good_line (network_line l)
+  pub within : ReadWithin r

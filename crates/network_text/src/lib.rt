@@ -1,8 +1,7 @@
-// The lines of a network's text. It leans on what both texts are made of (`forms`, `text`).
-#![tactic(auto)]
+// The lines of a network's text. It leans on what both texts are made of (`forms`, `text`) and on the terms of a sum (`nodes`).
+#![tactic(auto, unfolding(crate::specs::Readers::readers))]
 
 mod line;
 mod sum;
 
-pub use line::{Line, Read, read_line};
-pub use sum::{Lin, is_closed};
+pub use line::{Line, read_line, read_net};

@@ -14,8 +14,9 @@ use Rattle.rules.specs.NetworkText.{sources}
 use Rattle.rules.specs.Store.{needs}
 use Rattle.theorems.specs.Depths.{same_depth, depth_is}
 use Rattle.theorems.specs.Members.{member_head, member-tail}
-use Rattle.nodes.specs.Nodes.{kind_of, fine_needs, store_ordered}
-use Rattle.nodes.specs.View.{record_at, record_of, node_in, node_of, store_of, depth_in, Fine, IsNode, IsStore, at_store, store_length, store_below, part_drop, put_at, put_depth, put_length, put_same, put_before}
+use Rattle.nodes.specs.declared.node.Kind.TheVariants as Kinds
+use Rattle.nodes.specs.Nodes.{kind_of, source_before, fine_needs, store_ordered}
+use Rattle.nodes.specs.View.{is_node, record_at, record_of, node_in, node_of, store_of, depth_in, Fine, IsNode, IsStore, at_store, store_length, store_below, part_drop, put_at, put_depth, put_length, put_same, put_before}
 
 -- ---- laws: the depth that its sources give
 
@@ -25,16 +26,16 @@ deepest_sources f [] = refl
 deepest_sources f (t ∷ ts) = ap (max (f t.node)) (deepest_sources f ts)
 
 -- that of its deepest source, and one more for a bootstrap
-pub depth-other : (f : ℕ → ℕ) (n : LutNode) (d : ℕ) → d ≡ largest f (needs n) → kind_of n < 2 → d ≡ node_depth f n
+pub depth-other : (f : ℕ → ℕ) (n : LutNode) (d : ℕ) → d ≡ largest f (needs n) → (kind_of n ≡ Kinds.Bootstrap → ⊥) → d ≡ node_depth f n
 unfolding kind_of node_depth needs largest
 depth-other f (Input g) d e h = e
 depth-other f (Linear c ts) d e h = e ∙ sym (deepest_sources f ts)
-depth-other f (Bootstrap j table) d e h = absurd (omega arith)
+depth-other f (Bootstrap j table) d e h = absurd (h refl)
 
-pub depth_boot : (f : ℕ → ℕ) (n : LutNode) (d : ℕ) → d ≡ largest f (needs n) → 2 ≤ kind_of n → d + 1 ≡ node_depth f n
+pub depth_boot : (f : ℕ → ℕ) (n : LutNode) (d : ℕ) → d ≡ largest f (needs n) → kind_of n ≡ Kinds.Bootstrap → d + 1 ≡ node_depth f n
 unfolding kind_of node_depth needs largest
-depth_boot f (Input g) d e h = absurd (omega arith)
-depth_boot f (Linear c ts) d e h = absurd (omega arith)
+depth_boot f (Input g) d e h = cc
+depth_boot f (Linear c ts) d e h = cc
 depth_boot f (Bootstrap j table) d e h = omega arith
 
 -- ---- laws: a turn of the loop over its sources
@@ -238,3 +239,7 @@ module _ (bytes : List ℕ) (count : ℕ) (r : List ℕ) (s : IsStore bytes coun
         same_deep i k x =
             same_depth (depth_in put) (depth_in after) (node_of put i) (λ j m. let b = fine_needs i (node_of put i) x j m in sym (depth_same j (omega arith)))
             ∙ ap (node_depth (depth_in after)) (sym (node_same i k))
+
+pub ruleset deepest_steps = (deepest_none, deepest_more, deepest_done, source_before, is_node)
+
+pub ruleset depth_steps = (depth-other, depth_boot, next_small)

@@ -7,3 +7,4 @@ pub mod Kinds
 pub mod Norm
 pub mod Depth
 pub mod Centre
+pub mod Insert

@@ -1,5 +1,5 @@
 -- What a node's bytes say of it.
-use Rattle.std.specs.Prelude.{◌≡◌, refl, true, false, ℕ, zero, suc, ◌+◌, ◌*◌, ◌/◌, ◌%◌, ◌<◌, ◌≤◌, ℤ, pos, nat_abs, length}
+use Rattle.std.specs.Prelude.{◌≡◌, refl, true, false, ℕ, zero, suc, ◌+◌, ◌-◌, ◌*◌, ◌/◌, ◌%◌, ◌<◌, ◌≤◌, ℤ, pos, nat_abs, length}
 use Rattle.std.proofs.Math.Path.{sym, ap}
 use Rattle.std.proofs.Common.{subst, ◌∙◌, true≢false, ⊎_elim, add-zero, not-suc-le-zero, le_of_suc-le-suc, arith, get_or-drop, drop-drop, take_at}
 use mathlib.Core.List.{List, [], ◌∷◌, ◌++◌}
@@ -9,6 +9,8 @@ use Rattle.laws.specs.Over.{over}
 use Rattle.rules.specs.Network.{Term, LutNode, Input, Linear, Bootstrap, is_linear, weight_of, member}
 use Rattle.rules.specs.NetworkText.{sources}
 use Rattle.rules.specs.Store.{needs, terms_of}
+use Rattle.nodes.specs.declared.node.Kind.{Kind}
+use Rattle.nodes.specs.declared.node.Kind.TheVariants as Kinds
 use Rattle.nodes.specs.Sums.{fine_at}
 use Rattle.nodes.specs.View.{biased, unbiased, biased-back, packed, padded, bytes_of, record_of, record_at, node_of, store_of, term, FineTerms, Fine, IsNode, IsStore, byte_at, at_store, store_length, part_drop}
 use Rattle.theorems.specs.EarlierNodes.{Ordered}
@@ -16,11 +18,10 @@ use Rattle.theorems.specs.Members.{member_cons}
 use Rattle.theorems.specs.Terms.{sources-length}
 use Rattle.theorems.specs.Weights.{GoodWeight}
 
--- 0 an input, 1 a sum, 2 a bootstrap
-unfoldable pub kind_of : LutNode → ℕ
-kind_of (Input g) = 0
-kind_of (Linear c ts) = 1
-kind_of (Bootstrap i table) = 2
+unfoldable pub kind_of : LutNode → Kind
+kind_of (Input g) = Kinds.Input
+kind_of (Linear c ts) = Kinds.Linear
+kind_of (Bootstrap i table) = Kinds.Bootstrap
 
 unfoldable pub constant_of : LutNode → ℤ
 constant_of (Input g) = pos 0
@@ -35,11 +36,11 @@ bytes_in (Bootstrap i table) = table
 
 -- ---- laws: a bootstrap has a source
 
-pub some_need : (n : LutNode) {kind : ℕ} → kind ≡ kind_of n → kind ≡ 2 → 0 < length (needs n)
+pub some_need : (n : LutNode) → kind_of n ≡ Kinds.Bootstrap → 0 < length (needs n)
 unfolding kind_of needs
-some_need (Input g) e h = absurd (omega arith)
-some_need (Linear c ts) e h = absurd (omega arith)
-some_need (Bootstrap i t) e h = omega arith
+some_need (Input g) h = cc
+some_need (Linear c ts) h = cc
+some_need (Bootstrap i t) h = omega arith
 
 -- ---- laws: bytes of a record
 
@@ -59,11 +60,23 @@ module _ (ts : List Term) (rest : List ℕ) (k : ℕ) (h : k < length ts) where
       let d = drop-cons ts k (term (pos 0) 0) h in
       sym (get_or-drop (3 * k) (packed ts ++ rest) j 0) ∙ rw (packed-drop ts rest k (omega arith), d)
 
-pub first_byte : (n : LutNode) → get_or (record_of n) 0 0 ≡ kind_of n
+-- a kind's byte
+abbrev pub kind_byte : Kind → ℕ
+kind_byte Kinds.Input = 0
+kind_byte Kinds.Linear = 1
+kind_byte Kinds.Bootstrap = 2
+
+first_byte : (n : LutNode) → get_or (record_of n) 0 0 ≡ kind_byte (kind_of n)
 unfolding record_of padded over bytes_of kind_of
 first_byte (Input g) = refl
 first_byte (Linear c ts) = refl
 first_byte (Bootstrap i table) = refl
+
+-- the kind of a byte
+of_byte : (k : Kind) {b : ℕ} → b ≡ kind_byte k → (b ≡ 0 → Kinds.Input ≡ k) × (b ≡ 1 → Kinds.Linear ≡ k) × ((b ≡ 0 → ⊥) → (b ≡ 1 → ⊥) → Kinds.Bootstrap ≡ k)
+of_byte Kinds.Input e = (λ h. refl, λ (h : _ ≡ 1). absurd (omega arith), λ h k. absurd (h e))
+of_byte Kinds.Linear e = (λ (h : _ ≡ 0). absurd (omega arith), λ h. refl, λ h k. absurd (k e))
+of_byte Kinds.Bootstrap e = (λ (h : _ ≡ 0). absurd (omega arith), λ (h : _ ≡ 1). absurd (omega arith), λ h k. refl)
 
 pub sources-at : (ts : List Term) (k : ℕ) → k < length ts → get_or (sources ts) k 0 ≡ (get_or ts k (term (pos 0) 0)).node
 unfolding sources
@@ -128,13 +141,13 @@ table_bytes i (Input g) f e = (omega (arith, f.0), take_at g.name _ (length g.na
 table_bytes i (Linear c ts) f e = absurd (true≢false e)
 table_bytes i (Bootstrap j table) f e = (f.1, take_at table _ (length table) refl)
 
-pub weight-byte : (n : LutNode) → kind_of n ≡ 0 → get_or (record_of n) 3 0 ≡ weight_of n
+pub weight-byte : (n : LutNode) → kind_of n ≡ Kinds.Input → get_or (record_of n) 3 0 ≡ weight_of n
 unfolding record_of padded over bytes_of kind_of weight_of
 weight-byte (Input g) h = refl
-weight-byte (Linear c ts) h = absurd (omega arith)
-weight-byte (Bootstrap i table) h = absurd (omega arith)
+weight-byte (Linear c ts) h = cc
+weight-byte (Bootstrap i table) h = cc
 
-pub weight-other : (n : LutNode) → (kind_of n ≡ 0 → ⊥) → weight_of n ≡ 1
+pub weight-other : (n : LutNode) → (kind_of n ≡ Kinds.Input → ⊥) → weight_of n ≡ 1
 unfolding kind_of weight_of
 weight-other (Input g) h = absurd (h refl)
 weight-other (Linear c ts) h = refl
@@ -152,8 +165,23 @@ module _ (bytes : List ℕ) (i : ℕ) (s : IsNode bytes i) where
   pub node-byte : (k : ℕ) → k < 38 → get_or bytes (41 * i + k) 0 ≡ get_or (record_of (node_of bytes i)) k 0
   node-byte k h = sym (byte_at bytes i k h) ∙ ap (λ (r : List ℕ). get_or r k 0) s.kept
 
-  pub kind_at : get_or bytes (41 * i) 0 ≡ kind_of (node_of bytes i)
+  pub term_few : (k : ℕ) → k < length (terms_of (node_of bytes i)) → k < 11
+  term_few k h = omega (arith, few_terms i (node_of bytes i) s.fine)
+
+  pub source_few : (k : ℕ) → k < length (needs (node_of bytes i)) → k < 11
+  source_few k h = omega (arith, few_sources i (node_of bytes i) s.fine)
+
+  kind_at : get_or bytes (41 * i) 0 ≡ kind_byte (kind_of (node_of bytes i))
   kind_at = ap (λ k. get_or bytes k 0) (sym (add-zero (41 * i))) ∙ node-byte 0 (omega arith) ∙ first_byte (node_of bytes i)
+
+  pub kind_input : get_or bytes (41 * i) 0 ≡ 0 → Kinds.Input ≡ kind_of (node_of bytes i)
+  kind_input = (of_byte (kind_of (node_of bytes i)) kind_at).0
+
+  pub kind_linear : get_or bytes (41 * i) 0 ≡ 1 → Kinds.Linear ≡ kind_of (node_of bytes i)
+  kind_linear = (of_byte (kind_of (node_of bytes i)) kind_at).1
+
+  pub kind_bootstrap : (get_or bytes (41 * i) 0 ≡ 0 → ⊥) → (get_or bytes (41 * i) 0 ≡ 1 → ⊥) → Kinds.Bootstrap ≡ kind_of (node_of bytes i)
+  kind_bootstrap = (of_byte (kind_of (node_of bytes i)) kind_at).2
 
   pub size_at : get_or bytes (41 * i + 1) 0 ≡ length (needs (node_of bytes i))
   size_at = node-byte 1 (omega arith) ∙ second-byte (node_of bytes i)
@@ -173,7 +201,7 @@ module _ (bytes : List ℕ) (i : ℕ) (s : IsNode bytes i) where
       let b = source_bytes i (node_of bytes i) s.fine k h in
       rw (node-byte (4 + 3 * k) (omega arith), node-byte (5 + 3 * k) (omega arith), b.0, b.1) (omega arith)
 
-  pub weight-at : kind_of (node_of bytes i) ≡ 0 → get_or bytes (41 * i + 3) 0 ≡ weight_of (node_of bytes i)
+  pub weight-at : kind_of (node_of bytes i) ≡ Kinds.Input → get_or bytes (41 * i + 3) 0 ≡ weight_of (node_of bytes i)
   weight-at e = node-byte 3 (omega arith) ∙ weight-byte (node_of bytes i) e
 
   pub table_fits : is_linear (node_of bytes i) ≡ false → get_or bytes (41 * i + 2) 0 ≤ 32
@@ -187,6 +215,21 @@ module _ (bytes : List ℕ) (i : ℕ) (s : IsNode bytes i) where
       let d : drop 6 (record_at bytes i) ≡ take 32 (drop (41 * i + 6) bytes) = sym (part_drop 32 6 (drop (41 * i) bytes)) ∙ ap (λ (l : List ℕ). take 32 l) (drop-drop 6 (41 * i) bytes) in
       let t : take n (drop 6 (record_at bytes i)) ≡ take n (drop (41 * i + 6) bytes) = ap (λ (l : List ℕ). take n l) d ∙ take-take n 32 (drop (41 * i + 6) bytes) h in
       sym t ∙ rw (node-byte 2 (omega arith), s.kept) (table_bytes i (node_of bytes i) s.fine e).1
+
+  -- as the slice of so many bytes
+  pub table_slice : is_linear (node_of bytes i) ≡ false
+      → take (41 * i + 6 + get_or bytes (41 * i + 2) 0 - (41 * i + 6)) (drop (41 * i + 6) bytes) ≡ bytes_in (node_of bytes i)
+  table_slice e = ap (λ n. take n (drop (41 * i + 6) bytes)) (omega arith) ∙ table_at e
+
+pub ruleset kind_bytes = (kind_input, kind_linear, kind_bootstrap)
+
+pub ruleset table_bytes_at = (table_fits, table_slice)
+
+pub ruleset term_bytes = (term_few, coefficient-at)
+
+pub ruleset source_bytes_at = (source_few, source_at)
+
+pub ruleset weight_bytes = (weight-at, weight-other)
 
 -- sources come before the node
 pub source_before : (i : ℕ) (n : LutNode) → Fine i n → (k : ℕ) → k < length (needs n) → get_or (needs n) k 0 < i
@@ -238,11 +281,11 @@ coefficient-small i (Input g) f k h = absurd (not-suc-le-zero h)
 coefficient-small i (Linear c ts) f k h = (fine_at i ts k (term (pos 0) 0) f.2 h).0
 coefficient-small i (Bootstrap j table) f k h = absurd (not-suc-le-zero h)
 
-pub terms-all : (n : LutNode) → kind_of n ≡ 1 → length (needs n) ≡ length (terms_of n)
+pub terms-all : (n : LutNode) → kind_of n ≡ Kinds.Linear → length (needs n) ≡ length (terms_of n)
 unfolding kind_of terms_of needs
-terms-all (Input g) h = absurd (omega arith)
+terms-all (Input g) h = cc
 terms-all (Linear c ts) h = sources-length ts
-terms-all (Bootstrap j table) h = absurd (omega arith)
+terms-all (Bootstrap j table) h = cc
 
 -- a term's node is a source
 pub terms_need : (n : LutNode) (k : ℕ) → k < length (terms_of n) → (k < length (needs n)) × (get_or (needs n) k 0 ≡ (get_or (terms_of n) k (term (pos 0) 0)).node)

@@ -11,8 +11,9 @@ use Rattle.rules.specs.Network.{Term, LutNode, Input, Linear, Bootstrap, node_at
 use Rattle.rules.specs.Store.{needs, terms_of}
 use Rattle.theorems.specs.Weights.{GoodWeight}
 use Rattle.theorems.proofs.Weights.{same_norm}
-use Rattle.nodes.specs.Nodes.{kind_of, fine_needs}
-use Rattle.nodes.specs.View.{term, node_of, store_of, at_store, Fine}
+use Rattle.nodes.specs.declared.node.Kind.TheVariants as Kinds
+use Rattle.nodes.specs.Nodes.{kind_of, terms-all, few_terms, terms_need, coefficient-small, source_before, fine_needs}
+use Rattle.nodes.specs.View.{term, node_of, store_of, at_store, last_node, is_node, Fine}
 
 -- A term's squared coefficient times its source's weight.
 unfoldable pub term_norm : List LutNode → Term → ℕ
@@ -41,19 +42,19 @@ module _ (nodes : List LutNode) (ts : List Term) (k : ℕ) where
       → r ≡ term_norm nodes (get_or ts (k - 1) (term (pos 0) 0)) → r ≤ 61504 → (sum + r ≡ norm_from nodes ts (k - 1)) × (sum + r ≤ 61504 * (11 - (k - 1)))
   norm_more sum r p h few e m q l = (ap₂ (λ a b. a + b) e q ∙ sym (norm-step p h), omega arith)
 
-pub norm-other : (nodes : List LutNode) (n : LutNode) → (kind_of n ≡ 1 → ⊥) → node_norm nodes n ≡ weight_of n
+pub norm-other : (nodes : List LutNode) (n : LutNode) → (kind_of n ≡ Kinds.Linear → ⊥) → node_norm nodes n ≡ weight_of n
 unfolding node_norm kind_of
 norm-other nodes (Input g) h = refl
 norm-other nodes (Linear c ts) h = absurd (h refl)
 norm-other nodes (Bootstrap i table) h = refl
 
-norm-sum : (nodes : List LutNode) (n : LutNode) → kind_of n ≡ 1 → norm_from nodes (terms_of n) 0 ≡ node_norm nodes n
+norm-sum : (nodes : List LutNode) (n : LutNode) → kind_of n ≡ Kinds.Linear → norm_from nodes (terms_of n) 0 ≡ node_norm nodes n
 unfolding node_norm kind_of terms_of norm_from
-norm-sum nodes (Input g) h = absurd (omega arith)
+norm-sum nodes (Input g) h = cc
 norm-sum nodes (Linear c ts) h = refl
-norm-sum nodes (Bootstrap i table) h = absurd (omega arith)
+norm-sum nodes (Bootstrap i table) h = cc
 
-pub norm_done : (nodes : List LutNode) (n : LutNode) (k sum : ℕ) → kind_of n ≡ 1 → k ≤ 0 → sum ≡ norm_from nodes (terms_of n) k → sum ≡ node_norm nodes n
+pub norm_done : (nodes : List LutNode) (n : LutNode) (k sum : ℕ) → kind_of n ≡ Kinds.Linear → k ≤ 0 → sum ≡ norm_from nodes (terms_of n) k → sum ≡ node_norm nodes n
 norm_done nodes n k sum h z e = let q : k ≡ 0 = omega arith in e ∙ ap (norm_from nodes (terms_of n)) q ∙ norm-sum nodes n h
 
 pub weighed : (n : LutNode) (c : ℤ) (s w : ℕ) → GoodWeight (weight_of n) → s ≡ nat_abs c * nat_abs c → s ≤ 961 → w ≡ weight_of n
@@ -81,3 +82,7 @@ unfolding term_norm
 term_norm_lem bytes i j r c t e f l q =
     let a : weight_of (node_of bytes j) ≡ weight_of (node_at (store_of bytes i) t.node) = ap weight_of (sym (at_store bytes j i l)) ∙ ap (λ k. weight_of (node_at (store_of bytes i) k)) f in
     q ∙ ap₂ (λ x v. (nat_abs x * nat_abs x) * v) e a
+
+pub ruleset norm_steps = (norm_none, norm_more, norm-other, norm_done, terms-all, few_terms, last_node)
+
+pub ruleset term_steps = (last_node, is_node, terms_need, coefficient-small, source_before, term_norm_lem)

@@ -1,19 +1,15 @@
 -- A record written byte by byte.
 use Rattle.std.specs.Prelude.{◌≡◌, List, [], ◌∷◌, ◌++◌, ℕ, suc, ◌+◌, ◌*◌, ◌/◌, ◌%◌, ◌<◌, ◌≤◌, ℤ, pos, take, drop, set, replicate}
 use Rattle.std.proofs.Math.Path.{refl}
-use Rattle.std.proofs.Common.{sym, ap, ◌∙◌, append_assoc, add-one, arith, length-append, drop-cons, take_at, take_all, drop-drop, length-take-le}
+use Rattle.std.proofs.Common.{sym, ap, ◌∙◌, append_assoc, arith, length-append, drop-cons, take_at, take_all, drop-drop, length-take-le}
 use Rattle.std.proofs.Math.ListN.{length, get_or}
 use Rattle.std.proofs.lemmas.List.{length-replicate, set_at}
-use Rattle.std.proofs.Math.Seq.{paste, paste-suc, take-length, drop-append-add}
+use Rattle.std.proofs.Math.Seq.{paste, take-length, drop-append-add}
 use Rattle.laws.specs.Over.{over}
 use Rattle.rules.specs.Network.{Term, Input, Linear, Bootstrap}
 use Rattle.nodes.specs.declared.record.Terms.{Terms}
-use Rattle.nodes.specs.Sums.{in_length, in_take}
+use Rattle.nodes.specs.Sums.{in_length, in_take, good_near, good_below, good_read}
 use Rattle.nodes.specs.View.{given, GoodTerms, terms_in, biased, packed, padded, bytes_of, record_of, term, packed-length, padded-length}
-
--- a turn of a loop that copies: s stands from `at` on, as far as k
-pub paste_turn : (d s r : List ℕ) (at k : ℕ) → at + k < length d → k < length s → r ≡ paste d at s k → set r (at + k) (get_or s k 0) ≡ paste d at s (k + 1)
-paste_turn d s r at k l h e = rw (e, add-one) (paste-suc d at s k 0 l h)
 
 -- a byte after those that are written
 pub padded_put : (l : List ℕ) (n x : ℕ) → length l ≡ n → n < 38 → set (padded l) n x ≡ padded (l ++ (x ∷ []))
@@ -79,9 +75,6 @@ module _ (j : ℕ) (table r r₁ r₂ : List ℕ) where
   source_long : r ≡ padded (2 ∷ 1 ∷ length table ∷ []) → r₁ ≡ set (set (set r 3 33) 4 (j / 256)) 5 (j % 256) → r₁ ≡ padded (2 ∷ 1 ∷ length table ∷ 33 ∷ j / 256 ∷ j % 256 ∷ [])
   source_long e f = f ∙ rw e (padded_source (2 ∷ 1 ∷ length table ∷ []) 3 33 (j / 256) (j % 256) refl (omega arith))
 
-  pub boot_long : r ≡ padded (2 ∷ 1 ∷ length table ∷ []) → r₁ ≡ set (set (set r 3 33) 4 (j / 256)) 5 (j % 256) → length r₁ ≡ 38
-  boot_long e f = ap length (source_long e f) ∙ padded-length (2 ∷ 1 ∷ length table ∷ 33 ∷ j / 256 ∷ j % 256 ∷ []) (omega arith)
-
   pub boot_done : length table ≤ 32 → r ≡ padded (2 ∷ 1 ∷ length table ∷ []) → r₁ ≡ set (set (set r 3 33) 4 (j / 256)) 5 (j % 256) → r₂ ≡ paste r₁ 6 table (length table)
       → r₂ ≡ record_of (Bootstrap j table)
   unfolding record_of bytes_of
@@ -93,3 +86,5 @@ unfolding record_of bytes_of padded over
 input_done name r r₁ w h e f =
     let z : set r 3 w ≡ padded (0 ∷ 0 ∷ length name ∷ w ∷ 0 ∷ 0 ∷ []) = ap (λ l. set l 3 w) e in
     f ∙ rw z (padded_paste (0 ∷ 0 ∷ length name ∷ w ∷ 0 ∷ 0 ∷ []) name 6 refl (omega arith))
+
+pub ruleset sum_steps = (written-length, sum_start, sum-turn, sum_done, good_near, good_below, good_read)

@@ -1,9 +1,9 @@
 -- The terms of a sum: as two arrays, as bytes, and in the order of their nodes.
-use Rattle.std.specs.Prelude.{◌≡◌, refl, Bool, true, false, ℕ, zero, suc, ◌+◌, ◌<◌, ◌≤◌, leb, ℤ, pos, nat_abs, length, get_or, take, drop, set}
+use Rattle.std.specs.Prelude.{◌≡◌, refl, Bool, true, false, ℕ, zero, suc, ◌+◌, ◌<◌, ◌≤◌, leb, ℤ, pos, nat_abs, length, get_or, take, drop}
 use Rattle.std.proofs.Math.Path.{sym, ap₂}
-use Rattle.std.proofs.Common.{ap, ◌∙◌, not-suc-le-zero, le_of_suc-le-suc, add-one, arith, take-suc, take-take, drop-cons, get_or-take, to_z-of_z, to_z, of_z}
+use Rattle.std.proofs.Common.{ap, ◌∙◌, not-suc-le-zero, le_of_suc-le-suc, add-one, arith, take-suc, drop-cons, get_or-take, to_z-of_z, to_z, of_z}
 use mathlib.Core.List.{List, [], ◌∷◌, ◌++◌, zip_with}
-use Rattle.std.proofs.Math.Seq.{take-suc-set, length-take-le}
+use Rattle.std.proofs.Math.Seq.{length-take-le}
 use Rattle.std.specs.Int.{w64}
 use Rattle.laws.specs.Integer.{fits_abs}
 use Rattle.laws.specs.Select.{select}
@@ -21,13 +21,6 @@ zip_length [] [] e = refl
 zip_length [] (n ∷ ns) e = refl
 zip_length (c ∷ cs) [] e = absurd (omega arith)
 zip_length (c ∷ cs) (n ∷ ns) e = ap suc (zip_length cs ns (omega arith))
-
-zip_snoc : (cs : List ℤ) (ns : List ℕ) (k : ℤ) (n : ℕ) → length cs ≡ length ns → zip_with term (cs ++ (k ∷ [])) (ns ++ (n ∷ [])) ≡ zip_with term cs ns ++ (term k n ∷ [])
-unfolding zip_with
-zip_snoc [] [] k n e = refl
-zip_snoc [] (m ∷ ns) k n e = absurd (omega arith)
-zip_snoc (c ∷ cs) [] k n e = absurd (omega arith)
-zip_snoc (c ∷ cs) (m ∷ ns) k n e = ap {B = List Term} (λ r. term c m ∷ r) (zip_snoc cs ns k n (omega arith))
 
 zip_at : (cs : List ℤ) (ns : List ℕ) (i : ℕ) (z : Term) → i < length cs → i < length ns → get_or (zip_with term cs ns) i z ≡ term (get_or cs i (pos 0)) (get_or ns i 0)
 unfolding zip_with
@@ -50,27 +43,6 @@ module _ (n : ℕ) (cs : List ℤ) (ns : List ℕ) (e : length cs ≡ 11) (f : l
       let a = length-take-le n cs (omega arith) in
       let b = length-take-le n ns (omega arith) in
       zip_at (take n cs) (take n ns) i z (omega arith) (omega arith) ∙ ap₂ {C = Term} term (get_or-take n cs i (pos 0) h) (get_or-take n ns i 0 h)
-
-  -- one more term
-  pub over_push : (k : ℤ) (m : ℕ) → n < 11 → terms_over (n + 1) (set cs n k) (set ns n m) ≡ terms_over n cs ns ++ (term k m ∷ [])
-  unfolding terms_over
-  over_push k m h =
-      let a = length-take-le n cs (omega arith) in
-      let b = length-take-le n ns (omega arith) in
-      rw (add-one, take-suc-set cs n k (omega arith), take-suc-set ns n m (omega arith)) (zip_snoc (take n cs) (take n ns) k m (a ∙ sym b))
-
-zip-take : (i : ℕ) (cs : List ℤ) (ns : List ℕ) → zip_with term (take i cs) (take i ns) ≡ take i (zip_with term cs ns)
-unfolding zip_with
-zip-take zero cs ns = refl
-zip-take (suc i) [] [] = refl
-zip-take (suc i) [] (n ∷ ns) = refl
-zip-take (suc i) (c ∷ cs) [] = refl
-zip-take (suc i) (c ∷ cs) (n ∷ ns) = ap {B = List Term} (λ r. term c n ∷ r) (zip-take i cs ns)
-
--- fewer of them
-pub over-take : (i n : ℕ) (cs : List ℤ) (ns : List ℕ) → i ≤ n → terms_over i cs ns ≡ take i (terms_over n cs ns)
-unfolding terms_over
-over-take i n cs ns h = rw (← zip-take i (take n cs) (take n ns), take-take i n cs h, take-take i n ns h)
 
 pub over_none : (cs : List ℤ) (ns : List ℕ) → terms_over 0 cs ns ≡ []
 unfolding terms_over zip_with

@@ -132,12 +132,6 @@ biased-back c h =
     let b = nat_abs z in
     omega (arith, ints, sub_parts (pos b) (pos 32), add_parts c (pos 32), abs_parts z, abs_parts c, one_part_zero z, one_part_zero c)
 
-pub biased-small : (c : ℤ) → nat_abs c ≤ 31 → biased c < 64
-unfolding biased plus minus
-biased-small c h =
-    let z = c +ℤ pos 32 in
-    omega (arith, add_parts c (pos 32), abs_parts z, abs_parts c, one_part_zero z, one_part_zero c)
-
 -- ---- laws: a record's length
 
 pub packed-length : (ts : List Term) → length (packed ts) ≡ 3 * length ts
@@ -217,6 +211,9 @@ store_from bytes count i h =
 
 pub is_node : (bytes : List ℕ) (count i : ℕ) → IsStore bytes count → i < count → IsNode bytes i
 is_node bytes count i s h = record { long = s.long; inside = omega (arith, s.most); fine = s.fine i h; kept = s.kept i h }
+
+pub last_node : (bytes : List ℕ) (i : ℕ) → IsStore bytes (i + 1) → IsNode bytes i
+last_node bytes i s = is_node bytes (i + 1) i s (omega arith)
 
 pub no-nodes : (bytes : List ℕ) → length bytes ≡ 27552 → IsStore bytes 0
 no-nodes bytes e = record { long = e; most = omega arith; fine = λ i l. absurd (omega arith); kept = λ i l. absurd (omega arith); deep = λ i l. absurd (omega arith) }

@@ -12,6 +12,7 @@
 
 pub mod centre;
 pub mod depth;
+pub mod insert;
 pub mod node;
 pub mod norm;
 pub mod record;

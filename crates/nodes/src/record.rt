@@ -2,7 +2,10 @@
 ghost use Rattle.std.specs.Prelude.{◌≡◌, [], ◌∷◌, ◌+◌, ◌/◌, ◌%◌, ◌≤◌, ◌<◌, nat_abs, length, set};
 ghost use Rattle.std.proofs.Math.Seq.{paste};
 ghost use Rattle.rules.specs.Network.{Input, Linear, Bootstrap};
+ghost use Rattle.nodes.specs.Nodes.{kind_byte};
 ghost use Rattle.nodes.specs.View.{given, biased, padded, record_of, terms_in, GoodTerms};
+
+use crate::node::Kind;
 
 // The terms of a sum: the first n.
 #[derive(Clone, Copy)]
@@ -13,6 +16,7 @@ pub struct Terms {
     pub sources: [usize; 11],
 }
 
+#[tactic(auto, unfolding(crate::specs::View::biased))]
 fn biased_byte(c: i64) -> u8
     requires { nat_abs c ≤ 31 }
     ensures { result ≡ biased c }
@@ -21,11 +25,12 @@ fn biased_byte(c: i64) -> u8
 }
 
 // The first three bytes, and zeros.
-fn head(kind: u8, sources: u8, third: u8) -> [u8; 38]
-    ensures { result ≡ padded (kind ∷ sources ∷ third ∷ []) }
+#[tactic(auto, unfolding(crate::specs::View::padded, laws::specs::Over::over))]
+fn head(kind: Kind, sources: u8, third: u8) -> [u8; 38]
+    ensures { result ≡ padded (kind_byte kind ∷ sources ∷ third ∷ []) }
 {
     let mut r = [0u8; 38];
-    r[0] = kind;
+    r[0] = kind as u8;
     r[1] = sources;
     r[2] = third;
     r
@@ -42,15 +47,14 @@ fn put_source(r: &mut [u8; 38], at: usize, c: i64, source: usize)
 }
 
 // Its terms are as the record has them, from below node 672.
+#[tactic(auto, using(crate::specs::Records::sum_steps))]
 pub fn sum(t: Terms) -> [u8; 38]
     requires { GoodTerms 672 t }
     ensures { result ≡ record_of (Linear t.constant (terms_in t)) }
 {
-    let mut r = head(1, t.n as u8, biased_byte(t.constant));
-    let mut k = 0;
-    while k < t.n {
+    let mut r = head(Kind::Linear, t.n as u8, biased_byte(t.constant));
+    for k in 0..t.n {
         put_source(&mut r, 3 + 3 * k, t.coefs[k], t.sources[k]);
-        k += 1;
     }
     r
 }
@@ -60,28 +64,26 @@ fn put_bytes(r: &mut [u8; 38], bytes: &[u8])
     requires { (length r.old ≡ 38) × (length bytes.now ≤ 32) }
     ensures { r.new ≡ paste r.old 6 bytes.now (length bytes.now) }
 {
-    let mut k = 0;
-    while k < bytes.len() {
-        r[6 + k] = bytes[k];
-        k += 1;
-    }
+    r[6..6 + bytes.len()].copy_from_slice(bytes);
 }
 
+#[tactic(auto, using(crate::specs::Records::boot_done), unfolding(crate::specs::View::biased))]
 pub fn boot(source: usize, table: &[u8]) -> [u8; 38]
     requires { (source < 672) × (length table.now ≤ 32) }
     ensures { result ≡ record_of (Bootstrap source table.now) }
 {
-    let mut r = head(2, 1, table.len() as u8);
+    let mut r = head(Kind::Bootstrap, 1, table.len() as u8);
     put_source(&mut r, 3, 1, source);
     put_bytes(&mut r, table);
     r
 }
 
+#[tactic(auto, using(crate::specs::Records::input_done))]
 pub fn input(name: &[u8], weight: u8) -> [u8; 38]
     requires { length name.now ≤ 16 }
     ensures { result ≡ record_of (Input (given name.now weight)) }
 {
-    let mut r = head(0, 0, name.len() as u8);
+    let mut r = head(Kind::Input, 0, name.len() as u8);
     r[3] = weight;
     put_bytes(&mut r, name);
     r

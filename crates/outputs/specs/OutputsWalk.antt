@@ -1,163 +1,120 @@
--- The loop over the outputs: what holds of the ports on the way, and each step.
-use Rattle.std.specs.Prelude.{◌≡◌, ◌≢◌, ℕ, ◌+◌, ◌*◌, ◌-◌, ◌≤◌, ◌<◌, length, get_or, set, drop}
-use Rattle.std.proofs.Math.Path.{refl, sym, ap, ap₂}
-use Rattle.std.proofs.Common.{subst, ◌∙◌, ⊎_elim, inl, inr, arith, length-set, drop_of_length-le, drop-cons, get_or-set_same}
-use mathlib.Core.List.{List, [], ◌∷◌, ◌++◌}
-use Rattle.std.proofs.Math.Numerals.{add-one}
-use Rattle.std.proofs.Math.ListN.{take}
-use Rattle.std.proofs.Math.Seq.{get_or-set_other}
-use Rattle.laws.specs.Tabulate.{tabulate, tabulate-length, tabulate-at, tabulate_same, tabulate_snoc}
-use Rattle.laws.specs.Test.{eq-or-ne}
+-- The loop over the outputs.
+use Rattle.std.specs.Prelude.{◌≡◌, List, [], ◌∷◌, ◌++◌, map, ℕ, ◌+◌, ◌*◌, ◌≤◌, ◌<◌, length, get_or, drop, suc}
+use Rattle.std.proofs.Math.Path.{refl, sym, ap}
+use Rattle.std.proofs.Common.{subst, ◌∙◌, add-one, arith, length-append, drop_of_length-le, drop-cons}
+use mathlib.Core.List.{map-append}
+use Rattle.std.proofs.lemmas.List.{length-map, get_or-map}
+use Rattle.std.proofs.lemmas.List.Elements.{All-push}
 use Rattle.rules.specs.declared.Settings.{Settings}
-use Rattle.rules.specs.Circuit.{Name, Output}
+use Rattle.rules.specs.declared.Wire.{Wire}
+use Rattle.rules.specs.Circuit.{Output}
 use Rattle.rules.specs.Cone as C
+use Rattle.rules.specs.Network.{LutNode}
 use Rattle.rules.specs.Mapper.{Signal, Outputs, cone_at, output_signal, map_outputs}
+use Rattle.forms.specs.declared.Output as O
+use Rattle.forms.specs.Forms.{output_of}
+use Rattle.cone.specs.declared.Cone.{Cone}
+use Rattle.cone.specs.View.{cone_of}
+use Rattle.cone_wires.specs.Wires.{cone_in}
 use Rattle.nodes.specs.View.{store_of, IsStore}
 use Rattle.lut.specs.declared.Linked.{Linked}
-use Rattle.bootstrap.specs.View.{KeepsCentres}
-use Rattle.outputs.specs.Outputs.{signal_read, port_of, PortIn, SignalIn, signal_wire_lem, GoodPorts, started, outputs_read, Outs}
-use Rattle.circuit.specs.View.{port_wire, name_at, output_in, outputs_in}
+use Rattle.bootstrap.specs.View.{KeepsCentres, centres_same, centres_then}
+use Rattle.gates.specs.View.{place, wire_cone, cones_in}
+use Rattle.gates.specs.Wired.{WireIn, Wired, wire_more, wired_more, cone_read}
+use Rattle.outputs.specs.Outputs.{signal_read, Finishes, AllIn}
 
--- The first i outputs have their wires, nodes below k or constants; nothing else has changed.
-pub record Written (before : List ℕ) (k i : ℕ) (ports : List ℕ) : Type 0 where
-  pub long : length ports ≡ 192
-  pub done : (j : ℕ) → j < i → PortIn k (get_or ports (64 + 3 * j + 2) 0)
-  pub others : (j : ℕ) → ((m : ℕ) → m < i → j ≢ 64 + 3 * m + 2) → get_or ports j 0 ≡ get_or before j 0
+unfoldable pub started : List LutNode → Outputs
+started store = record { nodes = store; outputs = [] }
 
--- ---- laws: the ports
+-- The store of k nodes, and the outputs so far.
+unfoldable pub mapped_read : List ℕ → ℕ → List O.Output → Outputs
+mapped_read nodes k os = record { nodes = store_of nodes k; outputs = map output_of os }
 
-pub written_none : (ports : List ℕ) (k : ℕ) → length ports ≡ 192 → Written ports k 0 ports
-written_none ports k long = record { long = long; done = λ j l. absurd (omega arith); others = λ j never. refl }
+-- The outputs' wires are nodes or constants, and the store has grown by at most two nodes for each.
+pub record Outs (p : ℕ) (old : List ℕ) (before many : ℕ) (nodes : List ℕ) (k : ℕ) (os : List O.Output) : Type 0 where
+  pub store : IsStore nodes k
+  pub wires : AllIn k (map output_of os)
+  pub least : before ≤ k
+  pub most : k ≤ before + 2 * many
+  pub centred : KeepsCentres p old before nodes k
 
-pub port_more : (k more wire : ℕ) → k ≤ more → PortIn k wire → PortIn more wire
-port_more k more wire h (inl l) = inl (omega arith)
-port_more k more wire h (inr l) = inr l
+-- ---- laws: an output's cone
 
-module _ (before : List ℕ) (k i : ℕ) (ports : List ℕ) (w : Written before k i ports) where
-  pub port_kept : get_or ports (64 + 3 * i + 2) 0 ≡ get_or before (64 + 3 * i + 2) 0
-  port_kept = w.others (64 + 3 * i + 2) (λ m l e. omega arith)
+pub output_in : (os items : List O.Output) → items ≡ os → (n i : ℕ) (d : O.Output) → i < length items → AllIn n (map output_of os) → WireIn n (get_or items i d).wire
+output_in os items q n i d h a =
+    let l : i < length os = rw q at h in
+    let m : i < length (map output_of os) = simp length-map l in
+    rw q (subst (λ (o : Output). WireIn n o.wire) (get_or-map output_of os i d (output_of d) l) (a i (output_of d) m))
 
-  pub port_good : (n outs : ℕ) → GoodPorts before n outs → i < outs → PortIn n (get_or ports (64 + 3 * i + 2) 0)
-  port_good n outs g h = subst (PortIn n) (sym port_kept) (g.wires i h)
-
-  name_kept : (text : List ℕ) → name_at text ports (64 + 3 * i) ≡ name_at text before (64 + 3 * i)
-  unfolding name_at
-  name_kept text =
-      let a = w.others (64 + 3 * i) (λ m l e. omega arith) in
-      let b = w.others (64 + 3 * i + 1) (λ m l e. omega arith) in
-      ap₂ {C = Name} (λ from to. take (to - from) (drop from text)) a b
-
-  module _ (h : i < 32) (wire : ℕ) where
-    pub written_step : (more : ℕ) → k ≤ more → PortIn more wire → Written before more (i + 1) (set ports (64 + 3 * i + 2) wire)
-    written_step more l p =
-        record {
-          long = length-set ports (64 + 3 * i + 2) wire ∙ w.long;
-          done = λ j b. ⊎_elim (λ (e : j ≡ i). here j e) (λ (e : j ≡ i → ⊥). there j b e) (eq-or-ne j i);
-          others = λ j never. get_or-set_other ports (64 + 3 * i + 2) j wire 0 (never i (omega arith)) ∙ w.others j (λ m b. never m (omega arith));
-        }
-      where
-        here : (j : ℕ) → j ≡ i → PortIn more (get_or (set ports (64 + 3 * i + 2) wire) (64 + 3 * j + 2) 0)
-        here j e =
-            subst (λ n. PortIn more (get_or (set ports (64 + 3 * i + 2) wire) (64 + 3 * n + 2) 0)) (sym e)
-            (subst (PortIn more) (sym (get_or-set_same ports (64 + 3 * i + 2) wire 0 (omega (arith, w.long)))) p)
-
-        there : (j : ℕ) → j < i + 1 → (j ≡ i → ⊥) → PortIn more (get_or (set ports (64 + 3 * i + 2) wire) (64 + 3 * j + 2) 0)
-        there j b e =
-            subst (PortIn more) (sym (get_or-set_other ports (64 + 3 * i + 2) (64 + 3 * j + 2) wire 0 (λ q. e (omega arith))))
-            (port_more k more _ l (w.done j (omega (arith, e))))
-
-    module _ (text : List ℕ) where
-      name_unset : (j : ℕ) → name_at text (set ports (64 + 3 * i + 2) wire) (64 + 3 * j) ≡ name_at text ports (64 + 3 * j)
-      unfolding name_at
-      name_unset j =
-          let a = get_or-set_other ports (64 + 3 * i + 2) (64 + 3 * j) wire 0 (λ q. omega arith) in
-          let b = get_or-set_other ports (64 + 3 * i + 2) (64 + 3 * j + 1) wire 0 (λ q. omega arith) in
-          ap₂ {C = Name} (λ from to. take (to - from) (drop from text)) a b
-
-      earlier_kept : (j : ℕ) → j < i → output_in text (set ports (64 + 3 * i + 2) wire) j ≡ output_in text ports j
-      unfolding output_in
-      earlier_kept j l =
-          ap₂ {C = Output} (λ x v. record { name = x; wire = port_wire v }) (name_unset j)
-          (get_or-set_other ports (64 + 3 * i + 2) (64 + 3 * j + 2) wire 0 (λ q. omega arith))
-
-      own_output : output_in text (set ports (64 + 3 * i + 2) wire) i ≡ record { name = name_at text before (64 + 3 * i); wire = port_wire wire }
-      unfolding output_in
-      own_output =
-          ap₂ {C = Output} (λ x v. record { name = x; wire = port_wire v }) (name_unset i ∙ name_kept text)
-          (get_or-set_same ports (64 + 3 * i + 2) wire 0 (omega (arith, w.long)))
-
-      pub outputs_grown : outputs_in text (set ports (64 + 3 * i + 2) wire) (i + 1)
-          ≡ outputs_in text ports i ++ (record { name = name_at text before (64 + 3 * i); wire = port_wire wire } ∷ [])
-      unfolding outputs_in
-      outputs_grown =
-          rw (add-one i)
-          (tabulate_snoc i (output_in text (set ports (64 + 3 * i + 2) wire))
-          ∙ ap₂ {C = List Output} (λ l x. l ++ (x ∷ [])) (tabulate_same i (output_in text (set ports (64 + 3 * i + 2) wire)) (output_in text ports) earlier_kept) own_output)
+pub signal_is : (nodes : List ℕ) (count : ℕ) (wires : List ℕ) (n : ℕ) (v : Wired nodes count wires n) (w : Wire) → WireIn n w → (s : Settings) (c : Cone) → c ≡ cone_in wires (place w) → {r : Signal} → r ≡ output_signal s (store_of nodes count) (cone_of c)
+    → r ≡ output_signal s (store_of nodes count) (cone_at (cones_in wires n) w)
+unfolding wire_cone
+signal_is nodes count wires n v w h s c q e = e ∙ ap (output_signal s (store_of nodes count)) (ap cone_of q ∙ sym (cone_read nodes count wires n v w h))
 
 -- ---- laws: the loop
 
-unfoldable onward : Settings → List C.Cone → List Output → Name → List Output → Signal → Outputs
-onward s cones done name rest r = map_outputs s cones (record { nodes = r.nodes; outputs = done ++ (record { name = name; wire = r.wire } ∷ []) }) rest
+-- what the outputs from output i on leave, behind those so far
+unfoldable pub outputs_from : Settings → List C.Cone → List O.Output → ℕ → List ℕ → ℕ → List O.Output → Outputs
+outputs_from s cones os i nodes k so_far = map_outputs s cones (mapped_read nodes k so_far) (map output_of (drop i os))
 
-module _ (s : Settings) (cones : List C.Cone) (text before : List ℕ) (outs i : ℕ) (h : i < outs) where
-  outputs_next : (done : Outputs) → map_outputs s cones done (drop i (outputs_in text before outs))
-      ≡ onward s cones done.outputs (name_at text before (64 + 3 * i)) (drop (i + 1) (outputs_in text before outs))
-      (output_signal s done.nodes (cone_at cones (port_wire (get_or before (64 + 3 * i + 2) 0))))
-  unfolding map_outputs outputs_in output_in onward
-  outputs_next done =
-      rw
-      (drop-cons (tabulate outs (output_in text before)) i (output_in text before 0) (rw (tabulate-length outs (output_in text before)) h), tabulate-at outs (output_in text before) i (output_in text before 0) h, add-one i)
-      refl
+module _ (s : Settings) (cones : List C.Cone) (os : List O.Output) where
+  pub outputs_start : (nodes : List ℕ) (k : ℕ) → outputs_from s cones os 0 nodes k [] ≡ map_outputs s cones (started (store_of nodes k)) (map output_of os)
+  unfolding outputs_from mapped_read started
+  outputs_start nodes k = refl
 
-  module _ (nodes : List ℕ) (k : ℕ) (ports : List ℕ) (w : Written before k i ports) (after : List ℕ) (f : Linked)
-      (is : signal_read after f ≡ output_signal s (store_of nodes k) (cone_at cones (port_wire (get_or ports (64 + 3 * i + 2) 0)))) where
-    abbrev rest : List Output
-    rest = drop (i + 1) (outputs_in text before outs)
+  pub outputs_done : (items : List O.Output) → items ≡ os → (i : ℕ) (nodes : List ℕ) (k : ℕ) (so_far : List O.Output) → length items ≤ i
+      → mapped_read nodes k so_far ≡ outputs_from s cones os i nodes k so_far
+  unfolding outputs_from map_outputs
+  outputs_done items q i nodes k so_far h = let l : length os ≤ i = rw q at h in rw (drop_of_length-le os {i = i} l) refl
 
-    abbrev name : Name
-    name = name_at text before (64 + 3 * i)
+  module _ (items : List O.Output) (q : items ≡ os) (i : ℕ) (d : O.Output) (h : i < length items) (nodes : List ℕ) (k : ℕ) (so_far : List O.Output) where
+    pub outputs-step : (after : List ℕ) (l : Linked) → signal_read after l ≡ output_signal s (store_of nodes k) (cone_at cones (get_or items i d).wire) → (x : O.Output)
+        → output_of x ≡ record { name = (get_or items i d).name.now; wire = l.signal }
+        → outputs_from s cones os (i + 1) after l.count (so_far ++ (x ∷ [])) ≡ outputs_from s cones os i nodes k so_far
+    unfolding outputs_from mapped_read map_outputs signal_read
+    outputs-step after l e x f =
+        rw (← q, add-one)
+        (rw (drop-cons items i d h, map-append output_of so_far (x ∷ []), f)
+        (ap (λ r. map_outputs s cones (record { nodes = r.nodes; outputs = map output_of so_far ++ (record { name = (get_or items i d).name.now; wire = r.wire } ∷ []) }) (map output_of (drop (suc i) items))) e))
 
-    next_signal : onward s cones (outputs_in text ports i) name rest (signal_read after f) ≡ map_outputs s cones (outputs_read text nodes ports i k) (drop i (outputs_in text before outs))
-    unfolding outputs_read
-    next_signal =
-        ap (onward s cones (outputs_in text ports i) name rest) (is ∙ ap (λ v. output_signal s (store_of nodes k) (cone_at cones (port_wire v))) (port_kept before k i ports w))
-        ∙ sym (outputs_next (record { nodes = store_of nodes k; outputs = outputs_in text ports i }))
+-- the wires so far
+pub all_none : (n : ℕ) → AllIn n (map output_of [])
+all_none n = λ k d h. absurd (omega arith)
 
-    pub outputs-step : (wire : ℕ) → wire ≡ port_of f.signal → i < 32 → f.count ≤ 672 → SignalIn f.count f.signal
-        → map_outputs s cones (outputs_read text after (set ports (64 + 3 * i + 2) wire) (i + 1) f.count) rest
-        ≡ map_outputs s cones (outputs_read text nodes ports i k) (drop i (outputs_in text before outs))
-    unfolding outputs_read onward signal_read
-    outputs-step wire e low few inside =
-        ap (λ l. map_outputs s cones (record { nodes = store_of after f.count; outputs = l }) rest)
-        (outputs_grown before k i ports w low wire text
-        ∙ ap (λ v. outputs_in text ports i ++ (record { name = name; wire = v } ∷ [])) (signal_wire_lem f.count wire f.signal e few inside))
-        ∙ next_signal
+pub all_next : (k more : ℕ) (so_far : List O.Output) (x : O.Output) → k ≤ more → AllIn k (map output_of so_far) → WireIn more x.wire → AllIn more (map output_of (so_far ++ (x ∷ [])))
+all_next k more so_far x h a w =
+    rw (map-append output_of so_far (x ∷ []))
+    (All-push (λ (o : Output). WireIn more o.wire) (map output_of so_far) (output_of x) (λ i d l. wire_more k more (get_or (map output_of so_far) i d).wire h (a i d l)) w)
 
-pub outputs_start : (s : Settings) (cones : List C.Cone) (text nodes : List ℕ) (k : ℕ) (ports : List ℕ) (outputs : List Output)
-    → map_outputs s cones (outputs_read text nodes ports 0 k) (drop 0 outputs) ≡ map_outputs s cones (started (store_of nodes k)) outputs
-unfolding outputs_read started outputs_in tabulate
-outputs_start s cones text nodes k ports outputs = refl
+-- what holds on the way, of the first i outputs
+pub record Way (p : ℕ) (old : List ℕ) (before n : ℕ) (wires : List ℕ) (i : ℕ) (nodes : List ℕ) (k : ℕ) (so_far : List O.Output) : Type 0 where
+  pub wired : Wired nodes k wires n
+  pub long : length so_far ≡ i
+  pub outs : Outs p old before i nodes k so_far
 
-pub outputs_done : (s : Settings) (cones : List C.Cone) (text before : List ℕ) (outs i : ℕ) (nodes : List ℕ) (k : ℕ) (ports : List ℕ) → outs ≤ i → i ≤ outs
-    → outputs_read text nodes ports outs k ≡ map_outputs s cones (outputs_read text nodes ports i k) (drop i (outputs_in text before outs))
-unfolding map_outputs outputs_in
-outputs_done s cones text before outs i nodes k ports a b =
-    let same : outs ≡ i = omega arith in
-    let none_left : drop i (tabulate outs (output_in text before)) ≡ [] = drop_of_length-le (tabulate outs (output_in text before)) {i = i} (rw (tabulate-length outs (output_in text before)) a) in
-    ap (λ j. outputs_read text nodes ports j k) same ∙ ap (map_outputs s cones (outputs_read text nodes ports i k)) (sym none_left)
+pub way_start : (p : ℕ) (nodes : List ℕ) (k n : ℕ) (wires : List ℕ) (so_far : List O.Output) → so_far ≡ [] → Wired nodes k wires n → Way p nodes k n wires 0 nodes k so_far
+way_start p nodes k n wires so_far e w =
+    rw e (record { wired = w; long = refl; outs = record { store = w.store; wires = all_none k; least = omega arith; most = omega arith; centred = centres_same } })
 
--- ---- laws: what is left in the ports
+module _ {p : ℕ} {old : List ℕ} {before n : ℕ} {wires : List ℕ} {i : ℕ} {nodes : List ℕ} {k : ℕ} {so_far : List O.Output} (w : Way p old before n wires i nodes k so_far) where
+  way_more : (after : List ℕ) (l : Linked) → Finishes p nodes k 2 after l → (x : O.Output) → x.wire ≡ l.signal → Way p old before n wires (i + 1) after l.count (so_far ++ (x ∷ []))
+  way_more after l f x e =
+      let g = f.grown in
+      let a = g.least in
+      let b = g.most in
+      let c = w.outs.least in
+      let d = w.outs.most in
+      record {
+        wired = wired_more nodes after k l.count wires n w.wired g.store g.least;
+        long = length-append so_far (x ∷ []) ∙ (let h = w.long in omega arith);
+        outs = record {
+          store = g.store;
+          wires = all_next k l.count so_far x g.least w.outs.wires (subst (WireIn l.count) (sym e) f.inside);
+          least = omega arith;
+          most = omega arith;
+          centred = centres_then w.outs.centred g.centred;
+        };
+      }
 
-pub outs_done : {p : ℕ} {old : List ℕ} (before : List ℕ) (count outs k i : ℕ) (nodes ports : List ℕ) → Written before k i ports → outs ≤ i → i ≤ outs → outs ≤ 32 → IsStore nodes k → count ≤ k
-    → k ≤ count + 2 * i → KeepsCentres p old count nodes k → Outs p old before count outs nodes ports k
-outs_done before count outs k i nodes ports w a b few is least most centred =
-    record {
-      done = record {
-        store = is;
-        good = record { long = w.long; few = few; wires = λ j l. w.done j (omega arith) };
-        kept = λ j never. w.others j (λ m l. never m (omega arith));
-      };
-      least = least;
-      most = omega arith;
-      centred = centred;
-    }
+  pub way_next : (after : List ℕ) (l : Linked) → Finishes p nodes k 2 after l → (x : O.Output) → x.wire ≡ l.signal → (items : List O.Output) → items ≡ so_far ++ (x ∷ []) → Way p old before n wires (i + 1) after l.count items
+  way_next after l f x e items q = rw q (way_more after l f x e)

@@ -1,33 +1,37 @@
 // The outputs of a circuit in turn: the wire that each is, bootstrapped where it must be. It leans on `gates` and `bootstrap`.
 #![tactic(auto)]
 
-ghost use Rattle.std.specs.Prelude.{◌≡◌, true, List, [], ◌∷◌, ℕ, ◌+◌, ◌*◌, ◌≤◌, ◌<◌, pos, negsuc};
+ghost use Rattle.std.specs.Prelude.{◌≡◌, true, [], ◌∷◌, ℕ, map, ◌+◌, ◌*◌, ◌≤◌, ◌<◌, length, pos, negsuc};
 ghost use Rattle.rules.specs.CircuitText.{in_limits};
-ghost use Rattle.rules.specs.Mapper.{cone_at, wire_of, output_signal, map_outputs};
+ghost use Rattle.rules.specs.Mapper.{wire_of, output_signal, map_outputs};
 ghost use Rattle.rules.specs.Network.{Linear};
+ghost use Rattle.forms.specs.Forms.{output_of};
 ghost use Rattle.cone.specs.View.{cone_of};
 ghost use Rattle.nodes.specs.View.{term, store_of, IsStore};
 ghost use Rattle.cone.specs.Sources.{Stands};
 ghost use Rattle.gates.specs.View.{cones_in};
 ghost use Rattle.gates.specs.Wired.{Wired};
-ghost use Rattle.circuit.specs.View.{port_wire, outputs_in};
-ghost use Rattle.outputs.specs.Outputs.{Negated, signal_of, signal_read, Finishes, slot_of, port_of, PortIn, GoodPorts, outputs_read, started, Outs};
+ghost use Rattle.outputs.specs.Outputs.{Negated, signal_of, signal_read, Finishes, AllIn};
+ghost use Rattle.outputs.specs.OutputsWalk.{started, mapped_read, Outs};
 
+use arrayvec::ArrayVec;
 use bootstrap::boot::bootstrap_cone;
+use circuit::Circuit;
 use cone::Cone;
 use cone::unary::first_truth;
-use cone_wires::cone_at;
-use lut::{Linked, Signal};
+use forms::Output;
+use gates::wire_cone;
+use lut::Linked;
 use nodes::record::Terms;
-use rules::Settings;
+use rules::{Settings, Wire};
 
 // The sum of one term that is 1 less the node.
 fn negated(node: usize) -> Terms
     ensures { Negated node result }
 {
-    let mut coefs = [0i64; 11];
+    let mut coefs = [0; 11];
     coefs[0] = -1;
-    let mut sources = [0usize; 11];
+    let mut sources = [0; 11];
     sources[0] = node;
     Terms {
         n: 1,
@@ -53,18 +57,17 @@ fn wire_of(nodes: &mut [u8; 27552], count: usize, c: Cone, many: bool) -> Linked
     ensures finishes { (p : ℕ) → Finishes p nodes.old count 1 nodes.new result }
 {
     let first = first_truth(c);
-    let support = c.support;
     if c.n == 0 {
         return Linked {
             count,
-            signal: Signal::Const(first),
+            signal: Wire::Const(first),
         };
     }
-    let node = support[0];
+    let node = c.support[0];
     if first == 0 {
         return Linked {
             count,
-            signal: Signal::Node(node),
+            signal: Wire::Node(node),
         };
     }
     negation(nodes, count, node, many)
@@ -80,75 +83,43 @@ fn output_signal(s: Settings, nodes: &mut [u8; 27552], count: usize, c: Cone) ->
         return wire_of(nodes, count, c, s.many);
     }
     let b = bootstrap_cone(s, nodes, count, c);
-    let d = b.cone;
-    let support = d.support;
-    let node = support[0];
     Linked {
         count: b.count,
-        signal: Signal::Node(node),
+        signal: Wire::Node(b.cone.support[0]),
     }
 }
 
-// The slot of an output's wire.
-fn slot_of(wire: usize) -> usize
-    requires { wire ≤ 1001 }
-    ensures { result ≡ slot_of wire }
-{
-    if wire < 1000 {
-        return wire;
-    }
-    wire - 872
+// How many nodes there are, and the outputs, whose wires are nodes of the network or constants.
+#[derive(Drop)]
+pub struct Mapped<'a> {
+    pub count: usize,
+    pub outputs: ArrayVec<Output<'a>, 32>,
 }
 
-// One output.
-fn map_output(
+// The outputs in turn. Asks that their wires are nodes of the circuit or constants.
+pub fn map_outputs<'a>(
     s: Settings,
     nodes: &mut [u8; 27552],
     count: usize,
     wires: &[u8; 8580],
-    n: usize,
-    wire: usize,
-) -> Linked
-    requires { (in_limits s ≡ true) × ((count + 2 ≤ 672) × ((n ≤ 128) × (Wired nodes.old count wires.now n × PortIn n wire))) }
-    ensures is { signal_read nodes.new result ≡ output_signal s (store_of nodes.old count) (cone_at (cones_in wires.now n) (port_wire wire)) }
-    ensures finishes { Finishes s.p nodes.old count 2 nodes.new result }
+    c: &Circuit<'a>,
+) -> Mapped<'a>
+    requires limits { in_limits s ≡ true }
+    requires room { (count + 2 * length c.now.outputs.items ≤ 672) × (length c.now.outputs.items ≤ 32) }
+    requires wired { (length c.now.inputs.items + length c.now.gates.items ≤ 128) × Wired nodes.old count wires.now (length c.now.inputs.items + length c.now.gates.items) }
+    requires wires { AllIn (length c.now.inputs.items + length c.now.gates.items) (map output_of c.now.outputs.items) }
+    ensures is { mapped_read nodes.new result.count result.outputs.items ≡ map_outputs s (cones_in wires.now (length c.now.inputs.items + length c.now.gates.items)) (started (store_of nodes.old count)) (map output_of c.now.outputs.items) }
+    ensures outs { Outs s.p nodes.old count (length c.now.outputs.items) nodes.new result.count result.outputs.items }
 {
-    let c = cone_at(wires, slot_of(wire));
-    output_signal(s, nodes, count, c)
-}
-
-// A signal as the ports have it.
-fn port_of(signal: Signal) -> usize
-    ensures { result ≡ port_of signal }
-{
-    match signal {
-        Signal::Const(bit) => 1000 + (bit as usize),
-        Signal::Node(node) => node,
+    let mut count = count;
+    let mut outputs = ArrayVec::new();
+    for output in c.outputs.iter() {
+        let mapped = output_signal(s, nodes, count, wire_cone(wires, output.wire));
+        outputs.push(Output {
+            name: output.name,
+            wire: mapped.signal,
+        });
+        count = mapped.count;
     }
-}
-
-// The outputs in turn, and how many nodes there are then. Asks that their wires are nodes below n or constants.
-pub fn map_outputs(
-    s: Settings,
-    nodes: &mut [u8; 27552],
-    count: usize,
-    ports: &mut [usize; 192],
-    wires: &[u8; 8580],
-    n: usize,
-    outs: usize,
-) -> usize
-    requires { (in_limits s ≡ true) × ((count + 2 * outs ≤ 672) × ((n ≤ 128) × (Wired nodes.old count wires.now n × GoodPorts ports.old n outs))) }
-    ensures is { (text : List ℕ) → outputs_read text nodes.new ports.new outs result ≡ map_outputs s (cones_in wires.now n) (started (store_of nodes.old count)) (outputs_in text ports.old outs) }
-    ensures outs { Outs s.p nodes.old ports.old count outs nodes.new ports.new result }
-{
-    let mut k = count;
-    let mut i = 0;
-    while i < outs {
-        let f = map_output(s, nodes, k, wires, n, ports[64 + 3 * i + 2]);
-        let signal = f.signal;
-        ports[64 + 3 * i + 2] = port_of(signal);
-        k = f.count;
-        i += 1;
-    }
-    k
+    Mapped { count, outputs }
 }

@@ -1,6 +1,7 @@
 -- Wanted nodes as marks in an array, and their new numbers.
-use Rattle.std.specs.Prelude.{◌≡◌, refl, Bool, true, false, not, List, ◌∷◌, ◌++◌, ℕ, suc, ◌+◌, ◌-◌, ◌≤◌, ◌<◌, eqb, length, get_or, set, drop}
-use Rattle.std.proofs.Common.{sym, ◌∙◌, ⊎_elim, not-suc-le-zero, add-one, arith, eq-eqb, ne_eqb, length-set, drop_of_length-le, drop-cons, get_or-set_same, get_or-set_other}
+use Rattle.std.specs.Prelude.{◌≡◌, refl, true, false, not, List, ◌∷◌, ◌++◌, ℕ, suc, ◌+◌, ◌-◌, ◌≤◌, ◌<◌, eqb, length, get_or, set, take, drop}
+use Rattle.std.proofs.Common.{sym, ◌∙◌, ⊎_elim, not-suc-le-zero, add-one, arith, eq-eqb, ne_eqb, length-set, length-append, length-drop, length-take-le, drop_of_length-le, drop-cons, get_or-take, get_or-set_same, get_or-set_other}
+use Rattle.std.proofs.Math.ListN.{get_or-append}
 use Rattle.laws.specs.Test.{if◌then◌otherwise◌, eq-or-ne}
 use Rattle.rules.specs.Network.{member, LutNode, node_at}
 use Rattle.rules.specs.Store.{needs, wanted_below, renumbered}
@@ -89,9 +90,6 @@ pub record Reaching (nodes : List LutNode) (count i : ℕ) (before live : List �
   pub long : length live ≡ 672
   pub left : (wanted : List ℕ) → Marks wanted before → Left nodes (wanted_below count nodes wanted) i live
 
-pub reaching_start : (nodes : List LutNode) (count : ℕ) (live : List ℕ) → length live ≡ 672 → Reaching nodes count count live live
-reaching_start nodes count live l = record { long = l; left = λ wanted m. record { so_far = wanted; marked = m; leads = refl } }
-
 pub reaching_turn : (nodes : List LutNode) (count i : ℕ) (n : LutNode) (before live after : List ℕ) → Reaching nodes count i before live → 0 < i → node_at nodes (i - 1) ≡ n
     → Marking (adding_needed (i - 1) n) live after → Reaching nodes count (i - 1) before after
 unfolding adding_needed
@@ -126,36 +124,51 @@ reaching_done nodes count i before live r e =
 -- ---- laws: the new numbers
 
 -- the nodes below i have theirs, and `next` of them are kept
-pub record Numbering (kept : List ℕ) (live : List ℕ) (i next : ℕ) : Type 0 where
+pub record Numbering (kept : List ℕ) (marks : List ℕ) (i next : ℕ) : Type 0 where
   pub told : next ≡ renumbered kept i
-  pub done : (j : ℕ) → j < i → get_or live j 0 ≡ (if member j kept then renumbered kept j + 1 otherwise 0)
-  pub left : (j : ℕ) → i ≤ j → j < 672 → not (eqb (get_or live j 0) 0) ≡ member j kept
+  pub done : (j : ℕ) → j < i → get_or marks j 0 ≡ (if member j kept then renumbered kept j + 1 otherwise 0)
+  pub left : (j : ℕ) → i ≤ j → j < length marks → not (eqb (get_or marks j 0) 0) ≡ member j kept
 
-pub numbering_start : (kept live : List ℕ) → Marks kept live → Numbering kept live 0 0
+pub numbering_start : (kept live : List ℕ) (n : ℕ) → length live ≡ 672 → n ≤ 672 → Marks kept live → Numbering kept (take n live) 0 0
 unfolding renumbered
-numbering_start kept live m = record { told = refl; done = λ j h. absurd (not-suc-le-zero h); left = λ j h k. m.at j k }
-
-pub numbering_turn : (kept live : List ℕ) (i next x y : ℕ) → Numbering kept live i next → length live ≡ 672 → i < 672
-    → x ≡ (if not (eqb (get_or live i 0) 0) then next + 1 otherwise 0) → y ≡ (if not (eqb (get_or live i 0) 0) then 1 otherwise 0) + next → Numbering kept (set live i x) (i + 1) y
-unfolding renumbered
-numbering_turn kept live i next x y w l h p q =
-    let b = w.left i (omega arith) h in
-    let t = w.told in
+numbering_start kept live n l h m =
     record {
-      told = rw (add-one, q, b, t);
-      done = λ j k.
-          ⊎_elim (λ (e : j ≡ i). rw (e, get_or-set_same live i x 0 (omega arith), p, b, t)) (λ (n : j ≡ i → ⊥). rw (get_or-set_other live i j x 0 n) (w.done j (omega arith))) (eq-or-ne j i);
-      left = λ j k m. let n : j ≡ i → ⊥ = λ e. omega arith in rw (get_or-set_other live i j x 0 n) (w.left j (omega arith) m);
+      told = refl;
+      done = λ j k. absurd (not-suc-le-zero k);
+      left = λ j k b. let e : j < n = omega (arith, length-take-le n live (omega arith)) in rw (get_or-take n live j 0 e) (m.at j (omega arith));
     }
 
-pub numbers_done : (count i next : ℕ) (before live : List ℕ) → length live ≡ 672 → count ≤ i → ((kept : List ℕ) → Marks kept before → Numbering kept live i next)
-    → Numbers (λ kept. kept) count before live
-numbers_done count i next before live l h w = record { long = l; at = λ kept m j k. (w kept m).done j (omega arith) }
+module _ (kept marks : List ℕ) (i next : ℕ) (w : Numbering kept marks i next) (h : i < length marks) where
+  numbering_turn : (x y : ℕ) → x ≡ (if not (eqb (get_or marks i 0) 0) then next + 1 otherwise 0) → y ≡ (if not (eqb (get_or marks i 0) 0) then 1 otherwise 0) + next
+      → Numbering kept (set marks i x) (i + 1) y
+  unfolding renumbered
+  numbering_turn x y p q =
+      let b = w.left i (omega arith) h in
+      let t = w.told in
+      record {
+        told = rw (add-one, q, b, t);
+        done = λ j k.
+            ⊎_elim (λ (e : j ≡ i). rw (e, get_or-set_same marks i x 0 h, p, b, t)) (λ (n : j ≡ i → ⊥). rw (get_or-set_other marks i j x 0 n) (w.done j (omega arith))) (eq-or-ne j i);
+        left = λ j k m.
+            let n : j ≡ i → ⊥ = λ e. omega arith in
+            rw (get_or-set_other marks i j x 0 n) (w.left j (omega arith) (simp length-set at m));
+      }
+
+  pub numbering_kept : (get_or marks i 0 ≡ 0 → ⊥) → Numbering kept (set marks i (next + 1)) (i + 1) (next + 1)
+  numbering_kept n = let e = ne_eqb (get_or marks i 0) 0 n in numbering_turn (next + 1) (next + 1) (rw e refl) (rw e (omega arith))
+
+  pub numbering_passed : get_or marks i 0 ≡ 0 → Numbering kept (set marks i (get_or marks i 0)) (i + 1) next
+  numbering_passed z = let e = eq-eqb (get_or marks i 0) 0 z in numbering_turn (get_or marks i 0) next (rw e z) (rw e (omega arith))
+
+pub numbers_done : (count : ℕ) (before marks : List ℕ) → length before ≡ 672 → count ≤ 672 → length marks ≡ length (take count before) → (i next : ℕ) → length (take count before) ≤ i
+    → ((kept : List ℕ) → Marks kept before → Numbering kept marks i next) → Numbers (λ kept. kept) count before (marks ++ drop count before)
+numbers_done count before marks l h e i next k w =
+    let n = length-take-le count before (omega arith) in
+    record {
+      long = length-append marks (drop count before) ∙ omega (arith, length-drop count before);
+      at = λ kept m j b. get_or-append marks (drop count before) 0 j (omega arith) ∙ (w kept m).done j (omega arith);
+    }
 
 pub numbers_after : (keeping : List ℕ → List ℕ) (count : ℕ) (before between after : List ℕ) → Marking keeping before between → Numbers (λ kept. kept) count between after
     → Numbers keeping count before after
 numbers_after keeping count before between after m w = record { long = w.long; at = λ wanted q. w.at (keeping wanted) (m.marks wanted q) }
-
-pub counted_one : (b : Bool) (y next : ℕ) → y ≡ (if b then 1 otherwise 0) + next → y ≤ next + 1
-counted_one true y next e = omega arith
-counted_one false y next e = omega arith

@@ -1,17 +1,15 @@
 -- One put behind others, by its place among them.
-use Rattle.std.specs.Prelude.{◌≡◌, Bool, ◌&&◌, ◌⊎◌, set, take}
+use Rattle.std.specs.Prelude.{◌≡◌, Bool, ◌&&◌, ◌⊎◌, take}
 use Rattle.std.proofs.Math.Path.{refl, sym, ap, subst}
-use Rattle.std.proofs.Common.{◌∙◌, true≢false, not-suc-le-zero, le_of_suc-le-suc, length-set, take_at, drop-cons, get_or-drop, get_or-set_other}
+use Rattle.std.proofs.Common.{◌∙◌, true≢false, not-suc-le-zero, le_of_suc-le-suc, drop-cons}
 use Rattle.std.proofs.Math.Bool.{true, false, not}
 use mathlib.Core.List.{List, [], ◌∷◌, ◌++◌}
 use Rattle.std.proofs.Math.Logic.{⊎_elim, inl, inr}
-use Prim.Native.Nat.{ℕ, zero, suc, ◌+◌, ◌-◌, ◌<◌, ◌≤◌}
+use Prim.Native.Nat.{ℕ, zero, suc, ◌+◌, ◌<◌, ◌≤◌}
 use Rattle.std.proofs.Math.Numerals.{add-one}
 use native.Mathlib.Omega.{arith}
-use Rattle.std.proofs.Math.ListN.{length, get_or, drop, length-append, length-drop}
-use Rattle.std.proofs.Math.Seq.{take-length, drop-length, take-take, length-take-le, get_or-take, get_or-append-add}
-use Rattle.std.proofs.lemmas.List.{get_or_at}
-use Rattle.laws.specs.Front.{taken_step, taken-all}
+use Rattle.std.proofs.Math.ListN.{length, get_or, drop}
+use Rattle.std.proofs.Math.Seq.{take-length, drop-length}
 use Rattle.laws.specs.Select.{any}
 use Rattle.laws.specs.Test.{if◌then◌otherwise◌, if_both, or_by_right, neither, neither_left, neither_right}
 use Rattle.rules.specs.Network.{member}
@@ -115,68 +113,3 @@ module _ (f : ℕ → Bool) (x : ℕ) where
       (λ m. ⊎_elim (λ (e : j ≡ y). inr (rw e (member_head y l))) (λ (k : member j (x ∷ l) ≡ true). ⊎_elim (λ (e : j ≡ x). inl e) (λ (q : member j l ≡ true). inr (member-tail j y l q)) (member_cons j x l k)) (member_cons j y (x ∷ l) m))
       (λ m. ⊎_elim (λ (e : j ≡ y). inr (rw e (member_head y l))) (λ (k : member j (behind f x l) ≡ true). ⊎_elim (λ (e : j ≡ x). inl e) (λ (q : member j l ≡ true). inr (member-tail j y l q)) (behind_from j l k)) (member_cons j y (behind f x l) m))
       h
-
--- ---- A number put at its place among the first k, the later ones one further on.
-
--- what is there then
-unfoldable pub inserted : ℕ → ℕ → List ℕ → List ℕ
-inserted place k l = take place (take k l) ++ (k ∷ drop place (take k l))
-
-pub record Inserted (place k : ℕ) (before after : List ℕ) : Type 0 where
-  pub long : length after ≡ length before
-  pub front : take (k + 1) after ≡ inserted place k before
-
--- a loop from the place on, which carries the number that stands at j then
-pub record Inserting (place k : ℕ) (l now : List ℕ) (j carried : ℕ) : Type 0 where
-  pub low : place ≤ j
-  pub most : j ≤ k + 1
-  pub long : length now ≡ length l
-  pub done : take j now ≡ take j (inserted place k l)
-  pub rest : (i : ℕ) → j ≤ i → get_or now i 0 ≡ get_or l i 0
-  pub next : j ≤ k → carried ≡ get_or (inserted place k l) j 0
-
-module _ (place k : ℕ) (l : List ℕ) (p : place ≤ k) (h : k < length l) where
-  front_length : length (take place (take k l)) ≡ place
-  front_length = length-take-le place (take k l) (rw (length-take-le k l (omega arith)) p)
-
-  inserted-length : length (inserted place k l) ≡ k + 1
-  unfolding inserted
-  inserted-length =
-      omega (arith, length-take-le k l (omega arith), front_length, length-append (take place (take k l)) (k ∷ drop place (take k l)), length-drop place (take k l))
-
-  -- each later one is the one before it of those that were there
-  inserted_later : (j : ℕ) → place ≤ j → j < k → get_or (inserted place k l) (j + 1) 0 ≡ get_or l j 0
-  unfolding inserted
-  inserted_later j q r =
-      let e : j + 1 ≡ length (take place (take k l)) + suc (j - place) = omega (arith, front_length) in
-      let g : place + (j - place) ≡ j = omega arith in
-      rw (e, get_or-append-add (take place (take k l)) (k ∷ drop place (take k l)) (suc (j - place)) 0)
-      (get_or-drop place (take k l) (j - place) 0 ∙ ap (λ i. get_or (take k l) i 0) g ∙ get_or-take k l j 0 r)
-
-  pub insert_start : Inserting place k l l place k
-  unfolding inserted
-  insert_start =
-      record {
-        low = omega arith;
-        most = omega arith;
-        long = refl;
-        done = sym (take_at (take place (take k l)) (k ∷ drop place (take k l)) place front_length ∙ take-take place k l p);
-        rest = λ i q. refl;
-        next = λ q. sym (get_or_at (take place (take k l)) k (drop place (take k l)) 0 place front_length);
-      }
-
-  pub insert-step : (now : List ℕ) (j carried : ℕ) → Inserting place k l now j carried → j ≤ k → Inserting place k l (set now j carried) (j + 1) (get_or now j 0)
-  insert-step now j carried i q =
-      record {
-        low = omega (arith, i.low);
-        most = omega arith;
-        long = simp length-set i.long;
-        done = taken_step (inserted place k l) now j carried 0 i.done (i.next q) (omega (arith, inserted-length)) (omega (arith, i.long));
-        rest = λ a b. get_or-set_other now j a carried 0 (λ e. omega arith) ∙ i.rest a (omega arith);
-        next = λ b. i.rest j (omega arith) ∙ sym (inserted_later j i.low (omega arith));
-      }
-
-  pub insert_done : (now : List ℕ) (j carried : ℕ) → Inserting place k l now j carried → k < j → Inserted place k l now
-  insert_done now j carried i q =
-      let e : j ≡ k + 1 = omega (arith, i.most) in
-      record { long = i.long; front = taken-all (inserted place k l) now (k + 1) (rw e at i.done) (sym inserted-length) }

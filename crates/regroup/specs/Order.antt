@@ -5,15 +5,18 @@ use Rattle.std.proofs.Common.{ap₂, subst, ◌∙◌, true≢false, not-suc-le-
 use Rattle.std.proofs.Math.Logic.{⊎_elim}
 use Prim.Native.Nat.{ℕ, zero, suc, ◌+◌, ◌-◌, ◌<◌, ◌≤◌}
 use native.Mathlib.Omega.{arith}
+use Rattle.std.specs.List.{insert}
 use Rattle.laws.specs.Select.{any}
+use Rattle.std.specs.List.{insert}
 use Rattle.laws.specs.Test.{lt_or_le, eqb_swap}
 use Rattle.rules.specs.Network.{LutNode, Input, Linear, Bootstrap, node_at, member}
 use Rattle.rules.specs.Store.{needs}
 use Rattle.rules.specs.Regroup.{same_group, behind, order_up_to}
 use Rattle.theorems.specs.Members.{member-at}
+use Rattle.nodes.specs.declared.node.Kind.TheVariants as Kinds
 use Rattle.nodes.specs.Nodes.{kind_of}
 use Rattle.nodes.specs.View.{node_of, store_of, at_store}
-use Rattle.regroup.specs.Behind.{Behind, at-end, at_place, none_yet, none_here, any_none, behind_same, behind-length, behind_has, behind_keeps, behind_from, Inserted, inserted}
+use Rattle.regroup.specs.Behind.{Behind, at-end, at_place, none_yet, none_here, any_none, behind_same, behind-length, behind_has, behind_keeps, behind_from}
 
 -- Node j is a table on node `source`.
 unfoldable pub table_on : List ℕ → ℕ → ℕ → Bool
@@ -39,47 +42,47 @@ pub record Arranged (bytes : List ℕ) (k : ℕ) (order : List ℕ) : Type 0 whe
 
 -- ---- laws: tables of one node
 
-pub no_table : (n : LutNode) (source : ℕ) {k : ℕ} → k ≡ kind_of n → (k ≡ 2 → ⊥) → false ≡ same_group (Bootstrap source []) n
+pub no_table : (n : LutNode) (source : ℕ) → (kind_of n ≡ Kinds.Bootstrap → ⊥) → false ≡ same_group (Bootstrap source []) n
 unfolding kind_of same_group
-no_table (Input g) source e h = refl
-no_table (Linear c ts) source e h = refl
-no_table (Bootstrap i t) source e h = absurd (h e)
+no_table (Input g) source h = refl
+no_table (Linear c ts) source h = refl
+no_table (Bootstrap i t) source h = absurd (h refl)
 
-pub a_table : (n : LutNode) (source : ℕ) {k found : ℕ} → k ≡ kind_of n → k ≡ 2 → found ≡ get_or (needs n) 0 0 → eqb found source ≡ same_group (Bootstrap source []) n
+pub a_table : (n : LutNode) (source : ℕ) {found : ℕ} → kind_of n ≡ Kinds.Bootstrap → found ≡ get_or (needs n) 0 0 → eqb found source ≡ same_group (Bootstrap source []) n
 unfolding kind_of same_group needs
-a_table (Input g) source e h f = absurd (omega arith)
-a_table (Linear c ts) source e h f = absurd (omega arith)
-a_table (Bootstrap i t) source e h f = rw f (eqb_swap i source)
+a_table (Input g) source h f = cc
+a_table (Linear c ts) source h f = cc
+a_table (Bootstrap i t) source h f = rw f (eqb_swap i source)
 
-alone : (n y : LutNode) {k : ℕ} → k ≡ kind_of n → (k ≡ 2 → ⊥) → same_group n y ≡ false
+alone : (n y : LutNode) → (kind_of n ≡ Kinds.Bootstrap → ⊥) → same_group n y ≡ false
 unfolding kind_of same_group
-alone (Input g) y e h = refl
-alone (Linear c ts) y e h = refl
-alone (Bootstrap i t) y e h = absurd (h e)
+alone (Input g) y h = refl
+alone (Linear c ts) y h = refl
+alone (Bootstrap i t) y h = absurd (h refl)
 
-same_group_lem : (n y : LutNode) {k source : ℕ} → k ≡ kind_of n → k ≡ 2 → source ≡ get_or (needs n) 0 0 → same_group (Bootstrap source []) y ≡ same_group n y
+same_group_lem : (n y : LutNode) {source : ℕ} → kind_of n ≡ Kinds.Bootstrap → source ≡ get_or (needs n) 0 0 → same_group (Bootstrap source []) y ≡ same_group n y
 unfolding kind_of same_group needs
-same_group_lem (Input g) y e h f = absurd (omega arith)
-same_group_lem (Linear c ts) y e h f = absurd (omega arith)
-same_group_lem (Bootstrap i t) (Input g) e h f = refl
-same_group_lem (Bootstrap i t) (Linear c ts) e h f = refl
-same_group_lem (Bootstrap i t) (Bootstrap j u) e h f = ap (λ s. eqb s j) f
+same_group_lem (Input g) y h f = cc
+same_group_lem (Linear c ts) y h f = cc
+same_group_lem (Bootstrap i t) (Input g) h f = refl
+same_group_lem (Bootstrap i t) (Linear c ts) h f = refl
+same_group_lem (Bootstrap i t) (Bootstrap j u) h f = ap (λ s. eqb s j) f
 
 -- ---- laws: the place of node k
 
-module _ (bytes : List ℕ) (k : ℕ) (l : List ℕ) {kind : ℕ} (e : kind ≡ kind_of (node_of bytes k)) where
+module _ (bytes : List ℕ) (k : ℕ) (l : List ℕ) where
   -- at the end, if it is no table
-  pub place_last : (kind ≡ 2 → ⊥) → length l ≡ k → Behind (shares bytes k) l k
+  pub place_last : (kind_of (node_of bytes k) ≡ Kinds.Bootstrap → ⊥) → length l ≡ k → Behind (shares bytes k) l k
   unfolding shares
-  place_last h q = at-end (shares bytes k) l k q (any_none (shares bytes k) l (λ j. alone (node_of bytes k) (node_of bytes j) e h))
+  place_last h q = at-end (shares bytes k) l k q (any_none (shares bytes k) l (λ j. alone (node_of bytes k) (node_of bytes j) h))
 
   -- behind the tables on its source
-  pub place_shared : {source r : ℕ} → kind ≡ 2 → source ≡ get_or (needs (node_of bytes k)) 0 0 → Behind (table_on bytes source) l r → Behind (shares bytes k) l r
+  pub place_shared : {source r : ℕ} → kind_of (node_of bytes k) ≡ Kinds.Bootstrap → source ≡ get_or (needs (node_of bytes k)) 0 0 → Behind (table_on bytes source) l r → Behind (shares bytes k) l r
   unfolding shares table_on
   place_shared {source} h f b =
       record {
         within = b.within;
-        is = λ x. behind_same (shares bytes k) (table_on bytes source) x l (λ j m. sym (same_group_lem (node_of bytes k) (node_of bytes j) e h f)) ∙ b.is x;
+        is = λ x. behind_same (shares bytes k) (table_on bytes source) x l (λ j m. sym (same_group_lem (node_of bytes k) (node_of bytes j) h f)) ∙ b.is x;
       }
 
 -- ---- laws: the order
@@ -125,12 +128,12 @@ module _ {bytes order : List ℕ} {k : ℕ} (a : Arranged bytes k order) where
             (member-at (order_in bytes k) i (rw (order-length bytes k) h)));
       }
 
-  pub arranged_step : {r : ℕ} {after : List ℕ} → Behind (shares bytes k) (take k order) r → Inserted r k order after → Arranged bytes (k + 1) after
-  unfolding inserted order_in
-  arranged_step b i =
+  pub arranged_step : {r : ℕ} {after : List ℕ} → Behind (shares bytes k) (take k order) r → length after ≡ 672 → take (k + 1) after ≡ insert (take k order) r k → Arranged bytes (k + 1) after
+  unfolding order_in
+  arranged_step b l i =
       record {
-        long = i.long ∙ a.long;
-        is = i.front ∙ sym (b.is k) ∙ ap (behind (shares bytes k) k) a.is ∙ ap (order_in bytes) (sym (add-one k));
+        long = l;
+        is = i ∙ sym (b.is k) ∙ ap (behind (shares bytes k) k) a.is ∙ ap (order_in bytes) (sym (add-one k));
       }
 
 pub arranged_none : (bytes order : List ℕ) → length order ≡ 672 → Arranged bytes 0 order

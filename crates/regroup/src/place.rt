@@ -1,28 +1,22 @@
 // Where a node stands among those before it: behind the tables of its node, or at the end.
-ghost use Rattle.std.specs.Prelude.{◌≡◌, [], ◌<◌, length, take};
+ghost use Rattle.std.specs.Prelude.{◌≡◌, [], length, take};
 ghost use Rattle.rules.specs.Network.{Bootstrap};
 ghost use Rattle.rules.specs.Regroup.{same_group};
 ghost use Rattle.nodes.specs.View.{node_of, IsNode, IsStore};
 ghost use Rattle.regroup.specs.Behind.{Behind};
 ghost use Rattle.regroup.specs.Order.{table_on, shares, Below};
 
-use nodes::node::{kind_of, source_of};
-
-pub fn wide(x: u16) -> usize
-    ensures { result ≡ x }
-{
-    x as usize
-}
+use nodes::node::{Kind, kind_of, source_of};
 
 // Whether node j is a table on node `source`.
 fn is_table_on(nodes: &[u8; 27552], source: usize, j: usize) -> bool
     requires { IsNode nodes.now j }
     ensures { result ≡ table_on nodes.now source j }
 {
-    if kind_of(nodes, j) != nodes::node::BOOTSTRAP {
-        return false;
+    match kind_of(nodes, j) {
+        Kind::Bootstrap => source_of(nodes, j, 0) == source,
+        _ => false,
     }
-    source_of(nodes, j, 0) == source
 }
 
 // Behind the last of the first n that is a table on node `source`; n where there is none.
@@ -30,10 +24,8 @@ fn behind_tables(nodes: &[u8; 27552], order: &[u16; 672], n: usize, source: usiz
     requires { IsStore nodes.now n × Below order.now n }
     ensures { Behind (table_on nodes.now source) (take n order.now) result }
 {
-    let mut i = n;
-    while 0 < i {
-        i -= 1;
-        if is_table_on(nodes, source, wide(order[i])) {
+    for i in (0..n).rev() {
+        if is_table_on(nodes, source, order[i] as usize) {
             return i + 1;
         }
     }
@@ -45,8 +37,8 @@ pub fn place(nodes: &[u8; 27552], order: &[u16; 672], k: usize) -> usize
     requires { IsNode nodes.now k × (IsStore nodes.now k × Below order.now k) }
     ensures { Behind (shares nodes.now k) (take k order.now) result }
 {
-    if kind_of(nodes, k) != nodes::node::BOOTSTRAP {
-        return k;
+    match kind_of(nodes, k) {
+        Kind::Bootstrap => behind_tables(nodes, order, k, source_of(nodes, k, 0)),
+        _ => k,
     }
-    behind_tables(nodes, order, k, source_of(nodes, k, 0))
 }

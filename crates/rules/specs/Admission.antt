@@ -1,12 +1,12 @@
 -- Admission: a network's text in either edition judged, and its statistics (document 01, "Refused with"; document 02, S-11).
-use Rattle.std.specs.Prelude.{List, ℕ}
+use Rattle.std.specs.Prelude.{List, ℕ, Result, Ok, Err}
 use Rattle.std.proofs.Math.Option.{Option, none, some}
-use Rattle.rules.specs.declared.AdmitReply.{AdmitReply}
-use Rattle.rules.specs.declared.AdmitReply.TheVariants as Reply
+use Rattle.rules.specs.declared.Refusal.{Refusal}
 use Rattle.rules.specs.declared.Stats.{Stats}
 use Rattle.rules.specs.Edition2.{read_either}
 use Rattle.rules.specs.Form.{Reading, Good, Refused}
 use Rattle.rules.specs.Network.{Network, stats}
+use Rattle.rules.specs.Refusal.{reason_number}
 
 -- What admission answers. Accepted: number 0 and the statistics. Refused: a number and a line.
 pub record Admission : Type 0 where
@@ -28,6 +28,6 @@ unfoldable pub admission : List ℕ → Admission
 admission text = admission_of (read_either text)
 
 -- Document 01's number and values for each reply.
-abbrev pub admit_reply : AdmitReply → Admission
-admit_reply (Reply.Admitted s) = admitted s
-admit_reply (Reply.Refused k i) = rejected k i
+abbrev pub admit_reply : Result Stats Refusal → Admission
+admit_reply (Ok s) = admitted s
+admit_reply (Err r) = rejected (reason_number r.reason) r.line

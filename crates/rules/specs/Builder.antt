@@ -1,5 +1,5 @@
 -- The table builder (document 01, "The builder"; composed_bootstrap_table in the Rust).
-use Rattle.std.specs.Prelude.{Bool, not, ◌&&◌, ◌||◌, List, [], ◌∷◌, map, ℕ, ◌+◌, ◌*◌, ◌-◌, ◌≤◌, leb, ltb, eqb, ℤ, nat_abs, ◌-ℤ◌, length, get_or, set, replicate}
+use Rattle.std.specs.Prelude.{Bool, not, ◌&&◌, ◌||◌, List, [], ◌∷◌, map, ℕ, ◌+◌, ◌*◌, ◌-◌, ◌≤◌, leb, ltb, eqb, ℤ, nat_abs, ◌-ℤ◌, length, get_or, set, replicate, Result, Ok, Err}
 use Rattle.std.proofs.Math.Option
 use Rattle.std.proofs.Math.Option.{Option, none, some}
 use Rattle.laws.specs.Over.{over}
@@ -10,8 +10,9 @@ use Rattle.rules.specs.Rotation.{rotatable, centre_of}
 use Rattle.rules.specs.Span.{least, span}
 use Rattle.rules.specs.declared.Entry.{Entry}
 use Rattle.rules.specs.declared.Entry.TheVariants.{Zero, One, Unknown}
-use Rattle.rules.specs.declared.BuilderReply.{BuilderReply}
-use Rattle.rules.specs.declared.BuilderReply.TheVariants.{Written, BadSettings, BadLengths, SpanOverM, Conflict, NoCompletion, ShortBuffer}
+use Rattle.rules.specs.declared.Reason.{Reason}
+use Rattle.rules.specs.declared.Table.{Table}
+use Rattle.rules.specs.Refusal.{reason_number}
 
 -- ---- Known entries: each 0, 1, or 2 for unknown, as `known` in the Rust.
 
@@ -154,11 +155,6 @@ builder P M values truths buffer =
     otherwise rest
 
 -- Document 01's number and values for each reply.
-abbrev pub builder_reply : BuilderReply → TableAnswer
-builder_reply (Written n c) = with_table n c
-builder_reply BadSettings = no_table 2
-builder_reply BadLengths = no_table 30
-builder_reply SpanOverM = no_table 31
-builder_reply Conflict = no_table 32
-builder_reply NoCompletion = no_table 33
-builder_reply ShortBuffer = no_table 34
+abbrev pub builder_reply : Result Table Reason → TableAnswer
+builder_reply (Ok t) = with_table t.count t.centre
+builder_reply (Err r) = no_table (reason_number r)

@@ -1,4 +1,5 @@
 -- The rules of document 01 as definitions, a file for each part of it, and those that document 02 adds.
+pub mod Refusal
 pub mod Outcome
 pub mod Rotation
 pub mod Span

@@ -1,14 +1,14 @@
 -- The mapper (document 01, "src/mapper.rs"; `Mapper::map` in the Rust): from a circuit to a network.
 use Rattle.std.specs.Prelude.{Bool, true, false, ◌&&◌, ◌||◌, not, List, [], ◌∷◌, ◌++◌, map, ℕ, ◌+◌, ◌*◌, ltb, eqb, pos, negsuc, length, get_or, set, drop, take}
+use Rattle.std.specs.Prelude as P
 use Rattle.std.proofs.Math.Option.{Option, none, some}
 use Rattle.laws.specs.Over.{over}
 use Rattle.laws.specs.Select.{any}
 use Rattle.laws.specs.Tabulate.{tabulate}
 use Rattle.laws.specs.Test.{if◌then◌otherwise◌}
-use Rattle.rules.specs.declared.MapReply.{MapReply}
-use Rattle.rules.specs.declared.MapReply.TheVariants as Reply
 use Rattle.rules.specs.declared.Policy.{Policy}
 use Rattle.rules.specs.declared.Policy.TheVariants.{Basic, Naive, Span}
+use Rattle.rules.specs.declared.Refusal.{Refusal}
 use Rattle.rules.specs.declared.Settings.{Settings}
 use Rattle.rules.specs.declared.Wire.{Wire}
 use Rattle.rules.specs.declared.Wire.TheVariants.{Const, Node}
@@ -18,6 +18,7 @@ use Rattle.rules.specs.Composition.{union_support, all_equal, compose}
 use Rattle.rules.specs.Cone.{Cone, constant, identity, Result, ok, err, ◌>>=◌, within_norm, validate_cone, less, cone_order_key}
 use Rattle.rules.specs.Form.{Reading, Good, Refused}
 use Rattle.rules.specs.Network.{LutNode, Input, Linear, Network, node_norm, largest}
+use Rattle.rules.specs.Refusal.{reason_number}
 use Rattle.rules.specs.Outcome.{Answer, written, refused, Outcome, outcome}
 use Rattle.rules.specs.Store.{number_of, intern, Stored, bootstrap_cone, live, kept_from, renumbered_output}
 use Rattle.rules.specs.Writing.{network_text}
@@ -216,8 +217,8 @@ unfoldable pub wire_of : List LutNode → List ℕ → List ℕ → Signal
 wire_of nodes [] truth = record { nodes = nodes; wire = Const (get_or truth 0 0) }
 wire_of nodes (n ∷ ns) truth =
     let negation = Linear (pos 1) (record { coef = negsuc 0; node = n } ∷ []) in
-    let withNegation = intern negation nodes in
-    let r : Signal = record { nodes = withNegation; wire = Node (number_of negation withNegation) } in
+    let with_negation = intern negation nodes in
+    let r : Signal = record { nodes = with_negation; wire = Node (number_of negation with_negation) } in
     if eqb (get_or truth 0 0) 0 then record { nodes = nodes; wire = Node n } otherwise r
 
 -- output_signal
@@ -283,6 +284,6 @@ unfoldable pub mapper : List ℕ → List ℕ → Outcome
 mapper text buffer = answer_with buffer (and_then (read_circuit text) map_circuit)
 
 -- Document 01's number and values for each reply.
-unfoldable pub map_reply : MapReply → Answer
-map_reply (Reply.Written n) = written n
-map_reply (Reply.Refused k line) = refused k line
+abbrev pub map_reply : P.Result ℕ Refusal → Answer
+map_reply (P.Ok n) = written n
+map_reply (P.Err r) = refused (reason_number r.reason) r.line

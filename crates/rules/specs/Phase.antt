@@ -1,10 +1,10 @@
 -- Phases on the 32-bit circle (document 02, S-5 and S-8): where a value with an error stands, and the slot that is nearest.
-use Rattle.std.specs.Prelude.{Bool, not, ◌&&◌, ◌||◌, ℕ, ◌+◌, ◌*◌, ◌/◌, ◌%◌, ◌^◌, eqb, ltb, ℤ, pos, nat_abs, ◌+ℤ◌}
+use Rattle.std.specs.Prelude.{Bool, not, ◌&&◌, ◌||◌, ℕ, ◌+◌, ◌*◌, ◌/◌, ◌%◌, ◌^◌, eqb, ltb, ℤ, pos, nat_abs, ◌+ℤ◌, Result, Ok, Err}
 use Rattle.std.specs.Int.Signed.{le_z, lt_z}
 use Rattle.laws.specs.Modulo.{modulo}
 use Rattle.laws.specs.Test.{if◌then◌otherwise◌}
-use Rattle.rules.specs.declared.SlotReply.{SlotReply}
-use Rattle.rules.specs.declared.SlotReply.TheVariants.{Found, BadPeriod, BadValue}
+use Rattle.rules.specs.declared.Reason.{Reason}
+use Rattle.rules.specs.Refusal.{reason_number}
 
 -- P is one of the four periods.
 unfoldable pub is_period : ℕ → Bool
@@ -61,7 +61,6 @@ slot_answer P v e =
     otherwise found (slot P (nat_abs v) e)
 
 -- Document 02's number and value for each reply.
-abbrev pub slot_reply : SlotReply → SlotAnswer
-slot_reply (Found k) = found k
-slot_reply BadPeriod = turned_away 36
-slot_reply BadValue = turned_away 37
+abbrev pub slot_reply : Result ℕ Reason → SlotAnswer
+slot_reply (Ok k) = found k
+slot_reply (Err r) = turned_away (reason_number r)

@@ -1,17 +1,18 @@
 -- The two runs as entries: a text, a byte for each input, and a buffer for one value an output.
 -- Tested in turn: the text, the bits, the buffer, and of a network whether it breaks off. What is no run keeps the buffer.
-use Rattle.std.specs.Prelude.{Bool, true, ◌&&◌, not, List, [], ◌∷◌, ℕ, leb, ltb, eqb, ℤ, length}
+use Rattle.std.specs.Prelude.{Bool, true, ◌&&◌, not, List, [], ◌∷◌, ℕ, leb, ltb, eqb, ℤ, length, Result, Ok, Err}
 use Rattle.std.proofs.Math.Option.{Option, none, some}
 use Rattle.laws.specs.Over.{over}
 use Rattle.laws.specs.Test.{if◌then◌otherwise◌}
-use Rattle.rules.specs.declared.RunReply.{RunReply}
-use Rattle.rules.specs.declared.RunReply.TheVariants.{Ran, Unreadable, BadBits, ShortBuffer, BrokenOff}
+use Rattle.rules.specs.declared.RunError.{RunError}
+use Rattle.rules.specs.declared.RunError.TheVariants.{Unreadable, BadBits, ShortBuffer, BrokenOff}
 use Rattle.rules.specs.Circuit.{Circuit, circuit_run}
 use Rattle.rules.specs.CircuitText.{read_circuit}
 use Rattle.rules.specs.Form.{Reading, Good, Refused}
 use Rattle.rules.specs.Network.{Network, is_input, count, network_run}
 use Rattle.rules.specs.NetworkText.{read_network}
 use Rattle.rules.specs.Outcome.{Answer, written, refused}
+use Rattle.rules.specs.Refusal.{reason_number}
 
 -- What a run answers. Document 01 numbers a text's refusal, and 0 with the count of values is the run itself; what else is no run has no number there.
 pub data RunAnswer : Type 0 where
@@ -63,9 +64,12 @@ unfoldable pub run_network : List ℕ → List ℕ → List ℤ → RunOutcome �
 run_network text bits buffer = run_network_on (read_network text) bits buffer
 
 -- Document 01's number and values for each reply, or the end that has no number.
-abbrev pub run_reply : RunReply → RunAnswer
-run_reply (Ran n) = Numbered (written n)
-run_reply (Unreadable k i) = Numbered (refused k i)
-run_reply BadBits = NotBits
-run_reply ShortBuffer = NoRoom
-run_reply BrokenOff = BreakOff
+abbrev pub run_error : RunError → RunAnswer
+run_error (Unreadable r) = Numbered (refused (reason_number r.reason) r.line)
+run_error BadBits = NotBits
+run_error ShortBuffer = NoRoom
+run_error BrokenOff = BreakOff
+
+abbrev pub run_reply : Result ℕ RunError → RunAnswer
+run_reply (Ok n) = Numbered (written n)
+run_reply (Err e) = run_error e

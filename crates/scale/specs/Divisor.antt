@@ -1,11 +1,13 @@
 -- The divisor divides every coefficient, so division by it is exact; and it is never 0.
-use Rattle.std.specs.Prelude.{◌≡◌, List, [], ◌∷◌, ℕ, zero, suc, ◌+◌, ◌≤◌, ◌<◌, ℤ, pos, nat_abs, ◌*ℤ◌, length, get_or, drop}
+use Rattle.std.specs.Prelude.{◌≡◌, refl, Bool, false, not, Option, Some, None, int_lt, List, [], ◌∷◌, ℕ, zero, suc, ◌+◌, ◌≤◌, ◌<◌, ℤ, pos, negsuc, nat_abs, ◌*ℤ◌, length, get_or, drop}
 use Rattle.std.specs.Int.{◌∣◌}
+use Rattle.std.specs.List.{find}
+use Rattle.std.specs.Ordering.{int_eq}
 use Rattle.std.proofs.Math.Nat.{eq-one_of_dvd-one}
-use Rattle.std.proofs.Common.{add-one, arith, drop_of_length-le, drop-cons}
+use Rattle.std.proofs.Common.{add-one, lt-ltb, le-ltb, arith, drop_of_length-le, drop-cons}
 use Rattle.laws.specs.Gcd.{gcd}
 use Rattle.laws.specs.Integer.{ints, plus, minus, plus_mul, minus_mul, quot_exact}
-use Rattle.rules.specs.Scale.{gcd_from, divisor, quotients, normalised}
+use Rattle.rules.specs.Scale.{gcd_from, starts_negative, divisor, quotients, normalised}
 use Rattle.theorems.specs.Normalised.{divides_start, divisor_abs, divisor_divides}
 
 -- a turn of the loop that takes the gcd, and its end
@@ -35,3 +37,18 @@ quotients_exact d (x ∷ l) h k (suc i) = quotients_exact d l h (λ j. k (suc j)
 pub normalised_exact : (cs : List ℤ) (i : ℕ) → get_or (normalised cs) i (pos 0) *ℤ divisor cs ≡ get_or cs i (pos 0)
 unfolding normalised
 normalised_exact cs = quotients_exact (divisor cs) cs (divisor_not_zero cs) (divisor_divides cs)
+
+-- the first coefficient that is not 0, and whether it is below 0
+abbrev pub is_signed : ℤ → Bool
+is_signed x = not (int_eq x (pos 0))
+
+abbrev pub is_below_zero : Option ℤ → Bool
+is_below_zero None = false
+is_below_zero (Some c) = int_lt c (pos 0)
+
+pub starts_negative_by : (cs : List ℤ) → starts_negative cs ≡ is_below_zero (find is_signed cs)
+unfolding starts_negative
+starts_negative_by [] = refl
+starts_negative_by (pos zero ∷ cs) = starts_negative_by cs
+starts_negative_by (pos (suc k) ∷ cs) = rw (le-ltb (suc k) 0 (omega arith), lt-ltb 0 (suc k) (omega arith), le-ltb (suc k) 0 (omega arith))
+starts_negative_by (negsuc k ∷ cs) = refl

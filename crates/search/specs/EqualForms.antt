@@ -1,20 +1,19 @@
 -- Two cones that have the same coefficients over their sources: all scale pairs give the same sum, or 0 at every row, so the first of them, (0, 1), is the best.
-use Rattle.std.specs.Prelude.{◌≡◌, Bool, true, false, ◌&&◌, ◌||◌, eqb, ltb, ℤ, negsuc, ◌+ℤ◌, ◌-ℤ◌, ◌*ℤ◌, length, drop}
+use Rattle.std.specs.Prelude.{◌≡◌, Bool, true, false, ◌&&◌, ◌||◌, eqb, ltb, ℤ, negsuc, ◌+ℤ◌, ◌-ℤ◌, ◌*ℤ◌, length}
 use Rattle.std.proofs.Math.Path.{refl, sym, ap}
-use Rattle.std.proofs.Common.{ap₂, subst, ◌∙◌, true≢false, arith, add-one, drop_of_length-le}
+use Rattle.std.proofs.Common.{ap₂, subst, ◌∙◌, true≢false, arith, add-one}
 use Rattle.std.proofs.lemmas.Bool.{false≢true}
 use mathlib.Core.List.{List, [], ◌∷◌, zip_with, flat_map}
 use Rattle.std.proofs.Math.Logic.{⊎_elim}
 use Rattle.std.proofs.Math.Option.{Option, none, some}
 use Prim.Native.Nat.{ℕ, zero, suc, ◌+◌, ◌*◌, ◌≤◌, ◌<◌, ◌^◌}
-use borrow.Author.Tests.{eq-eqb, ne_eqb, eqb-true, le-ltb}
+use borrow.Author.Tests.{le-ltb}
 use Rattle.std.proofs.Math.IntN.{pos, nat_abs, *ℤ_comm, *ℤ-zero, zero-*ℤ}
 use Rattle.std.proofs.Math.ListN.{get_or, length-map}
-use Rattle.std.proofs.Math.Seq.{drop-cons}
 use Rattle.std.specs.Int.Signed.{lt_z}
 use Rattle.laws.specs.Gcd.{gcd, gcd_within}
-use Rattle.laws.specs.Integer.{ints, plus, minus, sub_parts, abs_parts, one_part_zero, false_lt_z}
-use Rattle.laws.specs.Test.{if◌then◌otherwise◌, eq-or-ne, decide, both_left, both_right, positive_of}
+use Rattle.laws.specs.Integer.{ints, plus, minus, sub_parts, false_lt_z}
+use Rattle.laws.specs.Test.{if◌then◌otherwise◌, eq-or-ne, decide, positive_of}
 use Rattle.rules.specs.declared.Settings.{Settings}
 use Rattle.rules.specs.Cone.{Cone, Candidate, linear_table, values, fits, less, better, best_from, best, terms}
 use Rattle.rules.specs.Composition.{Scales, scales, all_equal, scale_pairs, merged_coefficients, score, evaluate}
@@ -34,12 +33,6 @@ use Rattle.scale_pair.specs.Score.{less_same, less_differ_number}
 use Rattle.search.specs.Search.{cone_by}
 use Rattle.search.specs.Walk.{walk_row, walk}
 use Rattle.scale_pair.specs.Factor.{normalised_same}
-
--- Whether two rows of coefficients are the same.
-unfoldable pub same_row : List ℤ → List ℤ → Bool
-same_row [] ys = true
-same_row (x ∷ xs) [] = false
-same_row (x ∷ xs) (y ∷ ys) = eqb (nat_abs (x -ℤ y)) 0 && same_row xs ys
 
 -- ---- the merged coefficients of one row with itself
 combined-times : (a b : ℤ) (l : List ℤ) → zip_with (combined a b) l l ≡ times (a +ℤ b) l
@@ -231,34 +224,3 @@ module _ (s : Settings) (nodes : List LutNode) (U : List ℕ) (left right : Cone
       ∙ ap (λ k. walk (tried_at E L) 0 (2 * L + 1) 0 k none) (add-one R)
       ∙ ap (walk (tried_at E L) 0 (2 * L + 1) 1 R) (first_row L 0 (2 * L + 1) (omega arith) (omega arith))
       ∙ walk_keeps L 0 (2 * L + 1) 1 R
-
--- ---- laws of the loop that compares two rows
-difference : (x y : ℤ) → nat_abs (x -ℤ y) ≡ 0 → x ≡ y
-difference x y e = omega (arith, ints, sub_parts x y, abs_parts (x -ℤ y))
-
-no_difference : (x y : ℤ) → x ≡ y → nat_abs (x -ℤ y) ≡ 0
-no_difference x y e = omega (arith, ints, sub_parts x y, abs_parts (x -ℤ y), one_part_zero (x -ℤ y))
-
-pub same_row_is : (l r : List ℤ) → length l ≡ length r → same_row l r ≡ true → l ≡ r
-unfolding same_row
-same_row_is [] [] e h = refl
-same_row_is [] (y ∷ r) e h = absurd (omega arith)
-same_row_is (x ∷ l) [] e h = absurd (omega arith)
-same_row_is (x ∷ l) (y ∷ r) e h =
-    ap₂ {C = List ℤ} (λ v s. v ∷ s)
-    (difference x y (eqb-true (nat_abs (x -ℤ y)) 0 (both_left (eqb (nat_abs (x -ℤ y)) 0) (same_row l r) h)))
-    (same_row_is l r (omega arith) (both_right (eqb (nat_abs (x -ℤ y)) 0) (same_row l r) h))
-
-module _ (l r : List ℤ) (i : ℕ) where
-  pub same_end : length l ≤ i → true ≡ same_row (drop i l) (drop i r)
-  unfolding same_row
-  same_end h = rw (drop_of_length-le l {i = i} h)
-
-  module _ (h : i < length l) (k : i < length r) where
-    pub same_turn : get_or l i (pos 0) ≡ get_or r i (pos 0) → same_row (drop (i + 1) l) (drop (i + 1) r) ≡ same_row (drop i l) (drop i r)
-    unfolding same_row
-    same_turn e = rw (drop-cons l i (pos 0) h, drop-cons r i (pos 0) k, eq-eqb (nat_abs (get_or l i (pos 0) -ℤ get_or r i (pos 0))) 0 (no_difference (get_or l i (pos 0)) (get_or r i (pos 0)) e), add-one)
-
-    pub same_not : (get_or l i (pos 0) ≡ get_or r i (pos 0) → ⊥) → false ≡ same_row (drop i l) (drop i r)
-    unfolding same_row
-    same_not n = rw (drop-cons l i (pos 0) h, drop-cons r i (pos 0) k, ne_eqb (nat_abs (get_or l i (pos 0) -ℤ get_or r i (pos 0))) 0 (λ e. n (difference (get_or l i (pos 0)) (get_or r i (pos 0)) e)))

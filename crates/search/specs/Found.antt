@@ -1,5 +1,6 @@
 -- What the search finds is what `find_candidate` finds.
-use Rattle.std.specs.Prelude.{◌≡◌, Bool, ◌&&◌, ℕ, suc, ◌+◌, ◌-◌, ◌≤◌, ◌<◌, leb, ℤ, nat_abs, ◌-ℤ◌, ◌*ℤ◌, length, get_or, set, take, replicate}
+use Rattle.std.specs.Prelude as P
+use Rattle.std.specs.Prelude.{Some, None, IfSome, ◌≡◌, Bool, ◌&&◌, ℕ, suc, ◌+◌, ◌-◌, ◌≤◌, ◌<◌, leb, ℤ, nat_abs, ◌-ℤ◌, ◌*ℤ◌, length, get_or, set, take, replicate}
 use Rattle.std.proofs.Math.Path.{refl, sym, ap, ap₂, subst}
 use Rattle.std.proofs.Common.{◌∙◌, true≢false, arith, leb-true, length-set, take_at}
 use Rattle.std.proofs.Math.Bool.{true, false}
@@ -16,7 +17,7 @@ use Rattle.rules.specs.Builder.{agrees, enter, known_entries, completable}
 use Rattle.rules.specs.Cone.{Cone, Candidate, linear_table, values, cone_span, norm2, energy, completed, encoding, is_lut_valid, within_norm, fits, better, best_from, best, terms}
 use Rattle.rules.specs.Composition.{Scales, scales, merged_coefficients, reuse_cost, score, evaluate}
 use Rattle.rules.specs.Network.{LutNode}
-use Rattle.rules.specs.Scale.{divisor, is_scale_pair}
+use Rattle.rules.specs.Scale.{divisor, normalised, is_scale_pair}
 use Rattle.rules.specs.Span.{least, span}
 use Rattle.rules.specs.Store.{linear_of}
 use Rattle.theorems.specs.Rows.{Within, entered_entries, unknown_entries}
@@ -33,10 +34,10 @@ use Rattle.merged_rows.specs.EnergyMoments.{by_moments}
 use Rattle.merged_rows.proofs.EnergyMoments.{energy_by_moments}
 use Rattle.merged_rows.specs.EnergyRows.{moments_of, moments_compacted}
 use Rattle.merged_rows.specs.MergedValues.{merged_value, merged-values, merged-coefficients}
-use Rattle.scale_pair.specs.Pair.{Scaling, merged_row, merged, weighed, measured, no_pair, pair_of, scaling_at}
+use Rattle.scale_pair.specs.Pair.{Scaling, merged_row, merged, measures, weighed, measured, pair_of, scaling_at}
 use Rattle.search.specs.Pairs.{tried, tried_at}
 use Rattle.merged_rows.specs.RowsCompacted.{Compacted, known_compacted}
-use Rattle.scale_pair.specs.Score.{score_list, no_score, better_score}
+use Rattle.scale_pair.specs.Score.{rank_list, score_list, better_score}
 use Rattle.search.specs.Search.{Context, context, row_values, entered_from, energy_by, cone_by, reuse_of, score_of, considered, step_of, step_at, InSpans}
 use Rattle.search.specs.Walk.{walk, walks_keep}
 use Rattle.search.specs.Candidates.{merged_cone, candidate_of, Found, one, better_candidate, found_better}
@@ -104,12 +105,12 @@ module _ (s : Settings) (nodes : List LutNode) (support : List ℕ) (left right 
   abbrev evaluated : Scales → List Candidate
   evaluated p = evaluate s nodes p (cone_by support (merged_coefficients support left right p) truth)
 
-  abbrev candidate : Score → Option Candidate
+  abbrev candidate : P.Option Score → Option Candidate
   candidate = candidate_of support left right truth
 
   -- the states of both walks: the score stands for the candidate, and its entries are those of its cone
-  abbrev Same : Score → Option Candidate → Type 0
-  Same best d = (candidate best ≡ d) × (best.found ≡ true → Found s support left right truth best)
+  abbrev Same : P.Option Score → Option Candidate → Type 0
+  Same best d = (candidate best ≡ d) × IfSome best (Found s support left right truth)
 
   module _ (a b : ℤ) (scaling : Scaling a b) where
     abbrev cs : List ℤ
@@ -119,7 +120,7 @@ module _ (s : Settings) (nodes : List LutNode) (support : List ℕ) (left right 
     all = linear_table cs
 
     abbrev c : Pair
-    c = measured s ws a b (merged_row a b L R)
+    c = measures ws a b (divisor (merged_row a b L R)) (normalised (merged_row a b L R))
 
     abbrev C : Cone
     C = cone_by support cs truth
@@ -145,7 +146,7 @@ module _ (s : Settings) (nodes : List LutNode) (support : List ℕ) (left right 
 
     module _ (h : span all ≤ 32) where
       rows_known : entered_from c xs ys ts 0 (replicate 32 2) ≡ enter (least all) all truth (replicate 32 2)
-      unfolding entered_from row_values measured weighed merged
+      unfolding entered_from row_values measures merged
       rows_known =
           known_compacted (linear_table L) (linear_table R) truth xs ys ts counts stands columns rows (merged_value a b (divisor (merged_row a b L R))) (least all) 32
           (subst (λ l. Within (least all) l 32) all_is (record { at = λ i q. omega (arith, offset_lt all i q) }))
@@ -160,7 +161,7 @@ module _ (s : Settings) (nodes : List LutNode) (support : List ℕ) (left right 
       known-first k e = enter-first (least all) all truth (span all) h inside k e
 
     energy_is : energy_by m c ≡ pos (energy all)
-    unfolding energy_by measured weighed merged merged_row
+    unfolding energy_by measures merged merged_row
     energy_is =
         ap (λ (z : Moments). quot_z (by_moments a b z.xx z.xy z.yy) (divisor (merged_row a b L R) *ℤ divisor (merged_row a b L R)))
         (moments ∙ moments_compacted (linear_table L) (linear_table R) truth xs ys ts counts stands)
@@ -174,7 +175,7 @@ module _ (s : Settings) (nodes : List LutNode) (support : List ℕ) (left right 
     norm_is = norm2_weighted nodes C
 
     one_is : (known : List ℕ) → one support left right truth (score_of known_by c known) ≡ evaluated_one
-    unfolding score score_list score_of reuse_of reuse_cost linear_of values terms cone_span cone_by measured weighed merged scales
+    unfolding score score_list rank_list score_of reuse_of reuse_cost linear_of values terms cone_span cone_by measures merged scales
     one_is known =
         ap₂ {C = Candidate}
         (λ (e : ℤ) (k : Cone). record { score = pos (reuse_cost s nodes C) ∷ pos (span all) ∷ pos (weighted_norm ws cs) ∷ e ∷ a ∷ b ∷ []; cone = k })
@@ -182,7 +183,7 @@ module _ (s : Settings) (nodes : List LutNode) (support : List ℕ) (left right 
         ∙ ap {B = Candidate} (λ n. record { score = pos (reuse_cost s nodes C) ∷ pos (span all) ∷ pos n ∷ pos (energy all) ∷ a ∷ b ∷ []; cone = C }) (sym norm_is)
 
     found_new : (known : List ℕ) → span all ≤ s.m → known_entries all truth ≡ some (take (span all) known) → Found s support left right truth (score_of known_by c known)
-    unfolding score_of measured weighed values cone_span cone_by merged
+    unfolding score_of measures values cone_span cone_by merged
     found_new known h e =
         record {
           scaling = scaling;
@@ -219,10 +220,10 @@ module _ (s : Settings) (nodes : List LutNode) (support : List ℕ) (left right 
     fits_is = ap (λ n. within_norm s n && (leb (span all) s.m && is_some (completed s.p (known_entries all truth)))) norm_is
 
     -- both steps
-    stay : (old new : Score) (d e : Option Candidate) → new ≡ old → e ≡ d → Same old d → Same new e
+    stay : (old new : P.Option Score) (d e : Option Candidate) → new ≡ old → e ≡ d → Same old d → Same new e
     stay old new d e f g h = subst (λ r. Same r e) (sym f) (subst (λ o. Same old o) (sym g) h)
 
-    module _ (best : Score) (d : Option Candidate) (same : Same best d) (is-pair : is_scale_pair a b ≡ true)
+    module _ (best : P.Option Score) (d : Option Candidate) (same : Same best d) (is-pair : is_scale_pair a b ≡ true)
         (within : (leb (span all) s.m && within_norm s (weighted_norm ws cs)) ≡ true) where
       short : span all ≤ s.m
       short = leb-true (span all) s.m (both_left (leb (span all) s.m) (within_norm s (weighted_norm ws cs)) within)
@@ -235,7 +236,7 @@ module _ (s : Settings) (nodes : List LutNode) (support : List ℕ) (left right 
 
       entered_step : (o : Option (List ℕ)) → known_entries all truth ≡ o
           → Same (considered known_by c best (entered_from c xs ys ts 0 (replicate 32 2))) (tried evaluated d (scales a b))
-      unfolding considered completed completable measured weighed merged score_of
+      unfolding considered completed completable measures merged score_of
       entered_step none e =
           stay best _ d _ (ap (considered known_by c best) (known_is few ∙ ap (map (λ k. k ++ rest (least all) all truth (span all) few inside)) e))
           (tried-no d (fits_by ∙ ap (λ o. is_some (completed s.p o)) e)) same
@@ -243,50 +244,50 @@ module _ (s : Settings) (nodes : List LutNode) (support : List ℕ) (left right 
           let long = k ++ rest (least all) all truth (span all) few inside in
           let new = score_of known_by c long in
           let first = known-first few k e in
-          let tested : considered known_by c best (entered_from c xs ys ts 0 (replicate 32 2)) ≡ (if completable s.p k then better_score best new otherwise best) =
+          let tested : considered known_by c best (entered_from c xs ys ts 0 (replicate 32 2)) ≡ (if completable s.p k then Some (better_score best new) otherwise best) =
           ap (considered known_by c best) (known_is few ∙ ap (map (λ k. k ++ rest (least all) all truth (span all) few inside)) e)
-          ∙ ap (λ l. if completable s.p l then better_score best new otherwise best) first in
+          ∙ ap (λ l. if completable s.p l then Some (better_score best new) otherwise best) first in
           ⊎_elim
           (λ (f : completable s.p k ≡ true).
           let fit = fits_by ∙ ap (λ o. is_some (completed s.p o)) e ∙ f in
-          let step = tested ∙ ap (λ t. if t then better_score best new otherwise best) f in
-          let one-step = better_candidate support left right truth best new refl ∙ ap₂ (λ o x. some (better o x)) same.0 (one_is long) ∙ sym (tried_yes d is-pair fit) in
+          let step = tested ∙ ap (λ t. if t then Some (better_score best new) otherwise best) f in
+          let one-step = better_candidate support left right truth best new ∙ ap₂ (λ o x. some (better o x)) same.0 (one_is long) ∙ sym (tried_yes d is-pair fit) in
           subst (λ r. Same r (tried evaluated d (scales a b))) (sym step) (one-step, found_better support left right truth s best new same.1 (found_new long short (e ∙ ap some (sym first)))))
           (λ (f : completable s.p k ≡ false).
-          stay best _ d _ (tested ∙ ap (λ t. if t then better_score best new otherwise best) f) (tried-no d (fits_by ∙ ap (λ o. is_some (completed s.p o)) e ∙ f)) same)
+          stay best _ d _ (tested ∙ ap (λ t. if t then Some (better_score best new) otherwise best) f) (tried-no d (fits_by ∙ ap (λ o. is_some (completed s.p o)) e ∙ f)) same)
           (decide (completable s.p k))
 
-    module _ (best : Score) (d : Option Candidate) (same : Same best d) where
-      abbrev entered : Score
+    module _ (best : P.Option Score) (d : Option Candidate) (same : Same best d) where
+      abbrev entered : P.Option Score
       entered = considered known_by c best (entered_from c xs ys ts 0 (replicate 32 2))
 
-      measured_step : is_scale_pair a b ≡ true → Same (step_of known_by xs ys ts c best) (tried evaluated d (scales a b))
+      measured_step : is_scale_pair a b ≡ true → Same (step_of known_by xs ys ts (measured s ws a b (merged_row a b L R)) best) (tried evaluated d (scales a b))
       unfolding step_of measured weighed merged
       measured_step t =
           ⊎_elim
           (λ (e : (leb (span all) s.m && within_norm s (weighted_norm ws cs)) ≡ true).
-          subst (λ r. Same r (tried evaluated d (scales a b))) (sym (ap (λ t. if t then entered otherwise best) e)) (entered_step best d same t e (known_entries all truth) refl))
+          subst (λ r. Same r (tried evaluated d (scales a b))) (sym (ap (λ t. step_of known_by xs ys ts (if t then Some c otherwise None) best) e)) (entered_step best d same t e (known_entries all truth) refl))
           (λ (e : (leb (span all) s.m && within_norm s (weighted_norm ws cs)) ≡ false).
-          stay best _ d _ (ap (λ t. if t then entered otherwise best) e)
+          stay best _ d _ (ap (λ t. step_of known_by xs ys ts (if t then Some c otherwise None) best) e)
           (tried-no d (fits_is ∙ one_fails (within_norm s (weighted_norm ws cs)) (leb (span all) s.m) (is_some (completed s.p (known_entries all truth))) e)) same)
           (decide (leb (span all) s.m && within_norm s (weighted_norm ws cs)))
 
       pub pair_step : Same (step_of known_by xs ys ts (pair_of s ws L R a b) best) (tried evaluated d (scales a b))
-      unfolding pair_of step_of no_pair
+      unfolding pair_of step_of
       pair_step =
           ⊎_elim
           (λ (t : is_scale_pair a b ≡ true).
-          subst (λ p. Same (step_of known_by xs ys ts p best) (tried evaluated d (scales a b))) (sym (ap (λ t. if t then c otherwise no_pair) t)) (measured_step t))
+          subst (λ p. Same (step_of known_by xs ys ts p best) (tried evaluated d (scales a b))) (sym (ap (λ t. if t then measured s ws a b (merged_row a b L R) otherwise None) t)) (measured_step t))
           (λ (t : is_scale_pair a b ≡ false).
-          stay best _ d _ (ap (λ t. step_of known_by xs ys ts (if t then c otherwise no_pair) best) t) (tried_not d t) same)
+          stay best _ d _ (ap (λ t. step_of known_by xs ys ts (if t then measured s ws a b (merged_row a b L R) otherwise None) best) t) (tried_not d t) same)
           (decide (is_scale_pair a b))
 
   -- all pairs of some ranges
   pub walks_same : (r : Ranges) → InSpans r
-      → Same (walk (step_at known_by xs ys ts r.origin) r.start (r.end - r.start) r.bottom (r.top - r.bottom) no_score)
+      → Same (walk (step_at known_by xs ys ts r.origin) r.start (r.end - r.start) r.bottom (r.top - r.bottom) None)
       (walk (tried_at evaluated r.origin) r.start (r.end - r.start) r.bottom (r.top - r.bottom) none)
-  unfolding step_at tried_at no_score candidate_of
+  unfolding step_at tried_at candidate_of
   walks_same r w =
-      walks_keep Same (step_at known_by xs ys ts r.origin) (tried_at evaluated r.origin) r.start (r.end - r.start) r.bottom (r.top - r.bottom) no_score none
+      walks_keep Same (step_at known_by xs ys ts r.origin) (tried_at evaluated r.origin) r.start (r.end - r.start) r.bottom (r.top - r.bottom) None none
       (λ i j h k l n. pair_step (pos i) (pos j -ℤ pos r.origin) (scaling_at i j r.origin (omega (arith, w.first)) w.origin (omega (arith, w.second))))
-      (refl, λ e. absurd (true≢false (sym e)))
+      (refl, tt)

@@ -1,4 +1,5 @@
 -- The rows of an attempt, the values of a scale pair at them, their energy, and the search over scale pairs.
+pub mod Options
 pub mod Walk
 pub mod Pairs
 pub mod Search

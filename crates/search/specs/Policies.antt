@@ -1,5 +1,6 @@
 -- The pairs of each policy, and what is found among them.
-use Rattle.std.specs.Prelude.{◌≡◌, refl, Bool, ℕ, zero, suc, ◌+◌, ◌*◌, ◌-◌, ◌≤◌, ◌<◌, ◌^◌, eqb, ℤ, pos, length, take}
+use Rattle.std.specs.Prelude as P
+use Rattle.std.specs.Prelude.{None, IfSome, ◌≡◌, refl, Bool, ℕ, zero, suc, ◌+◌, ◌*◌, ◌-◌, ◌≤◌, ◌<◌, ◌^◌, eqb, ℤ, pos, length, take}
 use Rattle.std.proofs.Math.Path.{sym, ap, ap₂, subst}
 use Rattle.std.proofs.Common.{◌∙◌, lt-ltb, pow_pos}
 use Rattle.std.proofs.Math.Bool.{true, false}
@@ -31,15 +32,17 @@ use Rattle.search.specs.EqualForms.{first-best}
 use Rattle.search.specs.Found.{walks_same}
 use Rattle.search.specs.Pairs.{tried, tried_at, pairs_walked}
 use Rattle.merged_rows.specs.RowsCompacted.{Compacted}
-use Rattle.scale_pair.specs.Score.{no_score}
 use Rattle.search.specs.Search.{context, cone_by, step_at, InSpans}
 use Rattle.search.specs.Walk.{walk_row, walk}
 
 -- Of equal forms (0, 1) alone; Naive has the pair (right, 1) alone.
+abbrev pub one_pair : ℕ → ℕ → Ranges
+one_pair a b = record { bottom = a; top = a + 1; start = b; end = b + 1; origin = 0 }
+
 abbrev pub ranges_of : Bool → Policy → ℕ → ℕ → Ranges
-ranges_of same Naive left right = record { bottom = right; top = right + 1; start = 1; end = 2; origin = 0 }
-ranges_of true Basic left right = record { bottom = 0; top = 1; start = 1; end = 2; origin = 0 }
-ranges_of true Span left right = record { bottom = 0; top = 1; start = 1; end = 2; origin = 0 }
+ranges_of same Naive left right = one_pair right 1
+ranges_of true Basic left right = one_pair 0 1
+ranges_of true Span left right = one_pair 0 1
 ranges_of false Basic left right = record { bottom = 0; top = right + 1; start = 0; end = 2 * left + 1; origin = left }
 ranges_of false Span left right = record { bottom = 0; top = right + 1; start = 0; end = 2 * left + 1; origin = left }
 
@@ -49,10 +52,6 @@ ranges_in true Basic left right h k = record { first = omega arith; origin = ome
 ranges_in true Span left right h k = record { first = omega arith; origin = omega arith; second = omega arith }
 ranges_in false Basic left right h k = record { first = omega arith; origin = h; second = omega arith }
 ranges_in false Span left right h k = record { first = omega arith; origin = h; second = omega arith }
-
-pub basic_is_span : (same : Bool) (left right : ℕ) → ranges_of same Span left right ≡ ranges_of same Basic left right
-basic_is_span true left right = refl
-basic_is_span false left right = refl
 
 -- ---- the definition's pairs are those of the ranges
 gcd-one : (n : ℕ) → gcd n 1 ≡ 1
@@ -104,10 +103,10 @@ pub record Attempted (left right : Cone) (truth : List ℕ) (counts : List ℕ) 
   pub mixed : all_equal truth ≡ false
 
 -- What is found.
-pub record Finds (s : Settings) (nodes : List LutNode) (left right : Cone) (truth : List ℕ) (r : Score) : Type 0 where
+pub record Finds (s : Settings) (nodes : List LutNode) (left right : Cone) (truth : List ℕ) (r : P.Option Score) : Type 0 where
   pub candidate : candidate_of (union_support left.support right.support) left right truth r
       ≡ find_candidate s nodes (union_support left.support right.support) left right truth
-  pub found : r.found ≡ true → Found s (union_support left.support right.support) left right truth r
+  pub found : IfSome r (Found s (union_support left.support right.support) left right truth)
 
 module _ (s : Settings) (nodes : List LutNode) (left right : Cone) (truth counts : List ℕ) (basis : Basis) (first second : ℕ) (xs ys : List ℤ) (ts : List ℕ) (m : Moments)
     (h : Attempted left right truth counts basis first second xs ys ts m) (narrow : s.m ≤ 32) (few_left : first ≤ 32) (few_right : second ≤ 32) where
@@ -146,8 +145,8 @@ module _ (s : Settings) (nodes : List LutNode) (left right : Cone) (truth counts
   pairs_for true Basic r f e = first_pair (f refl) r e
   pairs_for true Span r f e = first_pair (f refl) r e
 
-  pub finds : (same : Bool) (r : Ranges) (t : Score) → (same ≡ true → coefficients_over U left ≡ coefficients_over U right) → r ≡ ranges_of same s.policy first second
-      → t ≡ walk (step_at (context s nodes U (coefficients_over U left) (coefficients_over U right) m) xs ys ts r.origin) r.start (r.end - r.start) r.bottom (r.top - r.bottom) no_score
+  pub finds : (same : Bool) (r : Ranges) (t : P.Option Score) → (same ≡ true → coefficients_over U left ≡ coefficients_over U right) → r ≡ ranges_of same s.policy first second
+      → t ≡ walk (step_at (context s nodes U (coefficients_over U left) (coefficients_over U right) m) xs ys ts r.origin) r.start (r.end - r.start) r.bottom (r.top - r.bottom) None
       → Finds s nodes left right truth t
   unfolding find_candidate cone_by
   finds same r t q e f =
@@ -156,13 +155,13 @@ module _ (s : Settings) (nodes : List LutNode) (left right : Cone) (truth counts
         candidate = ap (candidate_of U left right truth) f
             ∙ w.0
             ∙ sym (pairs_for same s.policy r q (e ∙ ap₂ (ranges_of same s.policy) h.left-span h.right-span));
-        found = subst (λ (t : Score). t.found ≡ true → Found s U left right truth t) (sym f) w.1;
+        found = subst (λ (t : P.Option Score). IfSome t (Found s U left right truth)) (sym f) w.1;
       }
 
   -- the same over the arrays of the basis
-  pub finds_over : (same : Bool) (r : Ranges) (t : Score) (n : ℕ) → (same ≡ true → take basis.n basis.left ≡ take basis.n basis.right)
+  pub finds_over : (same : Bool) (r : Ranges) (t : P.Option Score) (n : ℕ) → (same ≡ true → take basis.n basis.left ≡ take basis.n basis.right)
       → r ≡ ranges_of same s.policy first second → n ≡ basis.n
-      → t ≡ walk (step_at (context s nodes (take n basis.support) (take basis.n basis.left) (take basis.n basis.right) m) xs ys ts r.origin) r.start (r.end - r.start) r.bottom (r.top - r.bottom) no_score
+      → t ≡ walk (step_at (context s nodes (take n basis.support) (take basis.n basis.left) (take basis.n basis.right) m) xs ys ts r.origin) r.start (r.end - r.start) r.bottom (r.top - r.bottom) None
       → Finds s nodes left right truth t
   finds_over same r t n q e f g =
       let b = h.over in
@@ -171,4 +170,4 @@ module _ (s : Settings) (nodes : List LutNode) (left right : Cone) (truth counts
       ap (λ l. context s nodes l (take basis.n basis.left) (take basis.n basis.right) m) (ap (λ k. take k basis.support) f ∙ b.sources)
       ∙ ap₂ (λ x y. context s nodes U x y m) b.lefts b.rights in
       finds same r t (λ z. sym b.lefts ∙ q z ∙ b.rights) e
-      (g ∙ ap (λ k. walk (step_at k xs ys ts r.origin) r.start (r.end - r.start) r.bottom (r.top - r.bottom) no_score) both)
+      (g ∙ ap (λ k. walk (step_at k xs ys ts r.origin) r.start (r.end - r.start) r.bottom (r.top - r.bottom) None) both)

@@ -1,25 +1,26 @@
 -- The sum of a scale pair, as the node store is asked for it.
-use Rattle.std.specs.Prelude.{◌≡◌, Bool, false, ◌&&◌, ℕ, suc, ℤ, length, take}
+use Rattle.std.specs.Prelude.{◌≡◌, ℕ, suc, ℤ, length, take}
 use Rattle.std.proofs.Math.Path.{sym, ap, ap₂}
 use Rattle.std.proofs.Common.{◌∙◌, arith}
 use Rattle.std.proofs.Math.Bool.{true}
 use mathlib.Core.List.{List, [], ◌∷◌, zip_with}
 use Rattle.std.proofs.Math.IntN.{neg_ℤ}
 use Rattle.laws.specs.Integer.{abs_neg}
-use Rattle.laws.specs.Test.{if◌then◌otherwise◌}
+use Rattle.rules.specs.declared.Settings.{Settings}
 use Rattle.rules.specs.Cone.{values, terms}
-use Rattle.rules.specs.Composition.{reuse_cost}
-use Rattle.rules.specs.Network.{Linear}
-use Rattle.rules.specs.Store.{linear_terms, linear_of, has_bootstrap}
+use Rattle.rules.specs.Network.{LutNode, Linear}
+use Rattle.rules.specs.Store.{has_bootstrap, linear_terms, linear_of}
 use Rattle.scale.specs.Limits.{Within}
 use Rattle.linear.specs.Span.{within_total}
 use Rattle.theorems.specs.LinearTables.{span_table}
 use Rattle.nodes.specs.declared.record.Terms.{Terms}
 use Rattle.nodes.specs.View.{IsStore, GoodTerms, FineTerms, term, terms_over, terms_in}
 use Rattle.cone.specs.Sources.{Near}
+use Rattle.merged_rows.specs.declared.energy.Moments.{Moments}
+use Rattle.rules.specs.Composition.{reuse_cost}
 use Rattle.scale_pair.specs.declared.pair.Pair.{Pair}
 use Rattle.scale_pair.specs.Pair.{Rows, merged}
-use Rattle.search.specs.Search.{Context, cone_by, reuse_of, Scored, Merges}
+use Rattle.search.specs.Search.{context, reuse_of, cone_by, Scored, Merges}
 
 -- A node store that has the sources.
 pub record Stored (bytes : List ℕ) (count : ℕ) (sources : List ℕ) : Type 0 where
@@ -40,44 +41,35 @@ fine_zip count [] ns w h = tt
 fine_zip count (c ∷ cs) [] w h = tt
 fine_zip count (c ∷ cs) (n ∷ ns) w h = (w 0, h 0 (omega arith), fine_zip count cs ns (λ i. w (suc i)) (λ i l. h (suc i) (omega arith)))
 
-module _ (left right : List ℤ) (sources : List ℕ) (c : Pair) where
+module _ (left right : List ℤ) (sources : List ℕ) (c : Pair) (t : Terms) (is : SumOf left right sources c t) where
   abbrev cs : List ℤ
   cs = merged c.a c.b left right
 
-  -- what the reuse asks for, and the answer where a sum has one table
-  module _ (k : Context) (el : k.left ≡ left) (er : k.right ≡ right) (es : k.sources ≡ take (length left) sources) where
-    reuse_by : reuse_of k c ≡ (if k.settings.many && has_bootstrap k.nodes (linear_of k.settings (cone_by (take (length left) sources) cs [])) then 0 otherwise 1)
-    unfolding reuse_of reuse_cost
-    reuse_by =
-        ap (λ n. reuse_cost k.settings k.nodes (cone_by n (merged c.a c.b k.left k.right) [])) es
-        ∙ ap₂ (λ x y. reuse_cost k.settings k.nodes (cone_by (take (length left) sources) (merged c.a c.b x y) [])) el er
+  terms_are : terms_in t ≡ zip_with term cs (take (length left) sources)
+  unfolding terms_in terms_over
+  terms_are =
+      ap (λ n. zip_with term (take n t.coefs) (take n t.sources)) is.count
+      ∙ ap₂ (λ l s. zip_with term l (take (length left) s)) is.coefficients is.sources_are
 
-    pub reuse_one : k.settings.many ≡ false → 1 ≡ reuse_of k c
-    reuse_one e =
-        sym (ap (λ q. if q && has_bootstrap k.nodes (linear_of k.settings (cone_by (take (length left) sources) cs [])) then 0 otherwise 1) e) ∙ sym reuse_by
+  pub sum_good : (bytes : List ℕ) (count : ℕ) → Rows left right → Scored c → Merges left right c → Stored bytes count (take (length left) sources) → GoodTerms count t
+  sum_good bytes count r s m h =
+      let near : Within 31 cs = λ i. omega (arith, within_total cs i, span_table cs, m.span_is, s.narrow) in
+      record {
+        few = rw is.count r.few;
+        near = rw (is.constant, abs_neg c.low) s.low_small;
+        fine = rw terms_are (fine_zip count cs (take (length left) sources) near h.near);
+      }
 
-  module _ (t : Terms) (is : SumOf left right sources c t) where
-    terms_are : terms_in t ≡ zip_with term cs (take (length left) sources)
-    unfolding terms_in terms_over
-    terms_are =
-        ap (λ n. zip_with term (take n t.coefs) (take n t.sources)) is.count
-        ∙ ap₂ (λ l s. zip_with term l (take (length left) s)) is.coefficients is.sources_are
+  -- with many tables a sum, the sum is the one of the pair's cone
+  pub sum_linear : (s : Settings) → Merges left right c → s.many ≡ true
+      → Linear t.constant (linear_terms true (terms_in t)) ≡ linear_of s (cone_by (take (length left) sources) cs [])
+  unfolding linear_of values terms cone_by term
+  sum_linear s m e =
+      ap₂ Linear (is.constant ∙ ap neg_ℤ m.low-is) (ap (linear_terms true) terms_are ∙ ap (λ q. linear_terms q (zip_with term cs (take (length left) sources))) (sym e))
 
-    pub sum_good : (bytes : List ℕ) (count : ℕ) → Rows left right → Scored c → Merges left right c → Stored bytes count (take (length left) sources) → GoodTerms count t
-    sum_good bytes count r s m h =
-        let near : Within 31 cs = λ i. omega (arith, within_total cs i, span_table cs, m.span_is, s.narrow) in
-        record {
-          few = rw is.count r.few;
-          near = rw (is.constant, abs_neg c.low) s.low_small;
-          fine = rw terms_are (fine_zip count cs (take (length left) sources) near h.near);
-        }
-
-    pub reuse_found : (k : Context) → k.left ≡ left → k.right ≡ right → k.sources ≡ take (length left) sources → Merges left right c → k.settings.many ≡ true
-        → (r : Bool) → r ≡ has_bootstrap k.nodes (Linear t.constant (linear_terms true (terms_in t))) → (if r then 0 otherwise 1) ≡ reuse_of k c
-    unfolding linear_of values terms cone_by term
-    reuse_found k el er es m e r f =
-        let sum : Linear t.constant (linear_terms true (terms_in t)) ≡ linear_of k.settings (cone_by (take (length left) sources) cs []) =
-        ap₂ Linear (is.constant ∙ ap neg_ℤ m.low-is) (ap (linear_terms true) terms_are ∙ ap (λ q. linear_terms q (zip_with term cs (take (length left) sources))) (sym e)) in
-        ap (λ q. if q then 0 otherwise 1) (f ∙ ap (has_bootstrap k.nodes) sum)
-        ∙ sym (ap (λ q. if q && has_bootstrap k.nodes (linear_of k.settings (cone_by (take (length left) sources) cs [])) then 0 otherwise 1) e)
-        ∙ sym (reuse_by k el er es)
+  pub reuse_many : (s : Settings) (nodes : List LutNode) (m : Moments) → Merges left right c → s.many ≡ true → has_bootstrap nodes (Linear t.constant (linear_terms true (terms_in t))) ≡ true
+      → 0 ≡ reuse_of (context s nodes (take (length left) sources) left right m) c
+  unfolding reuse_of reuse_cost
+  reuse_many s nodes m h e f =
+      let found : has_bootstrap nodes (linear_of s (cone_by (take (length left) sources) cs [])) ≡ true = sym (ap (has_bootstrap nodes) (sum_linear s h e)) ∙ f in
+      rw (found, e)

@@ -1,8 +1,10 @@
 -- The search over scale pairs, pair by pair, as the code holds it.
-use Rattle.std.specs.Prelude.{◌≡◌, true, ℕ, ◌+◌, ◌≤◌, ◌<◌, ℤ, pos, nat_abs, ◌-ℤ◌, ◌*ℤ◌, length, get_or, take, drop, replicate}
+use Rattle.std.specs.Prelude as P
+use Rattle.std.specs.Prelude.{Some, None, ◌≡◌, true, ℕ, ◌+◌, ◌^◌, ◌≤◌, ◌<◌, ℤ, pos, nat_abs, ◌-ℤ◌, ◌*ℤ◌, length, get_or, take, drop, replicate}
 use mathlib.Core.List.{List, [], zip_with}
 use Rattle.std.proofs.Math.Option.{Option, none, some}
 use Rattle.std.specs.Int.Signed.{quot_z}
+use Rattle.laws.specs.Integer.{abs_mul_le}
 use Rattle.laws.specs.Test.{if◌then◌otherwise◌}
 use Rattle.rules.specs.declared.Settings.{Settings}
 use Rattle.rules.specs.Builder.{enter, completable}
@@ -18,7 +20,7 @@ use Rattle.search.specs.declared.Ranges.{Ranges}
 use Rattle.merged_rows.specs.EnergyMoments.{by_moments}
 use Rattle.merged_rows.specs.EnergyRows.{Small}
 use Rattle.merged_rows.specs.MergedValues.{merged_value}
-use Rattle.scale_pair.specs.Pair.{Rows, Scaling, merged, pair_of}
+use Rattle.scale_pair.specs.Pair.{Rows, Scaling, Level, level_of, merged, pair_of}
 use Rattle.scale_pair.specs.Score.{better_score}
 
 -- What a pair is scored by: the settings, the node store, the sources, both rows of coefficients over them, and the rows' moments.
@@ -54,31 +56,31 @@ reuse_of k c = reuse_cost k.settings k.nodes (cone_by k.sources (merged c.a c.b 
 unfoldable pub score_of : Context → Pair → List ℕ → Score
 score_of k c known =
     record {
-      found = true;
-      reuse = reuse_of k c;
-      span = c.span;
-      norm = c.norm;
-      energy = energy_by k.moments c;
-      a = c.a;
-      b = c.b;
+      rank = record {
+        reuse = reuse_of k c;
+        span = c.span;
+        norm = c.norm;
+        energy = energy_by k.moments c;
+        a = c.a;
+        b = c.b;
+      };
       known = known;
     }
 
 -- The better of the best so far and a pair whose rows gave these known entries, or clashed.
-unfoldable pub considered : Context → Pair → Score → Option (List ℕ) → Score
+unfoldable pub considered : Context → Pair → P.Option Score → Option (List ℕ) → P.Option Score
 considered k c best none = best
 considered k c best (some known) =
-    let r = better_score best (score_of k c known) in
+    let r = Some (better_score best (score_of k c known)) in
     if completable k.settings.p (take c.span known) then r otherwise best
 
--- The same with a pair that may be no candidate.
-unfoldable pub step_of : Context → List ℤ → List ℤ → List ℕ → Pair → Score → Score
-step_of k xs ys ts c best =
-    let r = considered k c best (entered_from c xs ys ts 0 (replicate 32 2)) in
-    if c.ok then r otherwise best
+-- The same where the pair may be no candidate.
+unfoldable pub step_of : Context → List ℤ → List ℤ → List ℕ → P.Option Pair → P.Option Score → P.Option Score
+step_of k xs ys ts None best = best
+step_of k xs ys ts (Some c) best = considered k c best (entered_from c xs ys ts 0 (replicate 32 2))
 
 -- The pair (u, v - origin).
-unfoldable pub step_at : Context → List ℤ → List ℤ → List ℕ → ℕ → ℕ → ℕ → Score → Score
+unfoldable pub step_at : Context → List ℤ → List ℤ → List ℕ → ℕ → ℕ → ℕ → P.Option Score → P.Option Score
 step_at k xs ys ts origin u v best = step_of k xs ys ts (pair_of k.settings (weights_of k.nodes k.sources) k.left k.right (pos u) (pos v -ℤ pos origin)) best
 
 -- ---- what the code asks for
@@ -98,6 +100,14 @@ pub record Ready (s : Settings) (left right xs ys : List ℤ) (ts : List ℕ) (m
   pub t_long : length ts ≡ length xs
   pub comes : (j : ℕ) → j < length xs → ValuesIn (get_or xs j (pos 0)) (get_or ys j (pos 0)) left right
   pub moments : Small m
+
+-- The rows' values stand in the pair's table.
+pub record Levels (c : Pair) (xs ys : List ℤ) (ts : List ℕ) : Type 0 where
+  pub short : length xs ≤ 2048
+  pub y_long : length ys ≡ length xs
+  pub t_long : length ts ≡ length xs
+  pub level : (i : ℕ) → i < length xs → Level c (get_or xs i (pos 0)) (get_or ys i (pos 0))
+  pub inside : (i : ℕ) → i < length xs → level_of c (get_or xs i (pos 0)) (get_or ys i (pos 0)) < 32
 
 -- The first weights are those of the sources.
 pub record Weighs (nodes : List LutNode) (sources ws : List ℕ) : Type 0 where
@@ -122,3 +132,7 @@ pub record Scored (c : Pair) : Type 0 where
 pub record Merges (left right : List ℤ) (c : Pair) : Type 0 where
   pub low-is : c.low ≡ least (linear_table (merged c.a c.b left right))
   pub span_is : c.span ≡ span (linear_table (merged c.a c.b left right))
+
+-- ---- the size of a term of the energy
+pub weighted_small : (a b z : ℤ) → nat_abs a ≤ 64 → nat_abs b ≤ 32 → nat_abs z ≤ 2 ^ 40 → nat_abs ((a *ℤ b) *ℤ z) ≤ 2 ^ 51
+weighted_small a b z h k l = let two : nat_abs (a *ℤ b) ≤ 2048 = abs_mul_le a b h k in abs_mul_le (a *ℤ b) z two l

@@ -1,8 +1,8 @@
 -- A step of the search: a pair that is no candidate, one whose rows clash, and one that is considered.
-use Rattle.std.specs.Prelude.{◌≡◌, true, false, List, [], ◌∷◌, ℕ, zero, suc, ◌+◌, ◌≤◌, ◌<◌, leb, ℤ, ◌-ℤ◌, set, drop, replicate, ◌≤ℤ◌}
+use Rattle.std.specs.Prelude as P
+use Rattle.std.specs.Prelude.{Some, None, Bool, ◌&&◌, ◌≡◌, true, false, List, [], ◌∷◌, ℕ, zero, suc, ◌+◌, ◌≤◌, ◌<◌, leb, ℤ, ◌-ℤ◌, set, drop, replicate, ◌≤ℤ◌}
 use Rattle.std.proofs.Math.Path.{refl, sym, ap, ap₂, subst}
-use Rattle.std.proofs.Common.{◌∙◌, true≢false, arith, pow_pos}
-use Rattle.std.proofs.Math.Logic.{⊎_elim}
+use Rattle.std.proofs.Common.{◌∙◌, arith, pow_pos}
 use Rattle.std.proofs.Math.Option.{none, some}
 use Rattle.std.proofs.Math.Nat.{le_of_dvd}
 use borrow.Author.Tests.{leb-true}
@@ -10,9 +10,9 @@ use Rattle.std.proofs.Math.IntN.{pos, nat_abs}
 use Rattle.std.proofs.Math.ListN.{length, get_or, take}
 use Rattle.laws.specs.Gcd.{gcd, gcd_is, gcd_zero}
 use Rattle.laws.specs.Integer.{plus, minus, abs_parts, sub_parts, one_part_zero}
-use Rattle.laws.specs.Test.{if◌then◌otherwise◌, decide, both_left}
+use Rattle.laws.specs.Test.{if◌then◌otherwise◌, both_left}
 use Rattle.rules.specs.declared.Settings.{Settings}
-use Rattle.rules.specs.Builder.{Entries, agrees, completable}
+use Rattle.rules.specs.Builder.{Entries, agrees}
 use Rattle.rules.specs.Cone.{linear_table, within_norm}
 use Rattle.rules.specs.Scale.{gcd_from, divisor, normalised, is_scale_pair}
 use Rattle.rules.specs.Span.{least, span}
@@ -29,16 +29,16 @@ use Rattle.scale_pair.specs.declared.pair.Pair.{Pair}
 use Rattle.scale_pair.specs.declared.score.Score.{Score}
 use Rattle.merged_rows.specs.MergedIntegers.{zip_with_length, zip_with_at}
 use Rattle.merged_rows.specs.MergedValues.{merged_value, merged-values}
-use Rattle.scale_pair.specs.Pair.{Rows, Scaling, merged_row, merged, weighed, measured, no_pair, pair_of, level_of, Level, row_small, pair_weights}
-use Rattle.scale_pair.specs.Score.{better_score}
-use Rattle.search.specs.Search.{Context, row_values, entered_from, energy_by, reuse_of, score_of, considered, step_of, step_at, ValuesIn, Ready, Weighs, Scored, Merges}
+use Rattle.scale_pair.specs.Pair.{Rows, Scaling, merged_row, merged, weighed, measures, measured, pair_of, level_of, Level, row_small, pair_weights}
+use Rattle.search.specs.Options.{option_by}
+use Rattle.search.specs.Search.{Levels, Context, row_values, entered_from, considered, step_of, step_at, ValuesIn, Ready, Weighs, Scored, Merges}
 use Rattle.linear.specs.Table.{table_first}
 
 -- the pair, by weights of which the first are those of the sources
-module _ (k : Context) (xs ys : List ℤ) (ts : List ℕ) (origin u v : ℕ) (best : Score) (c : Pair) (ws : List ℕ)
+module _ (k : Context) (xs ys : List ℤ) (ts : List ℕ) (origin u v : ℕ) (best : P.Option Score) (o : P.Option Pair) (ws : List ℕ)
     (rows : Rows k.left k.right) (even : length k.sources ≡ length k.left) (w : Weighs k.nodes k.sources ws)
-    (e : c ≡ pair_of k.settings ws k.left k.right (pos u) (pos v -ℤ pos origin)) where
-  step_is : step_of k xs ys ts c best ≡ step_at k xs ys ts origin u v best
+    (e : o ≡ pair_of k.settings ws k.left k.right (pos u) (pos v -ℤ pos origin)) where
+  pub step_is : step_of k xs ys ts o best ≡ step_at k xs ys ts origin u v best
   unfolding step_at
   step_is =
       let a = pos u in
@@ -47,39 +47,20 @@ module _ (k : Context) (xs ys : List ℤ) (ts : List ℕ) (origin u v : ℕ) (be
       ap (λ p. step_of k xs ys ts p best)
       (e ∙ pair_weights k.settings ws k.left k.right rows a b ∙ ap (λ l. pair_of k.settings l k.left k.right a b) first)
 
-  pub step-skipped : c.ok ≡ false → best ≡ step_at k xs ys ts origin u v best
+-- ---- a pair: no candidate, one whose rows clash, and one that is considered
+module _ (k : Context) (xs ys : List ℤ) (ts : List ℕ) (best : P.Option Score) where
+  pub step_none : (o : P.Option Pair) → o ≡ None → best ≡ step_of k xs ys ts o best
   unfolding step_of
-  step-skipped h = ap (λ t. if t then considered k c best (entered_from c xs ys ts 0 (replicate 32 2)) otherwise best) (sym h) ∙ step_is
+  step_none o e = rw e
 
-  step-tried : c.ok ≡ true → considered k c best (entered_from c xs ys ts 0 (replicate 32 2)) ≡ step_at k xs ys ts origin u v best
-  unfolding step_of
-  step-tried h = ap (λ t. if t then considered k c best (entered_from c xs ys ts 0 (replicate 32 2)) otherwise best) (sym h) ∙ step_is
+  module _ (o : P.Option Pair) (c : Pair) (e : o ≡ Some c) (r : P.Option (List ℕ)) (f : option_by (λ l. l) r ≡ entered_from c xs ys ts 0 (replicate 32 2)) where
+    pub step_clashed : r ≡ None → best ≡ step_of k xs ys ts o best
+    unfolding step_of considered
+    step_clashed h = let q : none ≡ entered_from c xs ys ts 0 (replicate 32 2) = rw h at f in rw (e, ← q)
 
-  pub step_clashed : c.ok ≡ true → none ≡ entered_from c xs ys ts 0 (replicate 32 2) → best ≡ step_at k xs ys ts origin u v best
-  unfolding considered
-  step_clashed h f = ap (considered k c best) f ∙ step-tried h
-
-  pub step_considered : c.ok ≡ true → (known : List ℕ) → some known ≡ entered_from c xs ys ts 0 (replicate 32 2)
-      → (r : Score) → r ≡ considered k c best (some known) → r ≡ step_at k xs ys ts origin u v best
-  step_considered h known f r g = g ∙ ap (considered k c best) f ∙ step-tried h
-
--- ---- a pair is considered: its entries can't be completed, or its score is compared
-module _ (k : Context) (c : Pair) (best : Score) (known : List ℕ) where
-  pub considered_no : completable k.settings.p (take c.span known) ≡ false → best ≡ considered k c best (some known)
-  unfolding considered
-  considered_no h = ap (λ t. if t then better_score best (score_of k c known) otherwise best) (sym h)
-
-  pub considered_yes : completable k.settings.p (take c.span known) ≡ true → (r s : Score) → r ≡ better_score best s → s ≡ score_of k c known
-      → r ≡ considered k c best (some known)
-  unfolding considered
-  considered_yes h r s e f = e ∙ ap (better_score best) f ∙ ap (λ t. if t then better_score best (score_of k c known) otherwise best) (sym h)
-
-  pub score_is : (reuse : ℕ) (energy a b : ℤ) → reuse ≡ reuse_of k c → energy ≡ energy_by k.moments c → a ≡ c.a → b ≡ c.b
-      → ◌≡◌ {A = Score} (record { found = true; reuse = reuse; span = c.span; energy = energy; norm = c.norm; a = a; b = b; known = known }) (score_of k c known)
-  unfolding score_of
-  score_is reuse energy a b e f g h =
-      ap₂ (λ (p : ℕ) (q : ℤ). record { found = true; reuse = p; span = c.span; energy = q; norm = c.norm; a = a; b = b; known = known }) e f
-      ∙ ap₂ (λ (p q : ℤ). record { found = true; reuse = reuse_of k c; span = c.span; energy = energy_by k.moments c; norm = c.norm; a = p; b = q; known = known }) g h
+    pub step_considered : (known : List ℕ) → r ≡ Some known → considered k c best (some known) ≡ step_of k xs ys ts o best
+    unfolding step_of
+    step_considered known h = let q : some known ≡ entered_from c xs ys ts 0 (replicate 32 2) = rw h at f in rw (e, ← q)
 
 -- ---- the rows: a turn, a clash, and the end
 module _ (c : Pair) (xs ys : List ℤ) (ts : List ℕ) (y_long : length ys ≡ length xs) (t_long : length ts ≡ length xs) where
@@ -109,9 +90,11 @@ module _ (c : Pair) (xs ys : List ℤ) (ts : List ℕ) (y_long : length ys ≡ l
   rows_end i known h = sym (enter_end c.low (row_values c xs ys) ts known i (omega (arith, values_long)))
 
   -- what is entered are known entries
-  pub rows_entries : (known : List ℕ) → some known ≡ entered_from c xs ys ts 0 (replicate 32 2) → Entries known
+  pub rows_entries : (r : P.Option (List ℕ)) (known : List ℕ) → r ≡ Some known → option_by (λ l. l) r ≡ entered_from c xs ys ts 0 (replicate 32 2) → Entries known
   unfolding entered_from
-  rows_entries known e = (entered_entries c.low (drop 0 (row_values c xs ys)) (drop 0 ts) (replicate 32 2) known (sym e) (unknown_entries 32)).0
+  rows_entries r known h e =
+      let q : some known ≡ entered_from c xs ys ts 0 (replicate 32 2) = rw h at e in
+      (entered_entries c.low (drop 0 (row_values c xs ys)) (drop 0 ts) (replicate 32 2) known (sym q) (unknown_entries 32)).0
 
 -- ---- sizes
 gcd-small : (k a b : ℕ) → a ≤ k → b ≤ k → gcd a b ≤ k
@@ -153,8 +136,13 @@ module _ (s : Settings) (left right xs ys : List ℤ) (ts : List ℕ) (m : Momen
       ∙ zip_with_at (merged_value a b (divisor cs)) (linear_table left) (linear_table right) i (pos 0) (pos 0) (pos 0) (rw (linear_table-length right, linear_table-length left, ready.rows.even)) h
       ∙ ap₂ (merged_value a b (divisor cs)) ex ey
 
-  fits-span : (measured s ws a b cs).ok ≡ true → span all ≤ 32
-  unfolding measured weighed
+  abbrev here : Pair
+  here = measures ws a b (divisor cs) (normalised cs)
+
+  abbrev fit : Bool
+  fit = leb (span all) s.m && within_norm s (weighted_norm ws (normalised cs))
+
+  fits-span : fit ≡ true → span all ≤ 32
   fits-span h = omega (arith, ready.narrow, leb-true (span all) s.m (both_left (leb (span all) s.m) (within_norm s (weighted_norm ws (normalised cs))) h))
 
   low_small : span all ≤ 32 → nat_abs (least all) ≤ 31
@@ -162,8 +150,8 @@ module _ (s : Settings) (left right xs ys : List ℤ) (ts : List ℕ) (m : Momen
       low_below (least all) (get_or all 0 (pos 0)) (span all) (table_first (normalised cs))
       (offset_lt all 0 (rw (linear_table-length (normalised cs)) (pow_pos (length (normalised cs))))) h
 
-  scored_measured : (measured s ws a b cs).ok ≡ true → Scored (measured s ws a b cs)
-  unfolding measured weighed
+  scored_measured : fit ≡ true → Scored here
+  unfolding measures
   scored_measured h =
       record {
         scaling = scaling;
@@ -173,8 +161,8 @@ module _ (s : Settings) (left right xs ys : List ℤ) (ts : List ℕ) (m : Momen
         narrow = fits-span h;
       }
 
-  merges_measured : Merges left right (measured s ws a b cs)
-  unfolding measured weighed merged
+  merges_measured : Merges left right here
+  unfolding measures merged
   merges_measured = record { low-is = refl; span_is = refl }
 
   module _ (x y : ℤ) (r : ValuesIn x y left right) where
@@ -184,8 +172,8 @@ module _ (s : Settings) (left right xs ys : List ℤ) (ts : List ℕ) (m : Momen
     y_near : nat_abs y ≤ 31
     y_near = subst (λ z. nat_abs z ≤ 31) r.y_is (omega (arith, table_within_total right r.at, ready.rows.rights))
 
-    level_measured : (measured s ws a b cs).ok ≡ true → Level (measured s ws a b cs) x y
-    unfolding measured weighed
+    level_measured : fit ≡ true → Level here x y
+    unfolding measures
     level_measured h =
         record {
           scaling = scaling;
@@ -196,33 +184,38 @@ module _ (s : Settings) (left right xs ys : List ℤ) (ts : List ℕ) (m : Momen
           above = subst (λ z. least all ≤ℤ z) (value_at r.at x y r.inside r.x_is r.y_is) (least_le all r.at (rw all_long r.inside));
         }
 
-    inside_measured : (measured s ws a b cs).ok ≡ true → level_of (measured s ws a b cs) x y < 32
-    unfolding measured weighed level_of
+    inside_measured : fit ≡ true → level_of here x y < 32
+    unfolding measures level_of
     inside_measured h =
         let q = subst (λ z. nat_abs (z -ℤ least all) < span all) (value_at r.at x y r.inside r.x_is r.y_is) (offset_lt all r.at (rw all_long r.inside)) in
         omega (arith, fits-span h)
 
-  module _ (c : Pair) (e : c ≡ pair_of s ws left right a b) (ok : c.ok ≡ true) where
-    is_measured : c ≡ measured s ws a b cs
-    unfolding pair_of no_pair
-    is_measured =
-        ⊎_elim
-        (λ (t : is_scale_pair a b ≡ true). e ∙ ap (λ q. if q then measured s ws a b cs otherwise no_pair) t)
-        (λ (t : is_scale_pair a b ≡ false). absurd (true≢false (sym ok ∙ ap (λ (p : Pair). p.ok) (e ∙ ap (λ q. if q then measured s ws a b cs otherwise no_pair) t))))
-        (decide (is_scale_pair a b))
+  -- a candidate is what was measured, and fits
+  is_measured : (c : Pair) → Some c ≡ pair_of s ws left right a b → (c ≡ here) × (fit ≡ true)
+  unfolding pair_of measured weighed
+  is_measured c e = by (is_scale_pair a b) fit e refl
+    where
+      by : (t u : Bool) → Some c ≡ (if t then (if u then Some here otherwise None) otherwise None) → fit ≡ u → (c ≡ here) × (fit ≡ true)
+      by true true f g = (cc, g)
+      by true false f g = absurd cc
+      by false u f g = absurd cc
 
-    measured_ok : (measured s ws a b cs).ok ≡ true
-    measured_ok = sym (ap (λ (p : Pair). p.ok) is_measured) ∙ ok
+  module _ (o : P.Option Pair) (c : Pair) (is : o ≡ Some c) (e : o ≡ pair_of s ws left right a b) where
+    measured_is : (c ≡ here) × (fit ≡ true)
+    measured_is = is_measured c (sym is ∙ e)
 
     pub scored : Scored c
-    scored = subst Scored (sym is_measured) (scored_measured measured_ok)
+    scored = subst Scored (sym measured_is.0) (scored_measured measured_is.1)
 
     pub merges : Merges left right c
-    merges = subst (Merges left right) (sym is_measured) merges_measured
+    merges = subst (Merges left right) (sym measured_is.0) merges_measured
 
-    module _ (i : ℕ) (h : i < length xs) (x y : ℤ) (ex : x ≡ get_or xs i (pos 0)) (ey : y ≡ get_or ys i (pos 0)) where
-      pub row_level : Level c x y
-      row_level = rw (ex, ey) (subst (λ p. Level p (get_or xs i (pos 0)) (get_or ys i (pos 0))) (sym is_measured) (level_measured _ _ (ready.comes i h) measured_ok))
-
-      pub row_inside : level_of c x y < 32
-      row_inside = rw (ex, ey) (subst (λ p. level_of p (get_or xs i (pos 0)) (get_or ys i (pos 0)) < 32) (sym is_measured) (inside_measured _ _ (ready.comes i h) measured_ok))
+    pub levels : Levels c xs ys ts
+    levels =
+        record {
+          short = ready.short;
+          y_long = ready.y_long;
+          t_long = ready.t_long;
+          level = λ i h. subst (λ p. Level p (get_or xs i (pos 0)) (get_or ys i (pos 0))) (sym measured_is.0) (level_measured _ _ (ready.comes i h) measured_is.1);
+          inside = λ i h. subst (λ p. level_of p (get_or xs i (pos 0)) (get_or ys i (pos 0)) < 32) (sym measured_is.0) (inside_measured _ _ (ready.comes i h) measured_is.1);
+        }

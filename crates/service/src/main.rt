@@ -2,19 +2,25 @@
 // that line has come, and before a later byte is looked at. It leans on `answer`, `framing` and std's reader and writer.
 #![tactic(auto)]
 
-ghost use Rattle.std.specs.Prelude.{true, ◌≡◌, ◌≤◌, length};
+ghost use Rattle.std.specs.Prelude.{true, ◌≡◌, ◌≤◌, length, IfOk};
 ghost use Rattle.framing.specs.Step.{Within};
 ghost use Rattle.framing.specs.Feeding.{said, closing, fed_all, state_with};
 ghost use Rattle.rules.specs.Service.{mapper_answer};
 ghost use Rattle.service.specs.Chunk.{Led};
 
-use framing::{Event, Feed};
+use framing::Feed;
+use rules::Reason;
 use std::io;
 use std::io::Read;
 
-// Writes what is said at an event. The contract alone speaks of the event and the job.
-fn write_said(rt: &impl Print, text: &[u8], e: Event, job: &[u8]) -> io::Result<()>
-    requires { text.now ≡ said mapper_answer e job.now }
+// Writes what is said where a byte closes a job, if it does. The contract alone speaks of the job.
+fn write_said(
+    rt: &impl Print,
+    text: &[u8],
+    closed: Option<Result<usize, Reason>>,
+    job: &[u8],
+) -> io::Result<()>
+    requires { text.now ≡ said mapper_answer closed job.now }
 {
     rt.write_all(text)
 }
@@ -25,11 +31,16 @@ fn write_closing(rt: &impl Print, text: &[u8], f: Feed) -> io::Result<()>
     rt.write_all(text)
 }
 
-fn tell(rt: &impl Print, e: Event, job: &[u8], out: &mut [u8]) -> io::Result<()>
-    requires { Within e × (32768 ≤ length job.now) × (65542 ≤ length out.old) }
+fn tell(
+    rt: &impl Print,
+    closed: Option<Result<usize, Reason>>,
+    job: &[u8],
+    out: &mut [u8],
+) -> io::Result<()>
+    requires { Within closed × (32768 ≤ length job.now) × (65542 ≤ length out.old) }
 {
-    let n = answer::say(e, job, out);
-    write_said(rt, &out[..n], e, job)
+    let n = answer::say(closed, job, out);
+    write_said(rt, &out[..n], closed, job)
 }
 
 fn tell_at_end(rt: &impl Print, f: Feed, out: &mut [u8]) -> io::Result<()>
@@ -39,86 +50,56 @@ fn tell_at_end(rt: &impl Print, f: Feed, out: &mut [u8]) -> io::Result<()>
     write_closing(rt, &out[..n], f)
 }
 
-// Whether the program goes on, the state, and the error where something could not be written: then it does not go on.
-#[derive(Drop)]
-struct Turn {
-    more: bool,
-    feed: Feed,
-    written: io::Result<()>,
-}
-
 // The bytes of one read.
-fn take_chunk(rt: &impl Print, chunk: &[u8], start: Feed, job: &mut [u8], out: &mut [u8]) -> Turn
+fn take_chunk(
+    rt: &impl Print,
+    chunk: &[u8],
+    f: &mut Feed,
+    job: &mut [u8],
+    out: &mut [u8],
+) -> io::Result<()>
     requires { (32768 ≤ length job.old) × (65542 ≤ length out.old) }
-    ensures { result.more ≡ true → state_with result.feed job.new ≡ fed_all (state_with start job.old) chunk.now }
+    ensures { IfOk result (λ done. state_with f.new job.new ≡ fed_all (state_with f.old job.old) chunk.now) }
 {
-    let mut f = start;
-    let mut i = 0;
-    while i < chunk.len() {
-        let e = framing::feed_byte(f, chunk[i], job);
-        if let Err(error) = tell(rt, e, job, out) {
-            return Turn {
-                more: false,
-                feed: f,
-                written: Err(error),
-            };
-        }
-        f = framing::next_feed(e);
-        i += 1;
+    for &b in chunk {
+        let closed = f.feed_byte(b, job);
+        tell(rt, closed, job, out)?;
     }
-    Turn {
-        more: true,
-        feed: f,
-        written: Ok(()),
-    }
+    Ok(())
 }
 
-// The input's end.
-fn finish(rt: &impl Print, f: Feed, out: &mut [u8]) -> io::Result<()>
-    requires { 65542 ≤ length out.old }
-{
-    tell_at_end(rt, f, out)
-}
-
-// One read. A read error is the end of the input.
+// One read, and whether more may come. A read error is the end of the input.
 fn one_turn<R: Read>(
     rt: &impl Print,
     input: &mut R,
-    f: Feed,
+    f: &mut Feed,
     chunk: &mut [u8],
     job: &mut [u8],
     out: &mut [u8],
-) -> Turn
+) -> io::Result<bool>
     requires { (32768 ≤ length job.old) × (65542 ≤ length out.old) }
-    ensures { result.more ≡ true → Led chunk.new (state_with f job.old) (state_with result.feed job.new) }
+    ensures { IfOk result (λ more. more ≡ true → Led chunk.new (state_with f.old job.old) (state_with f.new job.new)) }
 {
     let n = input.read(chunk).unwrap_or(0);
     if n == 0 {
-        let written = finish(rt, f, out);
-        return Turn {
-            more: false,
-            feed: f,
-            written,
-        };
+        tell_at_end(rt, *f, out)?;
+        return Ok(false);
     }
-    take_chunk(rt, &chunk[..n], f, job, out)
+    take_chunk(rt, &chunk[..n], f, job, out)?;
+    Ok(true)
 }
 
-// A proved loop has to end, so the turns are counted down from a number that no run uses up.
+// A proved loop has to end, so the turns have a bound that no run reaches.
 fn main(rt: HostRuntime) -> io::Result<()> {
     let mut input = rt.stdin();
     let mut chunk = [0u8; 16384];
     let mut job = [0u8; 32768];
     let mut out = [0u8; 65542];
-    let mut f = framing::begin();
-    let mut turns = u64::MAX;
-    while turns > 0 {
-        let t = one_turn(&rt, &mut input, f, &mut chunk, &mut job, &mut out);
-        if !t.more {
-            return t.written;
+    let mut f = Feed::begin();
+    for _ in 0..u64::MAX {
+        if !one_turn(&rt, &mut input, &mut f, &mut chunk, &mut job, &mut out)? {
+            return Ok(());
         }
-        f = t.feed;
-        turns -= 1;
     }
     Ok(())
 }

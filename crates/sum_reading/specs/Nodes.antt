@@ -1,5 +1,5 @@
 -- Which reading a node of the store gets.
-use Rattle.std.specs.Prelude.{◌≡◌, refl, true, List, ℕ, ◌<◌, ◌≤◌, ℤ, pos, neg_ℤ, nat_abs, ◌-ℤ◌, length, get_or}
+use Rattle.std.specs.Prelude.{◌≡◌, refl, true, List, ℕ, ◌<◌, ◌≤◌, ℤ, pos, neg_ℤ, nat_abs, ◌-ℤ◌, length, get_or, Result, Ok, Err}
 use Rattle.std.proofs.Common.{sym, ap₂, subst, ◌∙◌, true≢false, ⊎_elim, arith, SFits}
 use Rattle.std.proofs.Math.Path.{ap}
 use Rattle.std.proofs.lemmas.List.{length-map}
@@ -9,6 +9,8 @@ use Rattle.std.specs.Int.{w32, w64}
 use Rattle.laws.specs.Integer.{abs_add, abs_neg, fits_abs}
 use Rattle.laws.specs.Lists.{map_at}
 use Rattle.laws.specs.Test.{lt_or_le}
+use Rattle.rules.specs.declared.Refusal.{Refusal}
+use Rattle.rules.specs.Refusal.{reason_number}
 use Rattle.rules.specs.Cone.{linear_table}
 use Rattle.rules.specs.Network.{Term, LutNode, Input, Linear, Bootstrap, is_linear, node_at}
 use Rattle.rules.specs.NetworkText.{read_admitted}
@@ -17,12 +19,11 @@ use Rattle.rules.specs.SumReading.{Refused, shown, reading_at, sum_reading_on, s
 use Rattle.scale.specs.Limits.{Within}
 use Rattle.theorems.specs.NodesAt.{node_none}
 use Rattle.theorems.specs.Terms.{coefs}
+use Rattle.nodes.specs.declared.node.Kind.TheVariants as Kinds
 use Rattle.nodes.specs.Nodes.{kind_of, constant_of, coefficient-small}
 use Rattle.nodes.specs.View.{term, Fine, IsStore, store_of}
-use Rattle.network_judge.specs.declared.Header.{Header}
-use Rattle.network.specs.declared.Reading.{Reading}
-use Rattle.network.specs.declared.Reading.TheVariants as Read
-use Rattle.network.specs.View.{network_of, reading_of, Held}
+use Rattle.network.specs.declared.Network.{Network}
+use Rattle.network.specs.View.{reading_of, Held}
 use Rattle.sum_reading.specs.Rows.{first_place, row_reading, reading_row}
 
 -- ---- laws: a sum
@@ -61,11 +62,17 @@ rest-fits v c f h = fits_abs (v -ℤ c) (omega (arith, abs_add v (neg_ℤ c), ab
 
 -- ---- laws: the chosen node
 
-pub not_linear : (x : LutNode) (value : ℤ) → (kind_of x ≡ 1 → ⊥) → reading_at x value ≡ Refused 35 0
+pub refused_input : (x : LutNode) (value : ℤ) → kind_of x ≡ Kinds.Input → reading_at x value ≡ Refused 35 0
 unfolding kind_of reading_at
-not_linear (Input g) value h = refl
-not_linear (Linear c ts) value h = absurd (h refl)
-not_linear (Bootstrap i table) value h = refl
+refused_input (Input g) value h = refl
+refused_input (Linear c ts) value h = cc
+refused_input (Bootstrap i table) value h = refl
+
+pub refused_boot : (x : LutNode) (value : ℤ) → kind_of x ≡ Kinds.Bootstrap → reading_at x value ≡ Refused 35 0
+unfolding kind_of reading_at
+refused_boot (Input g) value h = refl
+refused_boot (Linear c ts) value h = cc
+refused_boot (Bootstrap i table) value h = refl
 
 pub no-node : (ns : List LutNode) (node : ℕ) (value : ℤ) → length ns ≤ node → reading_at (node_at ns node) value ≡ Refused 35 0
 unfolding reading_at
@@ -73,14 +80,14 @@ no-node ns node value h = ap (λ x. reading_at x value) (node_none ns node h)
 
 -- ---- laws: the text that was read
 
-module _ (text nodes ports : List ℕ) (r : Reading) (is : reading_of text nodes ports r ≡ read_admitted text) (node : ℕ) (value : ℤ) where
-  pub text_good : (h : Header) → r ≡ Read.Good h → reading_at (node_at (store_of nodes h.count) node) value ≡ sum_reading text node value
-  unfolding network_of sum_reading sum_reading_on
-  text_good h e = ap (λ q. sum_reading_on (reading_of text nodes ports q) node value) (sym e) ∙ ap (λ q. sum_reading_on q node value) is
-
-  pub text_refused : (k i : ℕ) → r ≡ Read.Refused k i → Refused k i ≡ sum_reading text node value
+module _ (text nodes : List ℕ) (r : Result Network Refusal) (is : reading_of nodes r ≡ read_admitted text) (node : ℕ) (value : ℤ) where
+  pub text_good : (w : Network) → r ≡ Ok w → reading_at (node_at (store_of nodes w.count) node) value ≡ sum_reading text node value
   unfolding sum_reading sum_reading_on
-  text_refused k i e = ap (λ q. sum_reading_on (reading_of text nodes ports q) node value) (sym e) ∙ ap (λ q. sum_reading_on q node value) is
+  text_good w e = ap (λ q. sum_reading_on (reading_of nodes q) node value) (sym e) ∙ ap (λ q. sum_reading_on q node value) is
 
-pub good_store : (text nodes ports : List ℕ) (r : Reading) (h : Header) → r ≡ Read.Good h → Held text nodes ports r → IsStore nodes h.count
-good_store text nodes ports r h e k = let held = subst (Held text nodes ports) e k in held.0.store
+  pub text_refused : (k : Refusal) → r ≡ Err k → Refused (reason_number k.reason) k.line ≡ sum_reading text node value
+  unfolding sum_reading sum_reading_on
+  text_refused k e = ap (λ q. sum_reading_on (reading_of nodes q) node value) (sym e) ∙ ap (λ q. sum_reading_on q node value) is
+
+pub good_store : {nodes : List ℕ} {r : Result Network Refusal} {w : Network} → r ≡ Ok w → Held nodes r → IsStore nodes w.count
+good_store {nodes} e k = let held = subst (Held nodes) e k in held.store

@@ -4,15 +4,16 @@ ghost use Rattle.laws.specs.Digits.{bit, digits};
 ghost use Rattle.laws.specs.Over.{over};
 ghost use Rattle.rules.specs.Cone.{linear_table};
 ghost use Rattle.rules.specs.Store.{terms_of};
-ghost use Rattle.rules.specs.SumReading.{shown, sum_answer};
+ghost use Rattle.rules.specs.SumReading.{shown, sum_reply, sum_answer};
 ghost use Rattle.theorems.specs.Terms.{coefs};
 ghost use Rattle.scale.specs.Limits.{Within};
 ghost use Rattle.nodes.specs.View.{node_of, IsNode};
+ghost use Rattle.sum_reading.specs.Reply.{FewShown};
 ghost use Rattle.sum_reading.specs.Rows.{first_place, row_reading};
 
 use linear::{rows_of, values_of};
 use nodes::node::coef_of;
-use rules::{SumAnswer, SumReply};
+use rules::Shown;
 
 // The coefficients of node i's n terms; 0 behind them.
 pub fn coefs_of(nodes: &[u8; 27552], i: usize, n: usize) -> [i64; 11]
@@ -20,10 +21,8 @@ pub fn coefs_of(nodes: &[u8; 27552], i: usize, n: usize) -> [i64; 11]
     ensures { take n result ≡ coefs (terms_of (node_of nodes.now i)) }
 {
     let mut coefs = [0i64; 11];
-    let mut k = 0;
-    while k < n {
+    for k in 0..n {
         coefs[k] = coef_of(nodes, i, k);
-        k += 1;
     }
     coefs
 }
@@ -34,18 +33,17 @@ pub fn wide(v: i32) -> i64
     v as i64
 }
 
-// Where a value stands first; as many as there are where it does not.
+// Where a value stands first; as many as there are where it does not. A loop, since `position` was tried and its proof did not close:
+// its closure compares the 64 bits, the definition whole numbers.
 fn first_place(values: &[i32], wanted: i64) -> usize
     ensures { result ≡ first_place wanted values.now }
 {
-    let mut i = 0;
-    while i < values.len() {
+    for i in 0..values.len() {
         if wide(values[i]) == wanted {
             return i;
         }
-        i += 1;
     }
-    i
+    values.len()
 }
 
 // The number of the first assignment that gives a value; as many as there are where none does.
@@ -72,27 +70,21 @@ fn bits_of(n: usize, row: usize) -> [u8; 11]
     ensures { result ≡ over (digits n row) (replicate 11 0) }
 {
     let mut bits = [0u8; 11];
-    let mut k = 0;
-    while k < n {
+    for k in 0..n {
         bits[k] = digit(row, n - 1 - k);
-        k += 1;
     }
     bits
 }
 
 // The bits of a row, if it is one.
-pub fn shown(n: usize, row: usize) -> SumAnswer
+pub fn shown(n: usize, row: usize) -> Option<Shown>
     requires { n ≤ 11 }
-    ensures { result ≡ sum_answer (shown (row_reading n row)) }
+    ensures few { FewShown (Ok result) }
+    ensures is { sum_reply (Ok result) ≡ sum_answer (shown (row_reading n row)) }
 {
     if row < rows_of(n) {
-        return SumAnswer {
-            reply: SumReply::Shown(n),
-            bits: bits_of(n, row),
-        };
+        let bits = bits_of(n, row);
+        return Some(Shown { count: n, bits });
     }
-    SumAnswer {
-        reply: SumReply::NoneGives,
-        bits: [0u8; 11],
-    }
+    None
 }

@@ -1,12 +1,15 @@
 -- Sources: where one stands, and those of two cones together.
-use Rattle.std.specs.Prelude.{◌≡◌, refl, Bool, true, false, not, ℕ, suc, ◌+◌, ◌≤◌, ◌<◌, eqb, ℤ, pos, get_or, drop}
-use Rattle.std.proofs.Common.{sym, ap, ◌∙◌, ⊎_elim, not-suc-le-zero, le_of_suc-le-suc, add-one, drop_of_length-le, length-append, drop-cons}
+use Rattle.std.specs.Prelude.{◌≡◌, refl, Bool, true, false, not, cond, ◌||◌, Option, Some, None, MatchOption, ℕ, suc, ◌+◌, ◌≤◌, ◌<◌, ltb, eqb, count_by, ℤ, pos, get_or, drop}
+use Rattle.std.specs.List.{list_any, position_or_len}
+use Rattle.std.specs.List.{position as first_place}
+use Rattle.std.specs.Option.{unwrap_or}
+use Rattle.std.proofs.Common.{ap, ap₂, ◌∙◌, add-one, drop_of_length-le, length-append, drop-cons, ltb-true, ltb-false}
+use Rattle.std.proofs.lemmas.List.Sums.{sum_by-cons}
 use mathlib.Core.List.{List, [], ◌∷◌, ◌++◌, zip_with}
 use native.Mathlib.Omega.{arith}
-use borrow.Author.Tests.{eq-eqb, ne_eqb}
 use Rattle.std.proofs.Math.ListN.{length}
 use Rattle.laws.specs.Select.{select}
-use Rattle.laws.specs.Test.{if◌then◌otherwise◌, if_both, eq-or-ne}
+use Rattle.laws.specs.Test.{if◌then◌otherwise◌, if_both, eqb_swap}
 use Rattle.rules.specs.Network.{member}
 use Rattle.rules.specs.Cone.{Cone, terms}
 use Rattle.rules.specs.Store.{coefficient_of}
@@ -14,52 +17,35 @@ use Rattle.rules.specs.Composition.{union_support}
 use Rattle.theorems.specs.Terms.{terms_over}
 use Rattle.support.specs.Rows.{position}
 
--- ---- a turn of the loop that looks for a node
-module _ (l : List ℕ) (n i : ℕ) where
-  pub position_here : i < length l → get_or l i 0 ≡ n → position (drop i l) n ≡ 0
-  unfolding position
-  position_here h e = rw (drop-cons l i 0 h, eq-eqb (get_or l i 0) n e)
-
-  pub position_on : i < length l → (get_or l i 0 ≡ n → ⊥) → position (drop i l) n ≡ suc (position (drop (i + 1) l) n)
-  unfolding position
-  position_on h e = rw (drop-cons l i 0 h, ne_eqb (get_or l i 0) n e, add-one)
-
-  pub position_end : length l ≤ i → position (drop i l) n ≡ 0
-  unfolding position
-  position_end h = rw (drop_of_length-le l {i = i} h)
-
--- ---- a node that stands nowhere
-pub member-position : (l : List ℕ) (n : ℕ) → position l n ≡ length l → member n l ≡ false
-unfolding position member
-member-position [] n e = refl
-member-position (m ∷ l) n e =
-    ⊎_elim
-    (λ (q : m ≡ n). absurd (first q))
-    (λ q. rw (ne_eqb n m (λ r. q (sym r))) (member-position l n (rest q)))
-    (eq-or-ne m n)
-  where
-    first : m ≡ n → ⊥
-    first q = let z : 0 ≡ suc (length l) = (rw (eq-eqb m n q) at e) in omega arith
-
-    rest : (m ≡ n → ⊥) → position l n ≡ length l
-    rest q = let z : suc (position l n) ≡ suc (length l) = (rw (ne_eqb m n q) at e) in omega arith
-
+-- ---- where a node stands
 pub position_le : (l : List ℕ) (n : ℕ) → position l n ≤ length l
 unfolding position
 position_le [] n = omega arith
 position_le (m ∷ l) n = if_both (λ p. p ≤ suc (length l)) (eqb m n) (omega arith) (let r = position_le l n in omega arith)
 
-pub position-member : (l : List ℕ) (n : ℕ) → position l n < length l → member n l ≡ true
-unfolding position member
-position-member [] n h = absurd (not-suc-le-zero h)
-position-member (m ∷ l) n h =
-    ⊎_elim
-    (λ (q : m ≡ n). rw (eq-eqb n m (sym q)))
-    (λ q. rw (ne_eqb n m (λ r. q (sym r))) (position-member l n (rest q)))
-    (eq-or-ne m n)
+found : (l : List ℕ) (n : ℕ) → position_or_len (λ m. eqb m n) l ≡ position l n
+unfolding position
+found [] n = refl
+found (m ∷ l) n = by (eqb m n) (found l n)
   where
-    rest : (m ≡ n → ⊥) → position l n < length l
-    rest q = le_of_suc-le-suc (rw (ne_eqb m n q) at h)
+    by : (t : Bool) → position_or_len (λ m. eqb m n) l ≡ position l n → cond (not t) (1 + position_or_len (λ m. eqb m n) l) 0 ≡ (if t then 0 otherwise suc (position l n))
+    by true e = refl
+    by false e = omega arith
+
+-- of what the library's `position` answers
+pub placed : (l : List ℕ) (n : ℕ) (r : Option ℕ) → r ≡ first_place (λ m. eqb m n) l → MatchOption r (position l n ≡ length l) (λ i. (i ≡ position l n) × (i < length l))
+placed l n r e = rw (e, found l n) (by (ltb (position l n) (length l)) refl)
+  where
+    by : (t : Bool) → ltb (position l n) (length l) ≡ t → MatchOption (cond t (Some (position l n)) None) (position l n ≡ length l) (λ i. (i ≡ position l n) × (i < length l))
+    by true h = (refl, ltb-true _ _ h)
+    by false h = omega (arith, ltb-false _ _ h, position_le l n)
+
+pub position_is : (l : List ℕ) (n : ℕ) → unwrap_or (first_place (λ m. eqb m n) l) (length l) ≡ position l n
+position_is l n = rw (found l n) (by (ltb (position l n) (length l)) refl)
+  where
+    by : (t : Bool) → ltb (position l n) (length l) ≡ t → unwrap_or (cond t (Some (position l n)) None) (length l) ≡ position l n
+    by true h = refl
+    by false h = omega (arith, ltb-false _ _ h, position_le l n)
 
 -- ---- the right sources that are no left ones
 unfoldable pub is_new : List ℕ → ℕ → Bool
@@ -72,21 +58,38 @@ union_is left right = refl
 pub union_length : (left right : List ℕ) → length (union_support left right) ≡ length left + length (select (is_new left) right)
 union_length left right = ap length (union_is left right) ∙ length-append left (select (is_new left) right)
 
-module _ (left right : List ℕ) (i : ℕ) (h : i < length right) where
-  pub new_on : position left (get_or right i 0) ≡ length left → select (is_new left) (drop i right) ≡ get_or right i 0 ∷ select (is_new left) (drop (i + 1) right)
-  unfolding select is_new
-  new_on e = rw (drop-cons right i 0 h, member-position left (get_or right i 0) e, add-one)
+-- what `contains` answers
+pub contained : (l : List ℕ) (n : ℕ) → list_any (λ m. eqb m n) l ≡ member n l
+unfolding member
+contained [] n = refl
+contained (m ∷ l) n = ap₂ ◌||◌ (eqb_swap m n) (contained l n)
 
-  pub old_on : (position left (get_or right i 0) ≡ length left → ⊥) → select (is_new left) (drop i right) ≡ select (is_new left) (drop (i + 1) right)
+module _ (left right : List ℕ) (i : ℕ) (h : i < length right) where
+  pub new_on : member (get_or right i 0) left ≡ false → select (is_new left) (drop i right) ≡ get_or right i 0 ∷ select (is_new left) (drop (i + 1) right)
   unfolding select is_new
-  old_on e =
-      let k = position_le left (get_or right i 0) in
-      let l : position left (get_or right i 0) < length left = omega arith in
-      rw (drop-cons right i 0 h, position-member left (get_or right i 0) l, add-one)
+  new_on e = rw (drop-cons right i 0 h, e, add-one)
+
+  pub old_on : member (get_or right i 0) left ≡ true → select (is_new left) (drop i right) ≡ select (is_new left) (drop (i + 1) right)
+  unfolding select is_new
+  old_on e = rw (drop-cons right i 0 h, e, add-one)
 
 pub new_end : (left right : List ℕ) (i : ℕ) → length right ≤ i → select (is_new left) (drop i right) ≡ []
 unfolding select
 new_end left right i h = rw (drop_of_length-le right {i = i} h)
+
+-- the new ones counted
+counted : (left right : List ℕ) → count_by (λ n. not (list_any (λ m. eqb m n) left)) right ≡ length (select (is_new left) right)
+unfolding select is_new
+counted left [] = refl
+counted left (n ∷ right) = rw (sum_by-cons, contained left n) (by (member n left) (counted left right))
+  where
+    by : (t : Bool) → count_by (λ k. not (list_any (λ m. eqb m k) left)) right ≡ length (select (is_new left) right)
+        → cond (not t) 1 0 + count_by (λ k. not (list_any (λ m. eqb m k) left)) right ≡ length (if not t then n ∷ select (is_new left) right otherwise select (is_new left) right)
+    by true e = omega arith
+    by false e = omega arith
+
+pub union_count : (left right : List ℕ) (k : ℕ) → k ≡ count_by (λ n. not (list_any (λ m. eqb m n) left)) right → length left + k ≡ length (union_support left right)
+union_count left right k e = omega (arith, counted left right, union_length left right)
 
 -- ---- coefficients
 

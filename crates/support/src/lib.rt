@@ -1,7 +1,8 @@
 // The sources of two cones together, and the masks by which a row of one moves to its next row over them. It leans on no other code.
 #![tactic(auto)]
 
-ghost use Rattle.std.specs.Prelude.{◌≡◌, map, ℕ, ◌+◌, ◌≤◌, ◌<◌, ◌^◌, length, take, get_or};
+ghost use Rattle.std.specs.Prelude.{◌≡◌, map, ℕ, ◌+◌, ◌≤◌, ◌<◌, ◌^◌, ◌==◌, length, take, get_or};
+ghost use Rattle.std.specs.List.{position as first_place};
 ghost use Rattle.rules.specs.Composition.{union_support};
 ghost use Rattle.rules.specs.Store.{coefficient_of};
 ghost use Rattle.theorems.specs.Terms.{terms_over};
@@ -14,18 +15,18 @@ pub struct Support {
     pub nodes: [usize; 11],
 }
 
-// Where the node stands first; as many as there are where it does not stand.
+// Where the node stands first, if it stands there.
+fn place(nodes: &[usize], node: usize) -> Option<usize>
+    ensures { result ≡ first_place (λ n. n == node) nodes.now }
+{
+    nodes.iter().position(|&n| n == node)
+}
+
+// The same as a number, as many as there are where it does not stand: so the definition `position` has it, which the test program vectors_cones goes by.
 pub fn position(nodes: &[usize], node: usize) -> usize
     ensures { result ≡ position nodes.now node }
 {
-    let mut i = 0;
-    while i < nodes.len() {
-        if nodes[i] == node {
-            return i;
-        }
-        i += 1;
-    }
-    i
+    place(nodes, node).unwrap_or(nodes.len())
 }
 
 // union_support_size
@@ -33,15 +34,7 @@ pub fn union_support_size(left: &[usize], right: &[usize]) -> usize
     requires { length left.now + length right.now < 2 ^ 32 }
     ensures { result ≡ length (union_support left.now right.now) }
 {
-    let mut size = left.len();
-    let mut i = 0;
-    while i < right.len() {
-        if position(left, right[i]) == left.len() {
-            size += 1;
-        }
-        i += 1;
-    }
-    size
+    left.len() + right.iter().filter(|n| !left.contains(n)).count()
 }
 
 // The left sources.
@@ -49,13 +42,10 @@ fn left_support(left: &[usize]) -> Support
     requires { length left.now ≤ 11 }
     ensures { (result.n ≡ length left.now) × (take result.n result.nodes ≡ left.now) }
 {
-    let mut nodes = [0usize; 11];
-    let mut i = 0;
-    while i < left.len() {
-        nodes[i] = left[i];
-        i += 1;
-    }
-    Support { n: i, nodes }
+    let n = left.len();
+    let mut nodes = [0; 11];
+    nodes[..n].copy_from_slice(left);
+    Support { n, nodes }
 }
 
 // union_support: the left sources, and after them the right ones that are not among them.
@@ -64,15 +54,11 @@ pub fn union_support(left: &[usize], right: &[usize]) -> Support
     ensures { (result.n ≡ length (union_support left.now right.now)) × (take result.n result.nodes ≡ union_support left.now right.now) }
 {
     let mut s = left_support(left);
-    let mut i = 0;
-    while i < right.len() {
-        let node = right[i];
-        if position(left, node) == left.len() {
-            let n = s.n;
-            s.nodes[n] = node;
-            s.n = n + 1;
+    for &node in right {
+        if !left.contains(&node) {
+            s.nodes[s.n] = node;
+            s.n += 1;
         }
-        i += 1;
     }
     s
 }
@@ -82,8 +68,10 @@ pub fn coefficient(sources: &[usize], coefs: &[i64], node: usize) -> i64
     requires { length sources.now ≡ length coefs.now }
     ensures { result ≡ coefficient_of (terms_over coefs.now sources.now) node }
 {
-    let at = position(sources, node);
-    if at < coefs.len() { coefs[at] } else { 0 }
+    match place(sources, node) {
+        Some(at) => coefs[at],
+        None => 0,
+    }
 }
 
 // The coefficients of the nodes of a support.
@@ -91,11 +79,9 @@ pub fn coefficients_over(support: &[usize], sources: &[usize], coefs: &[i64]) ->
     requires { (length support.now ≤ 11) × (length sources.now ≡ length coefs.now) }
     ensures { take (length support.now) result ≡ map (coefficient_of (terms_over coefs.now sources.now)) support.now }
 {
-    let mut r = [0i64; 11];
-    let mut i = 0;
-    while i < support.len() {
-        r[i] = coefficient(sources, coefs, support[i]);
-        i += 1;
+    let mut r = [0; 11];
+    for (i, &node) in support.iter().enumerate() {
+        r[i] = coefficient(sources, coefs, node);
     }
     r
 }
@@ -105,17 +91,13 @@ fn source_masks(support: &[usize], sources: &[usize]) -> [usize; 12]
     requires { (length support.now ≤ 11) × (length sources.now ≤ 11) }
     ensures { (z : ℕ) → z < 12 → get_or result z 0 ≡ hit_mask support.now sources.now z }
 {
-    let mut masks = [0usize; 12];
+    let mut masks = [0; 12];
     let mut bit = 1;
-    let mut i = sources.len();
-    while 0 < i {
-        i -= 1;
-        let at = position(support, sources[i]);
-        if at < support.len() {
-            let shift = support.len() - at - 1;
-            masks[shift] = masks[shift] | bit;
+    for &source in sources.iter().rev() {
+        if let Some(at) = place(support, source) {
+            masks[support.len() - at - 1] |= bit;
         }
-        bit = bit + bit;
+        bit += bit;
     }
     masks
 }
@@ -126,10 +108,8 @@ pub fn toggle_masks(support: &[usize], sources: &[usize]) -> [usize; 12]
     ensures { (z : ℕ) → z < 12 → get_or result z 0 ≡ toggle_mask support.now sources.now z }
 {
     let mut masks = source_masks(support, sources);
-    let mut shift = 1;
-    while shift < 12 {
-        masks[shift] = masks[shift] | masks[shift - 1];
-        shift += 1;
+    for shift in 1..12 {
+        masks[shift] |= masks[shift - 1];
     }
     masks
 }

@@ -1,7 +1,6 @@
 -- A value of any size is read up to a cap: what the code has is the capped value, what the reader takes is the value itself.
 use Rattle.std.specs.Prelude.{◌≡◌, List, ℕ}
 use Rattle.std.proofs.Math.Path.{refl, sym, ap}
-use Rattle.std.proofs.Common.{◌∙◌}
 use Rattle.std.proofs.Math.Option.{Option, none, some, some-injective, none-ne-some}
 use Rattle.rules.specs.Form.{Piece}
 
@@ -11,10 +10,6 @@ capped f none = none
 capped f (some p) = some (record { value = f p.value; rest = p.rest })
 
 module _ {A : Type 0} (f : A → A) {v : A} {x : List ℕ} where
-  pub capped_some : {o : Option (Piece A)} {u : A} → o ≡ some (record { value = u; rest = x }) → v ≡ f u → some (record { value = v; rest = x }) ≡ capped f o
-  unfolding capped
-  capped_some e h = ap (λ w. some (record { value = w; rest = x })) h ∙ sym (ap (capped f) e)
-
   -- what it was before the cap
   pub exact_some : (o : Option (Piece A)) → capped f o ≡ some (record { value = v; rest = x }) → (u : A) × (o ≡ some (record { value = u; rest = x })) × (v ≡ f u)
   unfolding capped
@@ -24,10 +19,6 @@ module _ {A : Type 0} (f : A → A) {v : A} {x : List ℕ} where
       (p.value, ap (λ y. some (record { value = p.value; rest = y })) (ap (λ t. t.rest) q), sym (ap (λ t. t.value) q))
 
 module _ {A : Type 0} (f : A → A) where
-  pub capped_none : {o : Option (Piece A)} → o ≡ none → none ≡ capped f o
-  unfolding capped
-  capped_none e = sym (ap (capped f) e)
-
   pub exact_none : (o : Option (Piece A)) → capped f o ≡ none → o ≡ none
   unfolding capped
   exact_none none e = refl

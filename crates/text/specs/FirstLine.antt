@@ -1,24 +1,64 @@
--- A form ends with a newline and has no other, so it is read from a whole text as from its first line.
+-- The first line of some bytes, and that a form, which ends with a newline and has no other, is read from a whole text as from its first line.
 use Rattle.std.specs.Prelude.{◌≡◌, Bool, take, drop}
 use Rattle.std.proofs.Math.Path.{refl, sym, ap, subst}
-use Rattle.std.proofs.Common.{◌∙◌, eqb-true, length-take, drop-drop}
+use Rattle.std.proofs.Common.{◌∙◌, eqb-true, length-take, length-drop, not-suc-le-zero}
 use Rattle.std.proofs.Math.Bool.{true, false}
 use mathlib.Core.List.{List, [], ◌∷◌, ◌++◌}
 use Rattle.std.proofs.Math.Option.{Option, none, some}
-use Prim.Native.Nat.{ℕ, zero, suc, ◌+◌, ◌-◌, ◌≤◌}
+use Prim.Native.Nat.{ℕ, zero, suc, ◌<◌, ◌≤◌}
 use native.Mathlib.Omega.{arith}
 use Rattle.std.proofs.Math.Dec.{eqb}
-use Rattle.std.proofs.Math.ListN.{length, length-drop}
-use Rattle.laws.specs.Test.{if◌then◌otherwise◌, zero≢one}
-use Rattle.rules.specs.Form.{Piece, Reader, give, onward, either, only, gather, up_to, many, exactly, run_of, run}
-use Rattle.text.specs.Line.{line_length, line_stop, line_within}
+use Rattle.std.proofs.Math.ListN.{length}
+use Rattle.laws.specs.Test.{if◌then◌otherwise◌, zero≢one, if_both}
+use Rattle.rules.specs.Form.{lines, before, Piece, Reader, give, onward, either, only, gather, up_to, many, exactly, run_of, run}
 use Rattle.text.specs.Many.{Takes, enough}
+
+unfoldable pub line_length : List ℕ → ℕ
+line_length [] = 0
+line_length (b ∷ s) = if eqb b 10 then 1 otherwise suc (line_length s)
 
 unfoldable pub first_line : List ℕ → List ℕ
 first_line l = take (line_length l) l
 
 unfoldable pub after_line : List ℕ → List ℕ
 after_line l = drop (line_length l) l
+
+pub no_lines : (s : List ℕ) → length s ≡ 0 → lines s ≡ []
+unfolding lines
+no_lines [] h = refl
+no_lines (b ∷ s) h = absurd (omega arith)
+
+lines_from : (b : ℕ) (s : List ℕ) → lines (b ∷ s) ≡ first_line (b ∷ s) ∷ lines (after_line (b ∷ s))
+unfolding lines before line_length first_line after_line
+lines_from b [] = by (eqb b 10)
+  where
+    by : (t : Bool) → (if t then (b ∷ []) ∷ [] otherwise (b ∷ []) ∷ []) ≡ take (if t then 1 otherwise 1) (b ∷ []) ∷ lines (drop (if t then 1 otherwise 1) (b ∷ []))
+    by true = refl
+    by false = refl
+lines_from b (d ∷ s) = by (eqb b 10) (lines_from d s)
+  where
+    l : List ℕ
+    l = d ∷ s
+
+    by : (t : Bool) → lines l ≡ take (line_length l) l ∷ lines (drop (line_length l) l)
+        → (if t then (b ∷ []) ∷ lines l otherwise before b (lines l))
+        ≡ take (if t then 1 otherwise suc (line_length l)) (b ∷ l) ∷ lines (drop (if t then 1 otherwise suc (line_length l)) (b ∷ l))
+    by true e = refl
+    by false e = ap (before b) e
+
+pub lines_cons : (s : List ℕ) → 0 < length s → lines s ≡ first_line s ∷ lines (after_line s)
+lines_cons [] h = absurd (not-suc-le-zero h)
+lines_cons (b ∷ s) h = lines_from b s
+
+some_bytes : (l : List ℕ) → 0 < length l → 0 < line_length l
+unfolding line_length
+some_bytes [] h = h
+some_bytes (b ∷ s) h = if_both (λ n. 0 < n) (eqb b 10) (omega arith) (omega arith)
+
+-- The line takes a byte at least.
+pub after_shorter : (s : List ℕ) → 0 < length s → length (after_line s) < length s
+unfolding after_line
+after_shorter s h = omega (arith, some_bytes s h, length-drop (line_length s) s)
 
 -- A byte that is no newline, and one that is.
 module _ (b : ℕ) (s : List ℕ) where
@@ -253,15 +293,3 @@ module _ {A : Type 0} {r : Reader A} (h : Closes r) (l : List ℕ) where
   pub whole_none : r l ≡ none → only (r (first_line l)) ≡ none
   unfolding only
   whole_none e = ap only (subst (λ o. Whole l o (r (first_line l))) e (h.whole l))
-
--- At a place of the text.
-module _ (s : List ℕ) (a : ℕ) where
-  pub first-is : (e : ℕ) → e ≡ line_stop s a → take (e - a) (drop a s) ≡ first_line (drop a s)
-  unfolding first_line line_stop
-  first-is e k = let n : e - a ≡ line_length (drop a s) = omega arith in rw n
-
-  pub after_is : (e : ℕ) → e ≤ length s → a ≤ length s → drop e s ≡ after_line (drop a s) → e ≡ line_stop s a
-  unfolding after_line line_stop
-  after_is e h i k =
-      let q : length s - e ≡ length s - (a + line_length (drop a s)) = sym (length-drop e s) ∙ (ap length k ∙ (ap length (drop-drop (line_length (drop a s)) a s) ∙ length-drop _ s)) in
-      omega (arith, line_within (drop a s), length-drop a s)

@@ -1,5 +1,5 @@
 -- Lines in turn: the code computes the number of the first condition that a line meets, 0 for none, and goes by that number.
-use Rattle.std.specs.Prelude.{◌≡◌, Bool, ℕ, ◌+◌, ◌-◌, ◌<◌, ◌≤◌, length, take, drop}
+use Rattle.std.specs.Prelude.{◌≡◌, Bool, ℕ, ◌+◌, ◌<◌, length}
 use Rattle.std.proofs.Math.Path.{refl, ap}
 use Rattle.std.proofs.Common.{sym, arith}
 use Rattle.std.proofs.Math.Bool.{true, false}
@@ -7,7 +7,7 @@ use mathlib.Core.List.{List, [], ◌∷◌}
 use Rattle.std.proofs.Math.Option.{Option, none, some}
 use Rattle.laws.specs.Test.{if◌then◌otherwise◌}
 use Rattle.rules.specs.Form.{Condition, Reading, Refused, judged, on_line, read_lines, lines}
-use Rattle.text.specs.Line.{LineEnd, no_lines}
+use Rattle.text.specs.FirstLine.{first_line, after_line, no_lines, lines_cons}
 
 unfoldable pub lowest : List Condition → ℕ
 lowest [] = 0
@@ -48,28 +48,28 @@ module _ {A : Type 0} (i : ℕ) where
       by true d f = ap (λ m. Refused m i) d
       by false d f = f d
 
--- ---- The lines from a place of the text on.
+-- ---- The lines of the bytes that are left.
 
 module _ {S L A : Type 0} (form : List ℕ → Option L) (no_form : ℕ) (conditions : S → L → List Condition) (with_line : ℕ → S → L → S)
     (ended : ℕ → S → Reading A) where
-  unfoldable pub read_from : List ℕ → ℕ → S → ℕ → Reading A
-  read_from s i c at = read_lines form no_form conditions with_line ended i c (lines (drop at s))
+  unfoldable pub read_from : ℕ → S → List ℕ → Reading A
+  read_from i c s = read_lines form no_form conditions with_line ended i c (lines s)
 
-  module _ (s : List ℕ) (i : ℕ) (c : S) (a : ℕ) where
-    pub read_end : length s ≤ a → read_from s i c a ≡ ended i c
+  module _ (i : ℕ) (c : S) (s : List ℕ) where
+    pub read_end : length s ≡ 0 → read_from i c s ≡ ended i c
     unfolding read_from read_lines
-    read_end h = rw (no_lines s a h)
+    read_end h = rw (no_lines s h)
 
-    module _ (e : ℕ) (h : LineEnd s a e) where
-      pub read_no-form : form (take (e - a) (drop a s)) ≡ none → read_from s i c a ≡ Refused no_form i
+    module _ (h : 0 < length s) where
+      pub read_no_form : form (first_line s) ≡ none → read_from i c s ≡ Refused no_form i
       unfolding read_from read_lines on_line
-      read_no-form f = rw (h.line, f)
+      read_no_form f = rw (lines_cons s h, f)
 
-      pub read_refused : (l : L) (n : ℕ) → form (take (e - a) (drop a s)) ≡ some l → lowest (conditions c l) ≡ n → (n ≡ 0 → ⊥) → read_from s i c a ≡ Refused n i
+      pub read_refused : (l : L) (n : ℕ) → form (first_line s) ≡ some l → lowest (conditions c l) ≡ n → (n ≡ 0 → ⊥) → read_from i c s ≡ Refused n i
       unfolding read_from read_lines on_line
-      read_refused l n f k g = rw (h.line, f) (judged_bad i (conditions c l) _ n k g)
+      read_refused l n f k g = rw (lines_cons s h, f) (judged_bad i (conditions c l) _ n k g)
 
-      pub read_next : (l : L) → form (take (e - a) (drop a s)) ≡ some l → Numbered (conditions c l) → lowest (conditions c l) ≡ 0
-          → read_from s i c a ≡ read_from s (i + 1) (with_line i c l) e
+      pub read_next : (l : L) → form (first_line s) ≡ some l → Numbered (conditions c l) → lowest (conditions c l) ≡ 0
+          → read_from i c s ≡ read_from (i + 1) (with_line i c l) (after_line s)
       unfolding read_from read_lines on_line
-      read_next l f p k = rw (h.line, f) (judged_good i (conditions c l) _ p k)
+      read_next l f p k = rw (lines_cons s h, f) (judged_good i (conditions c l) _ p k)

@@ -1,15 +1,11 @@
--- How the code's answers stand for the readers of crates/rules.
-pub mod Reads
-pub mod Line
-pub mod Judged
-pub mod Cap
-pub mod Many
+-- How the code's answers stand for the readers of crates/rules, and what the crates above cite of lines, names and numbers.
+pub mod Pieces
 pub mod FirstLine
-pub mod Exactly
-pub mod Run
-pub mod Chain
-pub mod Number
+pub mod Judged
+pub mod Many
 pub mod Capped
-pub mod Same
+pub mod Cap
+pub mod Number
 pub mod Decimal
 pub mod Name
+pub mod Same

@@ -3,7 +3,7 @@ use Rattle.std.specs.Prelude.{◌≡◌, Bool, true, false, eqb, drop}
 use Rattle.std.proofs.Math.Path.{refl, ap}
 use Rattle.std.proofs.Common.{subst, ◌∙◌, length-drop}
 use mathlib.Core.List.{List, [], ◌∷◌}
-use Rattle.std.proofs.Math.Option.{Option, none, some, some-injective}
+use Rattle.std.proofs.Math.Option.{Option, none, some, some-injective, none-ne-some}
 use Prim.Native.Nat.{ℕ, zero, suc, ◌<◌, ◌≤◌}
 use native.Mathlib.Omega.{arith}
 use Rattle.std.proofs.Math.ListN.{length}
@@ -17,16 +17,13 @@ Keeps {A} r = (s : List ℕ) (t : Piece A) → r s ≡ some t → length t.rest 
 abbrev pub Takes : {A : Type 0} → Reader A → Type 0
 Takes {A} r = (s : List ℕ) (t : Piece A) → r s ≡ some t → length t.rest < length s
 
-no-piece : {A : Type 0} (t : A) → none ≡ some t → ⊥
-no-piece t e = let z : ◌≡◌ {A = ℕ} 0 1 = cc in omega arith
-
 module _ {A B : Type 0} {r : Reader A} {f : A → Reader B} where
   pub keeps_then : Keeps r → ((a : A) → Keeps (f a)) → Keeps (λ s. onward (r s) f)
   unfolding onward
   keeps_then k g s t = by (r s) refl
     where
       by : (o : Option (Piece A)) → r s ≡ o → onward o f ≡ some t → length t.rest ≤ length s
-      by none e d = absurd (no-piece t d)
+      by none e d = absurd (none-ne-some t d)
       by (some p) e d = let h = k s p e in let i = g p.value p.rest t d in omega arith
 
   pub takes_then : Takes r → ((a : A) → Keeps (f a)) → Takes (λ s. onward (r s) f)
@@ -34,7 +31,7 @@ module _ {A B : Type 0} {r : Reader A} {f : A → Reader B} where
   takes_then k g s t = by (r s) refl
     where
       by : (o : Option (Piece A)) → r s ≡ o → onward o f ≡ some t → length t.rest < length s
-      by none e d = absurd (no-piece t d)
+      by none e d = absurd (none-ne-some t d)
       by (some p) e d = let h = k s p e in let i = g p.value p.rest t d in omega arith
 
 module _ {A : Type 0} where
@@ -52,21 +49,21 @@ module _ {A : Type 0} where
 pub keeps_word : (w : List ℕ) → Keeps (exactly w)
 unfolding exactly
 keeps_word [] s t e = keeps_give tt s t e
-keeps_word (w ∷ ws) [] t e = absurd (no-piece t e)
+keeps_word (w ∷ ws) [] t e = absurd (none-ne-some t e)
 keeps_word (w ∷ ws) (b ∷ s) t e = by (eqb b w) e (keeps_word ws s t)
   where
     by : (c : Bool) → (if c then exactly ws s otherwise none) ≡ some t → (exactly ws s ≡ some t → length t.rest ≤ length s) → length t.rest ≤ suc (length s)
     by true d k = let h = k d in omega arith
-    by false d k = absurd (no-piece t d)
+    by false d k = absurd (none-ne-some t d)
 
 pub takes_word : (w : ℕ) (ws : List ℕ) → Takes (exactly (w ∷ ws))
 unfolding exactly
-takes_word w ws [] t e = absurd (no-piece t e)
+takes_word w ws [] t e = absurd (none-ne-some t e)
 takes_word w ws (b ∷ s) t e = by (eqb b w) e
   where
     by : (c : Bool) → (if c then exactly ws s otherwise none) ≡ some t → length t.rest < suc (length s)
     by true d = let h = keeps_word ws s t d in omega arith
-    by false d = absurd (no-piece t d)
+    by false d = absurd (none-ne-some t d)
 
 pub keeps_run : (f : ℕ → Bool) (good : List ℕ → Bool) → Keeps (run_of f good)
 unfolding run_of
@@ -74,7 +71,7 @@ keeps_run f good s t = by (run f s) (good (run f s))
   where
     by : (w : List ℕ) (c : Bool) → (if c then give w (drop (length w) s) otherwise none) ≡ some t → length t.rest ≤ length s
     by w true e = subst (λ p. length p.rest ≤ length s) (some-injective _ _ e) (simp length-drop (omega arith))
-    by w false e = absurd (no-piece t e)
+    by w false e = absurd (none-ne-some t e)
 
 pub keeps_number : Keeps number
 unfolding number

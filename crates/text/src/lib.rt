@@ -1,207 +1,129 @@
-// The pieces of a text: where a line ends, words, names, bits and numbers, each read from a place of the text; and bytes compared.
-// It leans on no other code.
+// The pieces of a text: where its first line ends, words, names, bits and numbers, each read from the front of some bytes and
+// handed on with the bytes that are left. It leans on no other code.
 #![tactic(auto)]
 
-ghost use Rattle.std.specs.Prelude.{◌≡◌, ◌+◌, ◌*◌, ◌-◌, ◌<◌, ◌≤◌, min, length, take, drop};
-ghost use Rattle.rules.specs.CircuitText.{same_name};
-ghost use Rattle.rules.specs.Form.{exactly, is_digit, is_name_byte, is_bit_byte, name, bits};
-ghost use Rattle.text.specs.Line.{LineEnd};
-ghost use Rattle.text.specs.Number.{ReadsNumber, digits_value};
-ghost use Rattle.text.specs.Run.{RunEnd, is_of};
-ghost use Rattle.text.specs.Reads.{Reads, passed, taken, bits_taken, end_of};
+ghost use Rattle.std.specs.Prelude.{◌≡◌, min, ℕ, Bool, List};
+ghost use Rattle.rules.specs.Form.{exactly, is_digit, is_name_byte, is_bit_byte, is_name, is_number, is_bits, name, bits, run_of, number, value_from, bits_from};
+ghost use Rattle.text.specs.Capped.{capped};
+ghost use Rattle.text.specs.FirstLine.{first_line, after_line};
+ghost use Rattle.text.specs.Pieces.{passed, piece, part, part_as};
+ghost use Rattle.text.specs.Number.{cap_number};
 
-// Where the line from `at` on ends: behind its newline, or at the text's end.
-pub fn line_end(s: &[u8], at: usize) -> usize
-    requires { at < length s.now }
-    ensures { LineEnd s.now at result }
+// The first line, its newline with it, and what is left.
+pub fn split_line(s: &[u8]) -> (&[u8], &[u8])
+    ensures line { result.0.now ≡ first_line s.now }
+    ensures rest { result.1.now ≡ after_line s.now }
 {
-    let mut i = at;
-    while i < s.len() {
-        if s[i] == b'\n' {
-            return i + 1;
-        }
-        i += 1;
-    }
-    i
+    let end = s.iter().position(|&b| b == b'\n').unwrap_or(s.len());
+    s.split_at((end + 1).min(s.len()))
 }
 
-// Where a piece ends.
-#[derive(Clone, Copy)]
-pub enum Found {
-    At(usize),
-    Nothing,
-}
-
-// The word w, from `at` on.
-pub fn read_word(s: &[u8], at: usize, w: &[u8]) -> Found
-    requires { at ≤ length s.now }
-    ensures { Reads (length s.now) (passed s.now result) (end_of result) (exactly w.now (drop at s.now)) }
+// The word w.
+#[tactic(auto, using(crate::proofs::Word::word_found))]
+pub fn read_word<'a>(s: &'a [u8], w: &[u8]) -> Option<&'a [u8]>
+    ensures { passed result ≡ exactly w.now s.now }
 {
-    let mut i = 0;
-    while i < w.len() {
-        if s.len() - at <= i {
-            return Found::Nothing;
-        }
-        if s[at + i] != w[i] {
-            return Found::Nothing;
-        }
-        i += 1;
-    }
-    Found::At(at + i)
+    s.strip_prefix(w)
 }
 
-// The bytes that a run is made of.
-#[derive(Clone, Copy)]
-enum Kind {
-    NameByte,
-    Digit,
-    BitByte,
-}
-
+#[tactic(auto, unfolding(rules::specs::Form::is_digit))]
 fn is_digit(b: u8) -> bool
     ensures { result ≡ is_digit b }
 {
-    if b < b'0' {
-        return false;
-    }
-    b <= b'9'
+    b.is_ascii_digit()
 }
 
+#[tactic(auto, unfolding(rules::specs::Form::is_name_byte))]
 fn is_name_byte(b: u8) -> bool
     ensures { result ≡ is_name_byte b }
 {
-    if b'a' <= b {
-        return b <= b'z';
-    }
-    if b == b'_' {
-        return true;
-    }
-    is_digit(b)
+    matches!(b, b'a'..=b'z' | b'0'..=b'9' | b'_')
 }
 
+#[tactic(auto, unfolding(rules::specs::Form::is_bit_byte))]
 fn is_bit_byte(b: u8) -> bool
     ensures { result ≡ is_bit_byte b }
 {
-    if b == b'0' {
-        return true;
-    }
-    b == b'1'
+    matches!(b, b'0' | b'1')
 }
 
-fn is_of(kind: Kind, b: u8) -> bool
-    ensures { result ≡ is_of kind b }
+#[tactic(auto, unfolding(rules::specs::Form::is_name))]
+fn is_name(w: &[u8]) -> bool
+    ensures { result ≡ is_name w.now }
 {
-    match kind {
-        Kind::NameByte => is_name_byte(b),
-        Kind::Digit => is_digit(b),
-        Kind::BitByte => is_bit_byte(b),
-    }
+    matches!(w.len(), 1..=16)
 }
 
-// Where the run of such bytes from `at` on ends.
-fn run_end(s: &[u8], at: usize, kind: Kind) -> usize
-    requires { at ≤ length s.now }
-    ensures { RunEnd (is_of kind) s.now at result }
+#[tactic(auto, unfolding(rules::specs::Form::is_number))]
+fn is_number(w: &[u8]) -> bool
+    ensures { result ≡ is_number w.now }
 {
-    let mut i = at;
-    while i < s.len() {
-        if !is_of(kind, s[i]) {
-            return i;
-        }
-        i += 1;
-    }
-    i
+    w.len() == 1 || !w.is_empty() && w[0] != b'0'
 }
 
-// A name of 1 to 16 bytes, from `at` on.
-pub fn read_name(s: &[u8], at: usize) -> Found
-    requires { at ≤ length s.now }
-    ensures { Reads (length s.now) (taken s.now at result) (end_of result) (name (drop at s.now)) }
+#[tactic(auto, unfolding(rules::specs::Form::is_bits))]
+fn is_bits(w: &[u8]) -> bool
+    ensures { result ≡ is_bits w.now }
 {
-    let e = run_end(s, at, Kind::NameByte);
-    if e == at {
-        return Found::Nothing;
-    }
-    if 16 < e - at {
-        return Found::Nothing;
-    }
-    Found::At(e)
+    !w.is_empty()
 }
 
-// One or more bits, from `at` on.
-pub fn read_bits(s: &[u8], at: usize) -> Found
-    requires { at ≤ length s.now }
-    ensures { Reads (length s.now) (bits_taken s.now at result) (end_of result) (bits (drop at s.now)) }
+// The bytes at the front that are of a kind, if they are good ones, and what is left.
+fn read_run<'a, F: Fn(u8) -> bool, G: Fn(&[u8]) -> bool>(
+    s: &'a [u8],
+    is_kind: F,
+    is_good: G,
+) -> Option<(&'a [u8], &'a [u8])>
+    requires kind { (f : _) (x : _) → F.pre f x }
+    requires good { (f : _) (x : _) → G.pre f x }
+    ensures { (f : ℕ → Bool) (g : List ℕ → Bool) → ((b : ℕ) (r : Bool) → F.post is_kind b r → r ≡ f b)
+        → ((w : _) (r : Bool) → G.post is_good w r → r ≡ g w.now) → part result ≡ run_of f g s.now }
 {
-    let e = run_end(s, at, Kind::BitByte);
-    if e == at {
-        return Found::Nothing;
-    }
-    Found::At(e)
+    let end = s.iter().position(|&b| !is_kind(b)).unwrap_or(s.len());
+    let (run, rest) = s.split_at(end);
+    is_good(run).then_some((run, rest))
 }
 
-// A number: its value, at most 65536, and where it ends.
-#[derive(Clone, Copy)]
-pub enum Number {
-    At(usize, usize),
-    Nothing,
-}
-
-// One more digit.
-fn with_digit(v: usize, b: u8) -> usize
-    requires { (v ≤ 65536) × (48 ≤ b) }
-    ensures { result ≡ min 65536 (10 * v + (b - 48)) }
+// A name of 1 to 16 bytes.
+#[tactic(auto, unfolding(rules::specs::Form::name))]
+pub fn read_name(s: &[u8]) -> Option<(&[u8], &[u8])>
+    ensures { part result ≡ name s.now }
 {
-    let w = 10 * v + ((b - b'0') as usize);
-    if w < 65536 { w } else { 65536 }
+    read_run(s, is_name_byte, is_name)
 }
 
-// The value of a run of digits.
-fn value_of(s: &[u8], at: usize, end: usize) -> usize
-    requires { RunEnd is_digit s.now at end }
-    ensures { result ≡ min 65536 (digits_value s.now at end) }
+// One or more bits, as they stand in the text.
+#[tactic(auto, using(crate::proofs::Run::bits_taken), unfolding(rules::specs::Form::bits))]
+pub fn read_bits(s: &[u8]) -> Option<(&[u8], &[u8])>
+    ensures { part_as bits_from result ≡ bits s.now }
+{
+    read_run(s, is_bit_byte, is_bits)
+}
+
+// The digits of a number: 0, or digits without a leading zero.
+pub fn read_digits(s: &[u8]) -> Option<(&[u8], &[u8])>
+    ensures { part result ≡ run_of is_digit is_number s.now }
+{
+    read_run(s, is_digit, is_number)
+}
+
+// The value of some digits, up to 65536.
+#[tactic(auto, using(crate::proofs::Number::value_more), unfolding(rules::specs::Form::value_from))]
+pub fn value_of(digits: &[u8]) -> usize
+    ensures { result ≡ min 65536 (value_from 0 digits.now) }
 {
     let mut v = 0;
-    let mut i = at;
-    while i < end {
-        v = with_digit(v, s[i]);
-        i += 1;
+    for b in digits {
+        v = (10 * v + (b.saturating_sub(b'0') as usize)).min(65536);
     }
     v
 }
 
-// A number without a leading zero, from `at` on.
-pub fn read_number(s: &[u8], at: usize) -> Number
-    requires { at ≤ length s.now }
-    ensures { ReadsNumber s.now at result }
+// A number, its value up to 65536.
+#[tactic(auto, unfolding(rules::specs::Form::number, rules::specs::Form::onward, crate::specs::Capped::capped))]
+pub fn read_number(s: &[u8]) -> Option<(usize, &[u8])>
+    ensures { piece result ≡ capped cap_number (number s.now) }
 {
-    let e = run_end(s, at, Kind::Digit);
-    if e == at {
-        return Number::Nothing;
-    }
-    if s[at] == b'0' {
-        if e - at == 1 {
-            return Number::At(0, e);
-        }
-        return Number::Nothing;
-    }
-    Number::At(value_of(s, at, e), e)
-}
-
-// Whether s from a up to e has the same bytes as t from b up to f.
-pub fn is_same(s: &[u8], a: usize, e: usize, t: &[u8], b: usize, f: usize) -> bool
-    requires { ((a ≤ e) × (e ≤ length s.now)) × ((b ≤ f) × (f ≤ length t.now)) }
-    ensures { result ≡ same_name (take (e - a) (drop a s.now)) (take (f - b) (drop b t.now)) }
-{
-    if e - a != f - b {
-        return false;
-    }
-    let mut i = 0;
-    while i < e - a {
-        if s[a + i] != t[b + i] {
-            return false;
-        }
-        i += 1;
-    }
-    true
+    let (digits, rest) = read_digits(s)?;
+    Some((value_of(digits), rest))
 }

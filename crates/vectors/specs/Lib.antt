@@ -1,3 +1,4 @@
 -- Numbers of a text, as the programs that replay stored cases read them.
 pub mod Token
-pub mod Tokens
+pub mod Shorter
+pub mod Numbers

@@ -1,119 +1,125 @@
-// Numbers of a text, and input and output by bytes, for programs that replay stored cases. It leans on std alone.
+// Numbers of a text, and input by bytes, for programs that replay stored cases. It leans on std alone.
 #![tactic(auto)]
 
-ghost use Rattle.std.specs.Prelude.{◌≡◌, ◌≤◌, min, length};
-ghost use Rattle.vectors.specs.Token.{is_digit, starts_number, skipped, with_digit, digits_at, next_token, signed_of};
+ghost use Rattle.std.specs.Prelude.{◌≡◌, ◌<◌, ◌≤◌, length, position, OnSome};
+ghost use Rattle.std.specs.Iterator.{at_most};
+ghost use Rattle.vectors.specs.Numbers.{numbers, Filled};
+ghost use Rattle.vectors.specs.Token.{starts_number, with_digit, read, digits, next_token, told, signed_of};
 
 use std::io::Read;
 
-// A number of a text: its absolute value, its sign, and where the text goes on.
-#[derive(Clone, Copy)]
+// A number of a text: its absolute value and its sign.
+#[derive(Clone, Copy, Default)]
 pub struct Token {
     pub value: u64,
     pub negative: bool,
-    pub next: usize,
 }
 
-fn is_digit(b: u8) -> bool
-    ensures { result ≡ is_digit b }
-{
-    48 <= b && b <= 57
-}
-
-// A digit or a minus.
-fn starts_number(b: u8) -> bool
-    ensures { result ≡ starts_number b }
-{
-    is_digit(b) || b == b'-'
-}
-
-// Where the next digit or minus stands, or the text's end.
-pub fn skip(text: &[u8], from: usize) -> usize
-    ensures { result ≡ skipped text.now from }
-{
-    let mut i = from;
-    while i < text.len() {
-        if starts_number(text[i]) {
-            return i;
+impl Token {
+    // A 32-bit value; the least one where a number is too large.
+    #[tactic(auto, unfolding(crate::specs::Token::signed_of))]
+    pub fn signed(self) -> i32
+        ensures { result ≡ signed_of self }
+    {
+        match i32::try_from(self.value) {
+            Ok(v) if self.negative => -v,
+            Ok(v) => v,
+            Err(_) => i32::MIN,
         }
-        i += 1;
     }
-    i
 }
 
-// One digit more, which is the byte modulo 16; where that would not fit, the value stays.
-fn with_digit(value: u64, b: u8) -> u64
-    ensures { result ≡ with_digit value b }
+// One digit more, whose low four bits are its value.
+fn with_digit(value: u64, digit: u8) -> u64
+    ensures { result ≡ with_digit value digit }
 {
-    if value < 1000000000000000000 {
-        10 * value + ((b % 16) as u64)
-    } else {
-        value
-    }
+    value
+        .saturating_mul(10)
+        .saturating_add(u64::from(digit % 16))
 }
 
-// The digits from a place on.
-fn digits(text: &[u8], from: usize, negative: bool) -> Token
-    ensures { result ≡ digits_at text.now negative 0 from }
+// Where the next digit or minus stands.
+fn next_start(text: &[u8]) -> Option<usize>
+    ensures { result ≡ position starts_number text.now }
+{
+    text.iter().position(|b| *b == b'-' || b.is_ascii_digit())
+}
+
+// The number whose digits are in front, and what comes after them.
+fn number(text: &[u8]) -> (u64, &[u8])
+    ensures read { read result.0 result.1.now ≡ digits 0 text.now }
+    ensures shorter { length result.1.now ≤ length text.now }
 {
     let mut value = 0;
-    let mut i = from;
-    while i < text.len() {
-        let b = text[i];
-        if !is_digit(b) {
-            return Token {
-                value,
-                negative,
-                next: i,
-            };
+    let mut rest = text;
+    while let [b, after @ ..] = rest
+        && b.is_ascii_digit()
+    {
+        value = with_digit(value, *b);
+        rest = after;
+    }
+    (value, rest)
+}
+
+// The numbers of a text, one after the other, with what is left of it.
+#[derive(Drop)]
+pub struct Tokens<'a> {
+    pub rest: &'a [u8],
+}
+
+impl<'a> Iterator for Tokens<'a> {
+    type Item = Token;
+
+    ghost next_gives = { λ s r t. told r t.rest.now ≡ next_token s.rest.now };
+
+    ghost remaining = { λ s. at_most (length s.rest.now) };
+
+    #[tactic(auto, unfolding(crate::specs::Token::next_token))]
+    fn next(&mut self) -> Option<Token> {
+        let start = next_start(self.rest)?;
+        let negative = self.rest[start] == b'-';
+        let (value, rest) = number(&self.rest[start + usize::from(negative)..]);
+        self.rest = rest;
+        Some(Token { value, negative })
+    }
+}
+
+impl<'a> Tokens<'a> {
+    // The numbers of an input, as far as the buffer reaches.
+    pub fn read<R: Read>(input: &mut R, buffer: &'a mut [u8]) -> Tokens<'a> {
+        let n = read_full(input, buffer);
+        Tokens { rest: &buffer[..n] }
+    }
+
+    // The next numbers into the list, where there are as many.
+    pub fn fill(&mut self, list: &mut [Token]) -> Option<()>
+        ensures numbers { Filled (numbers (length list.old) self.old.rest.now) result list.new self.new.rest.now }
+        ensures shorter { OnSome result (length self.new.rest.now ≤ length self.old.rest.now) }
+    {
+        for token in list {
+            *token = self.next()?;
         }
-        value = with_digit(value, b);
-        i += 1;
+        Some(())
     }
-    Token {
-        value,
-        negative,
-        next: i,
-    }
-}
 
-// The next number from a place on.
-pub fn next_token(text: &[u8], from: usize) -> Token
-    ensures { result ≡ next_token text.now from }
-{
-    let at = skip(text, from);
-    if text.len() <= at {
-        return digits(text, at, false);
+    // The next n digits, as they stand.
+    pub fn digits(&mut self, n: usize) -> Option<&'a [u8]>
+        ensures { OnSome result (length self.new.rest.now ≤ length self.old.rest.now) }
+    {
+        let start = next_start(self.rest)?;
+        let (digits, rest) = self.rest[start..].split_at_checked(n)?;
+        self.rest = rest;
+        Some(digits)
     }
-    if text[at] == b'-' {
-        return digits(text, at + 1, true);
-    }
-    digits(text, at, false)
-}
 
-// A number at most `most`.
-pub fn at_most(n: Token, most: usize) -> usize
-    ensures value { result ≡ min n.value most }
-    ensures within { result ≤ most }
-{
-    if n.value < (most as u64) {
-        n.value as usize
-    } else {
-        most
+    // The n bytes behind the newline that ends the line.
+    pub fn text(&mut self, n: usize) -> Option<&'a [u8]>
+        ensures { OnSome result (length self.new.rest.now < length self.old.rest.now) }
+    {
+        let (text, rest) = self.rest.get(1..)?.split_at_checked(n)?;
+        self.rest = rest;
+        Some(text)
     }
-}
-
-// A 32-bit value; the least one where a number is too large.
-pub fn signed(n: Token) -> i32
-    ensures { result ≡ signed_of n }
-{
-    if 2147483647 < n.value {
-        return -2147483648;
-    }
-    if n.negative {
-        return 0 - (n.value as i32);
-    }
-    n.value as i32
 }
 
 // Reads until the buffer is full or the input ends; how many bytes came. A read error is the end of the input.
@@ -124,19 +130,9 @@ pub fn read_full<R: Read>(input: &mut R, buffer: &mut [u8]) -> usize
     while done < buffer.len() {
         let got = input.read(&mut buffer[done..]).unwrap_or(0);
         if got == 0 {
-            return done;
+            break;
         }
         done += got;
     }
     done
-}
-
-// The bytes on standard output. A write that fails is let go: the output then differs from the listed one.
-pub fn put(rt: &impl Print, bytes: &[u8]) {
-    let _ = rt.write_all(bytes);
-}
-
-// A number in decimal.
-pub fn put_decimal(rt: &impl Print, n: u64) {
-    let _ = rt.print(n);
 }

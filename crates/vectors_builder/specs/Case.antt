@@ -1,66 +1,54 @@
 -- A case of the list: P, M, the answer buffer's length, then the values and the truths, each behind their count.
-use Rattle.std.specs.Prelude.{◌≡◌, List, map, ℕ, ◌+◌, ◌<◌, ◌≤◌, min, ltb, length, get_or, set}
-use Rattle.std.proofs.Math.Path.{sym, ap}
-use Rattle.std.proofs.Common.{◌∙◌, arith}
-use Rattle.std.proofs.lemmas.List.{length-map}
-use Rattle.std.proofs.Math.ListN.{get_or-map}
-use Rattle.laws.specs.Front.{front, front_zero, front_get, front-all, front-step}
-use Rattle.laws.specs.Test.{if◌then◌otherwise◌}
+use Rattle.std.specs.Prelude.{List, ℕ, min, take, Option, None, Some}
 use Rattle.vectors.specs.declared.Token.{Token}
-use Rattle.vectors.specs.Token.{skipped, next_token}
-use Rattle.vectors.specs.Tokens.{tokens_from, place_after, tokens_length, token_at}
+use Rattle.vectors.specs.Token.{Told, next_token}
+use Rattle.vectors.specs.Numbers.{Row, numbers}
+use Rattle.vectors_builder.specs.declared.Numbers.{Numbers}
+use Rattle.vectors_builder.specs.declared.Case.{Case}
 
--- A byte, 255 where a number is too large.
-unfoldable pub byte_of : Token → ℕ
-byte_of t = if ltb t.value 256 then t.value otherwise 255
+-- With the number that was told, if there was one, and what is left behind it.
+abbrev pub then_token : {A : Type 0} → Option Token → List ℕ → (Token → List ℕ → Option A) → Option A
+then_token None rest f = None
+then_token (Some t) rest f = f t rest
 
--- A byte 0 or 1 as a digit.
-unfoldable pub shown_byte : ℕ → ℕ
-shown_byte b = if ltb b 2 then 48 + b otherwise b
+abbrev pub on_token : {A : Type 0} → Told → (Token → List ℕ → Option A) → Option A
+on_token t f = then_token t.token t.rest f
 
--- Behind a count and as many numbers, at most 64.
-unfoldable pub after_list : List ℕ → ℕ → ℕ
-after_list text from = let n = next_token text from in place_after text n.next (min n.value 64)
+abbrev pub on_row : {A : Type 0} → Option Row → (List Token → List ℕ → Option A) → Option A
+on_row None f = None
+on_row (Some r) f = f r.list r.rest
 
--- Where the next case starts.
-unfoldable pub after_case : List ℕ → ℕ → ℕ
-after_case text from = skipped text (after_list text (after_list text (place_after text from 3)))
+-- A list behind its count, of which 64 numbers are read at most.
+unfoldable pub numbers_of : List ℕ → Option Row
+numbers_of s = on_token (next_token s) (λ t rest. numbers (min t.value 64) rest)
 
-module _ (text : List ℕ) (from : ℕ) where
-  pub list_after : (n : Token) (k m r : ℕ) → n ≡ next_token text from → k ≡ min n.value 64 → m ≡ k → r ≡ place_after text n.next m → r ≡ after_list text from
-  unfolding after_list
-  list_after n k m r e f g h = h ∙ ap (place_after text n.next) (g ∙ f) ∙ ap (λ (t : Token). place_after text t.next (min t.value 64)) e
+abbrev pub listed : Numbers → List Token
+listed n = take n.count n.list
 
-  pub case_after : (p m b : Token) (k r : ℕ) → p ≡ next_token text from → m ≡ next_token text p.next → b ≡ next_token text m.next
-      → k ≡ after_list text (after_list text b.next) → r ≡ skipped text k → r ≡ after_case text from
-  unfolding after_case place_after
-  case_after p m b k r e f g h i = rw (i, h, g, f, e)
+-- What was read of a list, if it was.
+abbrev pub numbers_read : Option Numbers → List ℕ → Option Row
+numbers_read None rest = None
+numbers_read (Some n) rest = Some (record { list = listed n; rest = rest })
 
--- ---- A list that a loop fills with numbers of a text.
-module _ {A : Type 0} (f : Token → A) (text : List ℕ) (from : ℕ) (l : List A) where
-  unfoldable pub filling : ℕ → List A
-  filling i = front (map f (tokens_from text from (length l))) l i
+-- A case, and what is left of the text.
+pub record Read : Type 0 where
+  pub p : ℕ
+  pub m : ℕ
+  pub room : ℕ
+  pub values : List Token
+  pub truths : List Token
+  pub rest : List ℕ
 
-  pub filling_start : l ≡ filling 0
-  unfolding filling
-  filling_start = sym (front_zero _ _)
+unfoldable pub case_of : List ℕ → Option Read
+case_of s =
+    on_token (next_token s) (λ p s.
+    on_token (next_token s) (λ m s.
+    on_token (next_token s) (λ b s.
+    on_row (numbers_of s) (λ values s.
+    on_row (numbers_of s) (λ truths s.
+    Some (record { p = p.value; m = m.value; room = min b.value 40; values = values; truths = truths; rest = s }))))))
 
-  pub filling_next : (t : List A) (i : ℕ) (x z : A) (n : Token) → t ≡ filling i → i < length l → n ≡ next_token text (place_after text from i) → x ≡ f n
-      → set t i x ≡ filling (i + 1)
-  unfolding filling
-  filling_next t i x z n e h k g =
-      front-step (map f (tokens_from text from (length l))) l t i x z e (g ∙ ap f k ∙ token_at f text (length l) from i z h) (omega (arith, tokens_length f text (length l) from)) h
-
-  pub filling_end : (t : List A) (i : ℕ) → t ≡ filling i → length l ≤ i → t ≡ map f (tokens_from text from (length l))
-  unfolding filling
-  filling_end t i e h = e ∙ front-all (map f (tokens_from text from (length l))) l i (tokens_length f text (length l) from) h
-
--- ---- A buffer that a loop shows byte by byte.
-module _ (l t : List ℕ) (i : ℕ) where
-  pub shown_next : (x : ℕ) → t ≡ front (map shown_byte l) l i → i < length l → x ≡ shown_byte (get_or t i 0) → set t i x ≡ front (map shown_byte l) l (i + 1)
-  shown_next x e h k =
-      let old : get_or t i 0 ≡ get_or l i 0 = ap (λ s. get_or s i 0) e ∙ front_get (map shown_byte l) l i i 0 (omega arith) in
-      front-step (map shown_byte l) l t i x (shown_byte 0) e (k ∙ ap shown_byte old ∙ sym (get_or-map shown_byte l i 0)) (rw length-map h) h
-
-  pub shown_end : t ≡ front (map shown_byte l) l i → length l ≤ i → t ≡ map shown_byte l
-  shown_end e h = e ∙ front-all (map shown_byte l) l i (length-map l _) h
+-- What was read of a case, if it was.
+abbrev pub case_read : Option Case → List ℕ → Option Read
+case_read None rest = None
+case_read (Some k) rest = Some (record { p = k.p; m = k.m; room = k.room; values = listed k.values; truths = listed k.truths; rest = rest })

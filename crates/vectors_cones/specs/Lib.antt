@@ -1,3 +1,2 @@
--- Laws of the tests that a stored cone has to pass.
-pub mod Tested
+-- A cone by its rows, and what makes it one.
 pub mod Made

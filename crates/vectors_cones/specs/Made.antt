@@ -1,18 +1,20 @@
 -- A cone by its rows, and what makes it one.
-use Rattle.std.specs.Prelude.{◌≡◌, Bool, true, ℕ, ◌≤◌, ◌<◌, ◌^◌, ℤ, pos, nat_abs, replicate}
-use Rattle.std.proofs.Math.Path.{sym, ap}
+use Rattle.std.specs.Prelude.{◌≡◌, Bool, true, false, ℕ, ◌≤◌, ◌<◌, ◌^◌, ℤ, pos, nat_abs, replicate, eqb}
+use Rattle.std.specs.List.{list_any}
+use Rattle.std.proofs.Math.Path.{refl, sym, ap}
 use Rattle.std.proofs.Common.{◌∙◌, arith, pow_mono, length-take-le, get_or-take}
-use mathlib.Core.List.{List, map}
+use mathlib.Core.List.{List, [], ◌∷◌, map}
 use Rattle.std.proofs.Math.Option.{some, none}
 use Rattle.std.proofs.Math.ListN.{length, get_or, take, length-map}
 use Rattle.std.proofs.Math.Seq.{ext_get_or}
 use Rattle.laws.specs.Over.{over, take-over}
 use Rattle.laws.specs.Tail.{take-replicate}
-use Rattle.laws.specs.Test.{if◌then◌otherwise◌}
+use Rattle.laws.specs.Test.{if◌then◌otherwise◌, eqb_swap}
 use Rattle.rules.specs.Builder.{known_entries, enter}
 use Rattle.rules.specs.Composition.{union_support}
 use Rattle.rules.specs.Cone as rules
 use Rattle.rules.specs.Cone.{linear_table}
+use Rattle.rules.specs.Network.{member}
 use Rattle.rules.specs.NetworkText.{all_different}
 use Rattle.rules.specs.Span.{least, span}
 use Rattle.scale.specs.Limits.{Within}
@@ -22,13 +24,27 @@ use Rattle.theorems.specs.Spans.{offset_lt}
 use Rattle.laws.specs.Lists.{map_at}
 use Rattle.cone.specs.declared.Cone.{Cone}
 use Rattle.compose.specs.declared.Basis.{Basis}
-use Rattle.compose.specs.Basis.{IsBasis, coefficients_over, coefficients_over_within}
+use Rattle.compose.specs.Basis.{IsBasis, Room, coefficients_over, coefficients_over_within}
+use Rattle.linear.specs.Span.{within_total}
 use Rattle.theorems.specs.LinearTables.{span_table}
 use Rattle.theorems.specs.ConeValues.{linear_table-length}
-use Rattle.cone.specs.Sources.{AreNodes, are_nodes}
-use Rattle.cone.specs.View.{cone_of, entry_at, truth_at, is_cone, IsCone}
-use Rattle.nodes.specs.View.{IsStore}
-use Rattle.vectors_cones.specs.declared.ConeRows.{ConeRows}
+use Rattle.cone.specs.View.{cone_of, entry_at, truth_at, is_cone, IsCone, small}
+use Rattle.vectors_cones.specs.declared.rows.ConeRows.{ConeRows}
+
+-- the first node stands among the others, or not
+any_member : (m : ℕ) (l : List ℕ) → list_any (λ j. eqb j m) l ≡ member m l
+unfolding member
+any_member m [] = refl
+any_member m (j ∷ l) = rw (eqb_swap j m, any_member m l)
+
+module _ (m : ℕ) (l nodes : List ℕ) (is : nodes ≡ m ∷ l) where
+  pub twice : list_any (λ j. eqb j m) l ≡ true → all_different nodes ≡ false
+  unfolding all_different
+  twice e = rw (is, ← any_member m l, e)
+
+  pub once : list_any (λ j. eqb j m) l ≡ false → all_different nodes ≡ all_different l
+  unfolding all_different
+  once e = rw (is, ← any_member m l, e)
 
 unfoldable pub rows_of : ConeRows → rules.Cone
 rows_of c = record { support = take c.n c.support; coefficients = take c.n c.coefs; truth = take (2 ^ c.n) c.truth }
@@ -81,14 +97,19 @@ module _ (n : ℕ) (support : List ℕ) (coefs : List ℤ) (truth known : List �
         seen,
       )
 
--- the first rows of a table of values, and what is known of them
-pub values-first : (n rows : ℕ) (coefs ts vs : List ℤ) → n ≤ 11 → length coefs ≡ 11 → rows ≡ 2 ^ n → vs ≡ over (linear_table (take n coefs)) ts → take rows vs ≡ linear_table (take n coefs)
-values-first n rows coefs ts vs few long e f =
-    ap (λ t. take rows t) f ∙ take-over (linear_table (take n coefs)) ts rows (linear_table-length (take n coefs) ∙ ap (λ k. 2 ^ k) (length-take-le n coefs (omega arith)) ∙ sym e)
+pub few_rows : (n : ℕ) → n ≤ 11 → 2 ^ n ≤ 2048
+few_rows n h = pow_mono {j = 11} h
 
-pub known_same : (ws vs : List ℤ) (truth known : List ℕ) (rows n size : ℕ) → ws ≡ vs → rows ≡ n → size ≡ span vs
-    → known_entries ws (take rows truth) ≡ some (take size known) → known_entries vs (take n truth) ≡ some (take (span vs) known)
-known_same ws vs truth known rows n size e f g h = rw (← e, ← f) (rw (← e) at (rw g at h))
+pub taken_rows : {A : Type 0} (rows n : ℕ) (l : List A) → rows ≡ 2 ^ n → n ≤ 11 → length l ≡ 2048 → rows ≡ length (take rows l)
+taken_rows rows n l e h k = sym (length-take-le rows l (omega (arith, few_rows n h)))
+
+-- a small span has small coefficients
+pub narrow_small : (coefs : List ℤ) → span (linear_table coefs) ≤ 32 → Within 1984 coefs
+narrow_small coefs h i = omega (arith, within_total coefs i, span_table coefs)
+
+-- the first rows of a table of values
+pub values_first : (rows : ℕ) (coefs ts vs : List ℤ) → rows ≡ 2 ^ length coefs → vs ≡ over (linear_table coefs) ts → take rows vs ≡ linear_table coefs
+values_first rows coefs ts vs e f = ap (take rows) f ∙ take-over (linear_table coefs) ts rows (linear_table-length coefs ∙ sym e)
 
 pub known_rows : (values : List ℤ) (truth part known : List ℕ) (low : ℤ) (size : ℕ) (one : Bool) → low ≡ least values → size ≡ span values → size ≤ 32 → part ≡ take size known
     → (if one then some part otherwise none) ≡ enter low values truth (take size (replicate 32 2)) → one ≡ true → known_entries values truth ≡ some (take size known)
@@ -106,14 +127,20 @@ pub record IsSmall (b : Basis) : Type 0 where
 side_small : (n : ℕ) (l : List ℤ) (U : List ℕ) (c : rules.Cone) → take n l ≡ coefficients_over U c → Within 31 c.coefficients → (i : ℕ) → i < n → nat_abs (get_or l i (pos 0)) ≤ 31
 side_small n l U c e w i h = rw (← get_or-take n l i (pos 0) h, e) (coefficients_over_within 31 U c w i)
 
-pub basis_small : (left right : rules.Cone) (b : Basis) → Within 31 left.coefficients → Within 31 right.coefficients → IsBasis left right b → IsSmall b
-basis_small left right b l r is =
-    record {
-      few = is.few;
-      lefts = side_small b.n b.left (union_support left.support right.support) left is.lefts l;
-      rights = side_small b.n b.right (union_support left.support right.support) right is.rights r;
-    }
+-- two cones over a basis: at most 11 sources have at most 2,048 rows
+module _ (left right : Cone) (b : Basis) (l : IsCone left) (r : IsCone right) (is : IsBasis (cone_of left) (cone_of right) b) where
+  pub basis_small : IsSmall b
+  basis_small =
+      let U = union_support (cone_of left).support (cone_of right).support in
+      record {
+        few = is.few;
+        lefts = side_small b.n b.left U (cone_of left) is.lefts (small left l);
+        rights = side_small b.n b.right U (cone_of right) is.rights (small right r);
+      }
 
--- with 672 nodes every source of a cone is one
-pub sources_stand : (bytes : List ℕ) (c : Cone) → IsStore bytes 672 → IsCone c → AreNodes bytes (cone_of c).support
-sources_stand bytes c s is = are_nodes bytes 672 (cone_of c).support s (λ i h. is.near i)
+pub basis_rows : (left right : rules.Cone) (b : Basis) → IsBasis left right b → 2 ^ b.n ≤ 2048
+basis_rows left right b is = few_rows b.n is.few
+
+pub basis_room : (left right : rules.Cone) (b : Basis) (xs ys : List ℤ) (truth : List ℕ) → IsBasis left right b → length xs ≡ 2048 → length ys ≡ 2048 → length truth ≡ 2048
+    → Room b.n xs ys truth
+basis_room left right b xs ys truth is x y t = let f = few_rows b.n is.few in record { x = omega (arith, f); y = omega (arith, f); t = omega (arith, f) }

@@ -1,3 +1,2 @@
--- What is asked of a buffer after a reply, and the bytes of a read.
-pub mod Buffer
+-- The bytes of a read.
 pub mod Bytes

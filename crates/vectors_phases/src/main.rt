@@ -1,40 +1,32 @@
-// Replays slots on the cases of standard input, a line `P VALUE ERROR` each. For each case it writes the reply's number and the slot.
+// Replays slots on the cases of standard input, a line `P VALUE ERROR` each. For each case it writes the refusal's number, or 0, and the slot.
 #![tactic(auto)]
 
-use vectors::{next_token, put, put_decimal, read_full, signed, skip};
+ghost use Rattle.std.specs.Prelude.{◌<◌, length, OnSome};
 
-fn answer(rt: &impl Print, p: usize, v: i32, e: i32) {
-    let reply = phase::slot(p, v, e);
-    put_decimal(rt, phase::reply_number(reply) as u64);
-    put(rt, b" ");
-    put_decimal(rt, phase::reply_slot(reply) as u64);
-    put(rt, b"\n");
+use std::io;
+use vectors::Tokens;
+
+// P, the value and the error of the next case. It uses up a byte, so the cases end.
+fn case(input: &mut Tokens<'_>) -> Option<(usize, i32, i32)>
+    ensures { OnSome result (length input.new.rest.now < length input.old.rest.now) }
+{
+    let p = input.next()?;
+    let v = input.next()?;
+    let e = input.next()?;
+    Some((p.value as usize, v.signed(), e.signed()))
 }
 
-// One case from a place of the input, and where the next one starts.
-fn replay(rt: &impl Print, input: &[u8], from: usize) -> usize {
-    let p = next_token(input, from);
-    let v = next_token(input, p.next);
-    let e = next_token(input, v.next);
-    answer(rt, p.value as usize, signed(v), signed(e));
-    skip(input, e.next)
-}
-
-// A proved loop has to end, so the cases are counted down from a number that no file uses up.
-fn replay_all(rt: &impl Print, input: &[u8]) {
-    let mut at = skip(input, 0);
-    let mut turns: usize = 100000;
-    while turns > 0 {
-        if input.len() <= at {
-            return;
+fn replay_all(rt: &impl Print, mut input: Tokens<'_>) -> io::Result<()> {
+    while let Some((p, v, e)) = case(&mut input) {
+        match phase::slot(p, v, e) {
+            Ok(slot) => println!(rt; "0 {slot}")?,
+            Err(reason) => println!(rt; "{} 0", reason as usize)?,
         }
-        at = replay(rt, input, at);
-        turns -= 1;
     }
+    Ok(())
 }
 
-fn main(rt: HostRuntime) {
-    let mut input = [0u8; 131072];
-    let n = read_full(&mut rt.stdin(), &mut input);
-    replay_all(&rt, &input[..n]);
+fn main(rt: HostRuntime) -> io::Result<()> {
+    let mut buffer = [0u8; 131072];
+    replay_all(&rt, Tokens::read(&mut rt.stdin(), &mut buffer))
 }

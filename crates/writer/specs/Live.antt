@@ -9,6 +9,7 @@ use Rattle.rules.specs.Store.{needs, terms_of}
 use Rattle.rules.specs.Writing.{signed_text, terms_text, node_text, nodes_text}
 use Rattle.theorems.specs.Members.{member-at}
 use Rattle.theorems.specs.NodesAt.{drop-node}
+use Rattle.nodes.specs.declared.node.Kind.TheVariants as Kinds
 use Rattle.nodes.specs.Nodes.{kind_of, constant_of, bytes_in, as_many, terms_need, fine_needs}
 use Rattle.nodes.specs.View.{term, node_of, store_of, Fine, IsNode, IsStore, at_store, store_length, is_node}
 use Rattle.lines.specs.Lines.{in_text, term_text}
@@ -91,18 +92,18 @@ module _ (live : List ℕ) (n : LutNode) (e : is_linear n ≡ true) where
 
 -- ---- laws: a node by its kind
 
-module _ (live : List ℕ) {k : ℕ} where
-  pub input_kind : (n : LutNode) → k ≡ kind_of n → k ≡ 0 → (is_linear n ≡ false) × (node_text (new_node live n) ≡ in_text (bytes_in n) (weight_of n))
+module _ (live : List ℕ) where
+  pub input_kind : (n : LutNode) → kind_of n ≡ Kinds.Input → (is_linear n ≡ false) × (node_text (new_node live n) ≡ in_text (bytes_in n) (weight_of n))
   unfolding kind_of is_linear new_node bytes_in weight_of node_text in_text
-  input_kind (Input g) e h = (refl, refl)
-  input_kind (Linear c ts) e h = absurd (omega arith)
-  input_kind (Bootstrap i table) e h = absurd (omega arith)
+  input_kind (Input g) h = (refl, refl)
+  input_kind (Linear c ts) h = cc
+  input_kind (Bootstrap i table) h = cc
 
-  pub sum_kind : (n : LutNode) → k ≡ kind_of n → k ≡ 1 → (is_linear n ≡ true) × (node_text (new_node live n) ≡ sum_text live n)
+  pub sum_kind : (n : LutNode) → kind_of n ≡ Kinds.Linear → (is_linear n ≡ true) × (node_text (new_node live n) ≡ sum_text live n)
   unfolding kind_of is_linear new_node node_text sum_text terms_left constant_of terms_of
-  sum_kind (Input g) e h = absurd (omega arith)
-  sum_kind (Linear c ts) e h = (refl, refl)
-  sum_kind (Bootstrap i table) e h = absurd (omega arith)
+  sum_kind (Input g) h = cc
+  sum_kind (Linear c ts) h = (refl, refl)
+  sum_kind (Bootstrap i table) h = cc
 
 pub record Boot (live : List ℕ) (n : LutNode) : Type 0 where
   pub plain : is_linear n ≡ false
@@ -110,11 +111,11 @@ pub record Boot (live : List ℕ) (n : LutNode) : Type 0 where
   pub bits : (k : ℕ) → get_or (bytes_in n) k 0 ≤ 1
   pub is : new_node live n ≡ Bootstrap (new_number live (get_or (needs n) 0 0)) (bytes_in n)
 
-pub boot_kind : (live : List ℕ) {k : ℕ} (i : ℕ) (n : LutNode) → Fine i n → k ≡ kind_of n → (k ≡ 0 → ⊥) → (k ≡ 1 → ⊥) → Boot live n
+pub boot_kind : (live : List ℕ) (i : ℕ) (n : LutNode) → Fine i n → kind_of n ≡ Kinds.Bootstrap → Boot live n
 unfolding kind_of is_linear new_node needs bytes_in Fine
-boot_kind live i (Input g) f e a b = absurd (a e)
-boot_kind live i (Linear c ts) f e a b = absurd (b e)
-boot_kind live i (Bootstrap j table) f e a b = record { plain = refl; one = omega arith; bits = f.2; is = refl }
+boot_kind live i (Input g) f h = cc
+boot_kind live i (Linear c ts) f h = cc
+boot_kind live i (Bootstrap j table) f h = record { plain = refl; one = omega arith; bits = f.2; is = refl }
 
 pub input_text : (live : List ℕ) (n : LutNode) {l : List ℕ} {w : ℕ} → node_text (new_node live n) ≡ in_text (bytes_in n) (weight_of n) → l ≡ bytes_in n → w ≡ weight_of n
     → node_text (new_node live n) ≡ in_text l w

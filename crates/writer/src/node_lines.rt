@@ -9,19 +9,15 @@ ghost use Rattle.writer.specs.Live.{new_number, new_node, live_nodes, ReadyAt, S
 
 use lines::line::{put_boot, put_in, put_term};
 use lines::put::{put_all, put_signed};
-
-fn wide(x: u16) -> usize
-    ensures { result ≡ x }
-{
-    x as usize
-}
+use nodes::node::{Kind, coef_of, constant_of, kind_of, size_of, source_of, table_of, weight_of};
 
 // The new number of a live node.
+#[tactic(auto, unfolding(crate::specs::Live::new_number))]
 pub fn number_of(live: &[u16; 672], node: usize) -> usize
     requires { (length live.now ≡ 672) × (node < 672) × (0 < get_or live.now node 0) }
     ensures { result ≡ new_number live.now node }
 {
-    wide(live[node]) - 1
+    live[node] as usize - 1
 }
 
 // The new number of source k of node i.
@@ -29,7 +25,7 @@ pub fn new_source(nodes: &[u8; 27552], live: &[u16; 672], i: usize, k: usize) ->
     requires { ReadyAt live.now nodes.now i × (k < length (needs (node_of nodes.now i))) }
     ensures { result ≡ new_number live.now (get_or (needs (node_of nodes.now i)) k 0) }
 {
-    number_of(live, nodes::node::source_of(nodes, i, k))
+    number_of(live, source_of(nodes, i, k))
 }
 
 // Term k of the sum i.
@@ -46,7 +42,7 @@ fn put_summand(
     ensures { Put at (term_at live.now (node_of nodes.now i) k) out.old result out.new }
 {
     let source = new_source(nodes, live, i, k);
-    put_term(out, at, nodes::node::coef_of(nodes, i, k), source)
+    put_term(out, at, coef_of(nodes, i, k), source)
 }
 
 // The terms of the sum i.
@@ -55,24 +51,22 @@ fn put_terms(out: &mut [u8], at: usize, nodes: &[u8; 27552], live: &[u16; 672], 
     requires room { Room at (terms_left live.now (node_of nodes.now i) 0) }
     ensures { Put at (terms_left live.now (node_of nodes.now i) 0) out.old result out.new }
 {
-    let n = nodes::node::size_of(nodes, i);
     let mut to = at;
-    let mut k = 0;
-    while k < n {
+    for k in 0..size_of(nodes, i) {
         to = put_summand(out, to, nodes, live, i, k);
-        k += 1;
     }
     to
 }
 
 // `(lin CONST (COEF ID) ..)`
+#[tactic(auto, using(lines::specs::Put::pieces), unfolding(crate::specs::Live::sum_text))]
 fn put_lin(out: &mut [u8], at: usize, nodes: &[u8; 27552], live: &[u16; 672], i: usize) -> usize
     requires ready_at { ReadyAt live.now nodes.now i × (is_linear (node_of nodes.now i) ≡ true) }
     requires room { Room at (sum_text live.now (node_of nodes.now i)) }
     ensures { Put at (sum_text live.now (node_of nodes.now i)) out.old result out.new }
 {
     let a = put_all(out, at, b"(lin ");
-    let b = put_signed(out, a, nodes::node::constant_of(nodes, i));
+    let b = put_signed(out, a, constant_of(nodes, i));
     let c = put_terms(out, b, nodes, live, i);
     put_all(out, c, b")\n")
 }
@@ -89,16 +83,14 @@ pub fn put_node(
     requires room { Room at (node_text (new_node live.now (node_of nodes.now i))) }
     ensures { Put at (node_text (new_node live.now (node_of nodes.now i))) out.old result out.new }
 {
-    let kind = nodes::node::kind_of(nodes, i);
-    if kind == nodes::node::INPUT {
-        let weight = nodes::node::weight_of(nodes, i);
-        return put_in(out, at, nodes::node::table_of(nodes, i), weight);
+    match kind_of(nodes, i) {
+        Kind::Input => put_in(out, at, table_of(nodes, i), weight_of(nodes, i)),
+        Kind::Linear => put_lin(out, at, nodes, live, i),
+        Kind::Bootstrap => {
+            let source = new_source(nodes, live, i, 0);
+            put_boot(out, at, source, table_of(nodes, i))
+        }
     }
-    if kind == nodes::node::LINEAR {
-        return put_lin(out, at, nodes, live, i);
-    }
-    let source = new_source(nodes, live, i, 0);
-    put_boot(out, at, source, nodes::node::table_of(nodes, i))
 }
 
 // Node i, if it is live.
@@ -114,10 +106,12 @@ fn put_live(
     requires room { Room at (line_at live.now nodes.now i) }
     ensures { Put at (line_at live.now nodes.now i) out.old result out.new }
 {
-    if live[i] == 0 {
-        return at;
+    let is_live = live[i] != 0;
+    if is_live {
+        put_node(out, at, nodes, live, i)
+    } else {
+        at
     }
-    put_node(out, at, nodes, live, i)
 }
 
 // The live ones of the nodes. Asks that the sources of a live node are live.
@@ -133,10 +127,8 @@ pub fn put_nodes(
     ensures { Put at (nodes_text (live_nodes live.now nodes.now count)) out.old result out.new }
 {
     let mut to = at;
-    let mut i = 0;
-    while i < count {
+    for i in 0..count {
         to = put_live(out, to, nodes, live, count, i);
-        i += 1;
     }
     to
 }

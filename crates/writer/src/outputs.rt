@@ -1,81 +1,45 @@
-// An output's line. Its name stands in the circuit's text; its signal is a node's number before pruning, or from 1000 on a constant.
-ghost use Rattle.std.specs.Prelude.{◌≡◌, ◌<◌, ◌≤◌, length};
+// An output's line, its node by the new number.
+ghost use Rattle.std.specs.Prelude.{◌≡◌, map};
 ghost use Rattle.rules.specs.Writing.{output_text, outputs_text};
+ghost use Rattle.forms.specs.Forms.{output_of};
 ghost use Rattle.lines.specs.Put.{Put, Room};
-ghost use Rattle.writer.specs.Outputs.{new_wire, new_output, live_output, live_outputs, Signalled, Ported};
+ghost use Rattle.writer.specs.Outputs.{new_wire, new_output, live_outputs, IsLive, AllLive};
 
 use crate::node_lines::number_of;
+use forms::Output;
 use lines::line::put_out;
 use rules::Wire;
 
-// The wire with the node's new number.
-fn new_wire(live: &[u16; 672], signal: usize) -> Wire
-    requires { Signalled live.now signal }
-    ensures { result ≡ new_wire live.now signal }
+// The wire with its node's new number.
+fn new_wire(live: &[u16; 672], wire: Wire) -> Wire
+    requires { IsLive live.now wire }
+    ensures { result ≡ new_wire live.now wire }
 {
-    if signal < 1000 {
-        let node = number_of(live, signal);
-        return Wire::Node(node);
+    match wire {
+        Wire::Node(node) => Wire::Node(number_of(live, node)),
+        Wire::Const(b) => Wire::Const(b),
     }
-    Wire::Const((signal - 1000) as u8)
 }
 
-// `(out NAME WIRE)`, the name from a to e in s. Asks that the signal is a live node or one of the two constants.
-pub fn put_output(
-    out: &mut [u8],
-    at: usize,
-    s: &[u8],
-    a: usize,
-    e: usize,
-    live: &[u16; 672],
-    signal: usize,
-) -> usize
-    requires a_le_e { (a ≤ e) × (e ≤ length s.now) × Signalled live.now signal }
-    requires room { Room at (new_output live.now s.now a e signal) }
-    ensures { Put at (new_output live.now s.now a e signal) out.old result out.new }
+// `(out NAME WIRE)`
+#[tactic(auto, unfolding(rules::specs::Writing::output_text, lines::specs::Lines::out_text))]
+fn put_output(out: &mut [u8], at: usize, output: Output<'_>, live: &[u16; 672]) -> usize
+    requires live { IsLive live.now output.wire }
+    requires room { Room at (output_text (new_output live.now (output_of output))) }
+    ensures { Put at (output_text (new_output live.now (output_of output.entry))) out.old result out.new }
 {
-    let wire = new_wire(live, signal);
-    put_out(out, at, &s[a..e], wire)
+    put_out(out, at, output.name, new_wire(live, output.wire))
 }
 
-// Output i of those that `ports` has.
-fn put_port(
-    out: &mut [u8],
-    at: usize,
-    s: &[u8],
-    ports: &[usize; 192],
-    live: &[u16; 672],
-    n: usize,
-    i: usize,
-) -> usize
-    requires ported { Ported live.now ports.now (length s.now) n × (i < n) }
-    requires room { Room at (output_text (live_output live.now s.now ports.now i)) }
-    ensures { Put at (output_text (live_output live.now s.now ports.now i)) out.old result out.new }
-{
-    let a = ports[64 + 3 * i];
-    let e = ports[64 + 3 * i + 1];
-    let signal = ports[64 + 3 * i + 2];
-    put_output(out, at, s, a, e, live, signal)
-}
-
-// The outputs.
-pub fn put_outs(
-    out: &mut [u8],
-    at: usize,
-    s: &[u8],
-    ports: &[usize; 192],
-    live: &[u16; 672],
-    n: usize,
-) -> usize
-    requires ported { Ported live.now ports.now (length s.now) n }
-    requires room { Room at (outputs_text (live_outputs live.now s.now ports.now n)) }
-    ensures { Put at (outputs_text (live_outputs live.now s.now ports.now n)) out.old result out.new }
+// The outputs. Asks that each one's wire is a live node or a constant.
+pub fn put_outs(out: &mut [u8], at: usize, outputs: &[Output<'_>], live: &[u16; 672]) -> usize
+    requires live { AllLive live.now (map output_of outputs.now) }
+    requires room { Room at (outputs_text (live_outputs live.now (map output_of outputs.now))) }
+    ensures { Put at (outputs_text (live_outputs live.now (map output_of outputs.now))) out.old result out.new }
 {
     let mut to = at;
-    let mut i = 0;
-    while i < n {
-        to = put_port(out, to, s, ports, live, n, i);
-        i += 1;
+    for &output in outputs {
+        to = put_output(out, to, output, live);
     }
     to
 }

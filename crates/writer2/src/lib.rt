@@ -4,30 +4,30 @@
 pub mod many;
 pub mod tables;
 
-ghost use Rattle.std.specs.Prelude.{length};
+ghost use Rattle.std.specs.Prelude.{map};
+ghost use Rattle.forms.specs.Forms.{output_of};
 ghost use Rattle.lines.specs.Put.{Put, Room};
-ghost use Rattle.writer.specs.Outputs.{Ported};
+ghost use Rattle.writer.specs.Outputs.{AllLive};
 ghost use Rattle.writer2.specs.Node2.{Ordered};
 ghost use Rattle.writer2.specs.Whole2.{text2};
 
-use writer::Network;
+use forms::{Net, Output};
 
 // The text, as far as the buffer reaches; answers its length.
 pub fn write(
     out: &mut [u8],
-    s: &[u8],
-    n: Network,
-    ports: &[usize; 192],
+    net: Net,
+    outputs: &[Output<'_>],
     nodes: &[u8; 27552],
+    count: usize,
     live: &[u16; 672],
     order: &[u16; 672],
 ) -> usize
-    requires ordered { Ordered n.p live.now nodes.now order.now n.count × Ported live.now ports.now (length s.now) n.outs }
-    requires room { Room 0 (text2 n s.now ports.now nodes.now live.now order.now) }
-    ensures { Put 0 (text2 n s.now ports.now nodes.now live.now order.now) out.old result out.new }
+    requires ordered { Ordered net.p live.now nodes.now order.now count × AllLive live.now (map output_of outputs.now) }
+    requires room { Room 0 (text2 net (map output_of outputs.now) nodes.now count live.now order.now) }
+    ensures { Put 0 (text2 net (map output_of outputs.now) nodes.now count live.now order.now) out.old result out.new }
 {
-    let norm = n.norm;
-    let a = lines::line2::put_net2(out, 0, n.p, n.m, norm);
-    let b = many::put_lines(out, a, n.p, nodes, live, order, n.count);
-    writer::outputs::put_outs(out, b, s, ports, live, n.outs)
+    let a = lines::line::put_net(out, 0, b"(net2 ", net.p, net.m, net.norm);
+    let b = many::put_lines(out, a, net.p, nodes, live, order, count);
+    writer::outputs::put_outs(out, b, outputs, live)
 }

@@ -1,5 +1,5 @@
 // The nodes' lines, the tables of one node in one `many` line.
-ghost use Rattle.std.specs.Prelude.{◌≡◌, take};
+ghost use Rattle.std.specs.Prelude.{take};
 ghost use Rattle.nodes.specs.View.{node_of};
 ghost use Rattle.lines.specs.Put.{Put, Room};
 ghost use Rattle.writer.specs.Live.{new_node};
@@ -7,12 +7,7 @@ ghost use Rattle.writer2.specs.Node2.{Known, Ordered, ordered};
 ghost use Rattle.writer2.specs.Stream.{piece, stream};
 
 use crate::tables::{open_behind, put_closing, put_opening, put_table_of};
-
-fn wide(x: u16) -> usize
-    ensures { result ≡ x }
-{
-    x as usize
-}
+use writer::node_lines::put_node;
 
 // Node i behind what is open.
 fn put_piece(
@@ -21,20 +16,23 @@ fn put_piece(
     p: usize,
     nodes: &[u8; 27552],
     live: &[u16; 672],
-    opened: usize,
+    opened: Option<usize>,
     i: usize,
 ) -> usize
     requires known { Known p live.now nodes.now i }
     requires room { Room at (piece p opened (new_node live.now (node_of nodes.now i))) }
     ensures { Put at (piece p opened (new_node live.now (node_of nodes.now i))) out.old result out.new }
 {
-    let next = open_behind(p, nodes, live, i);
-    if next == 0 {
-        let a = put_closing(out, at, opened);
-        return writer::node_lines::put_node(out, a, nodes, live, i);
+    match open_behind(nodes, live, i) {
+        Some(source) => {
+            let b = put_opening(out, at, opened, source);
+            put_table_of(out, b, p, nodes, i)
+        }
+        None => {
+            let a = put_closing(out, at, opened);
+            put_node(out, a, nodes, live, i)
+        }
     }
-    let b = put_opening(out, at, opened, next);
-    put_table_of(out, b, p, nodes, i)
 }
 
 // All of them in their order.
@@ -48,17 +46,15 @@ pub fn put_lines(
     count: usize,
 ) -> usize
     requires ordered { Ordered p live.now nodes.now order.now count }
-    requires room { Room at (stream p 0 (ordered live.now nodes.now (take count order.now))) }
-    ensures { Put at (stream p 0 (ordered live.now nodes.now (take count order.now))) out.old result out.new }
+    requires room { Room at (stream p None (ordered live.now nodes.now (take count order.now))) }
+    ensures { Put at (stream p None (ordered live.now nodes.now (take count order.now))) out.old result out.new }
 {
     let mut to = at;
-    let mut opened = 0;
-    let mut k = 0;
-    while k < count {
-        let i = wide(order[k]);
+    let mut opened = None;
+    for &node in &order[..count] {
+        let i = node as usize;
         to = put_piece(out, to, p, nodes, live, opened, i);
-        opened = open_behind(p, nodes, live, i);
-        k += 1;
+        opened = open_behind(nodes, live, i);
     }
     put_closing(out, to, opened)
 }

@@ -1,8 +1,11 @@
+use Rattle.std.proofs.Common.{rules}
 use Rattle.answer.specs.Front.{refusal_ends, front-refusal}
 use Rattle.answer.proofs.refuse.Goals as goal
 
 pub put_end-requires : goal.put_end-requires
-put_end-requires c = refusal_ends c.put_refusal-n.ensures c.ranges.number.fits c.ranges.line.fits c.requires
+put_end-requires c = refusal_ends c.put_refusal-n.ensures (search rules) (search rules) c.requires
 
 pub returns : goal.returns
-returns c = front-refusal c.put_refusal-n.ensures c.ranges.number.fits c.ranges.line.fits c.requires c.put_end.ensures
+returns c =
+    let e = c.number_of.ensures in
+    front-refusal (rw e at c.put_refusal-n.ensures) (rw e at c.number_of.type_inv) (search rules) c.requires c.put_end.ensures

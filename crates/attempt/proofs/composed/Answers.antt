@@ -1,4 +1,4 @@
-use Rattle.std.proofs.Common.{◌≡◌, refl, sym, ap, ◌∙◌, Bool, List, ℕ, ◌≤◌, ◌<◌, ◌^◌, arith, length, get_or, take, pow_mono, pow_pos, get_or-take}
+use Rattle.std.proofs.Common.{◌≡◌, refl, sym, ap, ◌∙◌, Bool, false, List, ℕ, ◌≤◌, ◌<◌, ◌^◌, arith, length, get_or, take, pow_mono, pow_pos, get_or-take, Option, Some, None}
 use Rattle.std.proofs.Math.Option.{some, map}
 use Rattle.laws.specs.Tail.{head_length}
 use Rattle.rules.specs.Cone.{constant}
@@ -6,9 +6,12 @@ use Rattle.rules.specs.Composition.{union_support, gate_truth, all_equal, merge_
 use Rattle.cone.specs.View.{cone_of}
 use Rattle.cone.specs.Sources.{constant_stands}
 use Rattle.nodes.specs.View.{store_of}
-use Rattle.attempt.specs.Pair.{Tabled, gated_constant, gated-merged}
-use Rattle.attempt.specs.PairTrial.{trial_tabled, rows_few, trial_mergeable, trial_merged, trial_stands}
+use Rattle.scale_pair.specs.declared.score.Score.{Score}
+use Rattle.search.specs.Policies.{Finds}
+use Rattle.attempt.specs.Merged.{merged_by}
 use Rattle.attempt.specs.Tried.{tried_of}
+use Rattle.attempt.specs.Pair.{Tabled, gated, gated_constant, gated-merged}
+use Rattle.attempt.specs.PairTrial.{trial_tabled, trial_mergeable, trial_merged, trial_stands}
 use Rattle.attempt.proofs.composed.Goals as goal
 use Rattle.attempt.proofs.composed.Goals.{After-rows_of-rows}
 
@@ -25,10 +28,7 @@ tabled c =
     trial_tabled A.s A.nodes.now A.count A.left A.right A.basis c.requires.0 A.gate c.requires.1 c.rows_of-rows.result c.rows_of-rows.ensures _ _ _ c.cone_composition_tables.new.xs c.cone_composition_tables.new.ys c.cone_composition_tables.new.truth refl refl refl c.cone_composition_tables.ensures
 
 in_truth : (c : After-rows_of-rows) → c.rows_of-rows.result ≤ length c.cone_composition_tables.new.truth
-in_truth c =
-    let A = c.args in
-    let t = (tabled c).0 in
-    omega (arith, t.t_long, rows_few A.s A.nodes.now A.count A.left A.right A.basis c.requires.0 c.rows_of-rows.result c.cone_composition_tables.new.xs c.cone_composition_tables.new.ys c.cone_composition_tables.new.truth t)
+in_truth c = let t = (tabled c).0 in omega (arith, t.t_long, t.few)
 
 some_row : (c : After-rows_of-rows) → 0 < c.rows_of-rows.result
 some_row c = omega (arith, c.rows_of-rows.ensures, pow_pos c.args.basis.n)
@@ -53,32 +53,44 @@ pub constant-requires : goal.constant-requires
 constant-requires c = (tabled (goal.at.constant-requires c).After-rows_of-rows).0.bits 0 (some_row (goal.at.constant-requires c).After-rows_of-rows)
 
 pub returns-then-all_equal : goal.returns-then-all_equal
-unfolding tried_of
 returns-then-all_equal c =
     let A = c.args in
     let T = gate_truth (union_support (cone_of A.left).support (cone_of A.right).support) (cone_of A.left) (cone_of A.right) A.gate in
     let first : get_or c.cone_composition_tables.new.truth 0 0 ≡ get_or T 0 0 = sym (get_or-take c.rows_of-rows.result _ 0 0 (some_row (goal.at.returns-then-all_equal c).After-rows_of-rows)) ∙ ap (λ l. get_or l 0 0) (tabled (goal.at.returns-then-all_equal c).After-rows_of-rows).1 in record {
       is = ap some (c.constant.ensures.1 ∙ ap constant first)
           ∙ gated_constant A.s (store_of A.nodes.now A.count) (cone_of A.left) (cone_of A.right) A.gate (equal_is _ _ _ c.all_equal.ensures (tabled (goal.at.returns-then-all_equal c).After-rows_of-rows).1 ∙ c.if-all_equal.true);
-      stands = λ e. constant_stands A.count c.constant.result _ c.constant.ensures.0 c.constant.ensures.1;
+      stands = constant_stands A.count c.constant.result _ c.constant.ensures.0 c.constant.ensures.1;
     }
 
-pub best_pair-best-requires : goal.best_pair-best-requires
-best_pair-best-requires c =
-    (c.requires.0, ((tabled (goal.at.best_pair-best-requires c).After-rows_of-rows).0, sym c.all_equal.ensures ∙ c.if-all_equal.false))
+pub best_pair-requires : goal.best_pair-requires
+best_pair-requires c =
+    (c.requires.0, ((tabled (goal.at.best_pair-requires c).After-rows_of-rows).0, sym c.all_equal.ensures ∙ c.if-all_equal.false))
 
-pub best_merged-requires : goal.best_merged-requires
-best_merged-requires c =
+-- what is made of the pair, or of none, is the definition's
+gated_by : (c : After-rows_of-rows) → let A = c.args in (r : Bool) → r ≡ all_equal (take c.rows_of-rows.result c.cone_composition_tables.new.truth) → r ≡ false
+    → (o : Option Score) → Finds A.s (store_of A.nodes.now A.count) (cone_of A.left) (cone_of A.right) (take c.rows_of-rows.result c.cone_composition_tables.new.truth) o
+    → merged_by A.basis o ≡ gated A.s (store_of A.nodes.now A.count) (cone_of A.left) (cone_of A.right) A.gate
+gated_by c r e h o f =
     let A = c.args in
-    trial_mergeable A.s A.nodes.now A.count A.left A.right A.basis c.requires.0 c.rows_of-rows.result c.cone_composition_tables.new.xs c.cone_composition_tables.new.ys c.cone_composition_tables.new.truth (tabled (goal.at.best_merged-requires c).After-rows_of-rows).0 (store_of A.nodes.now A.count) c.best_pair-best.result c.best_pair-best.ensures
+    let nodes = store_of A.nodes.now A.count in
+    let t = tabled c in
+    trial_merged A.s A.nodes.now A.count A.left A.right A.basis c.requires.0 c.rows_of-rows.result c.cone_composition_tables.new.xs c.cone_composition_tables.new.ys c.cone_composition_tables.new.truth t.0 nodes o f
+    ∙ ap (λ l. map merge_cones (find_candidate A.s nodes (union_support (cone_of A.left).support (cone_of A.right).support) (cone_of A.left) (cone_of A.right) l)) t.1
+    ∙ gated-merged A.s nodes (cone_of A.left) (cone_of A.right) A.gate (equal_is _ _ _ e t.1 ∙ h)
+
+pub returns-in_err-best-clause-is : goal.returns-in_err-best-clause-is
+unfolding merged_by
+returns-in_err-best-clause-is c = ap tried_of c.from_residual.ensures ∙ gated_by (goal.at.returns-in_err-best-clause-is c).After-rows_of-rows _ c.all_equal.ensures c.if-all_equal.false None c.in_err-best.ensures
+
+pub merged-requires : goal.merged-requires
+merged-requires c =
+    let A = c.args in
+    trial_mergeable A.s A.nodes.now A.count A.left A.right A.basis c.requires.0 c.rows_of-rows.result c.cone_composition_tables.new.xs c.cone_composition_tables.new.ys c.cone_composition_tables.new.truth (tabled (goal.at.merged-requires c).After-rows_of-rows).0 (store_of A.nodes.now A.count) _ c.in_ok-best.ensures _ refl
 
 pub returns : goal.returns
+unfolding merged_by
 returns c =
-    let A = c.args in
-    let nodes = store_of A.nodes.now A.count in record {
-      is = c.best_merged.ensures.is
-          ∙ trial_merged A.s A.nodes.now A.count A.left A.right A.basis c.requires.0 c.rows_of-rows.result c.cone_composition_tables.new.xs c.cone_composition_tables.new.ys c.cone_composition_tables.new.truth (tabled (goal.at.returns c).After-rows_of-rows).0 nodes c.best_pair-best.result c.best_pair-best.ensures
-          ∙ ap (λ l. map merge_cones (find_candidate A.s nodes (union_support (cone_of A.left).support (cone_of A.right).support) (cone_of A.left) (cone_of A.right) l)) (tabled (goal.at.returns c).After-rows_of-rows).1
-          ∙ gated-merged A.s nodes (cone_of A.left) (cone_of A.right) A.gate (equal_is _ _ _ c.all_equal.ensures (tabled (goal.at.returns c).After-rows_of-rows).1 ∙ c.if-all_equal.false);
-      stands = λ q. trial_stands A.s A.nodes.now A.count A.left A.right A.basis c.requires.0 c.best_pair-best.result c.best_merged.result.cone (c.best_merged.ensures.cone q);
+    let A = c.args in record {
+      is = ap some c.merged.ensures.1 ∙ gated_by (goal.at.returns c).After-rows_of-rows _ c.all_equal.ensures c.if-all_equal.false (Some c.in_ok-best.best) c.in_ok-best.ensures;
+      stands = trial_stands A.s A.nodes.now A.count A.left A.right A.basis c.requires.0 c.in_ok-best.best c.merged.result (record { cone = c.merged.ensures.0; is = c.merged.ensures.1 });
     }

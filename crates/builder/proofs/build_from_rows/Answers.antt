@@ -1,4 +1,4 @@
-use Rattle.std.proofs.Common.{◌≡◌, sym, ap, subst, ◌∙◌, Bool, true, false, List, ℕ, arith, T, ltb, ℤ, length, replicate, to_z-of_z, w32, to_z, of_z}
+use Rattle.std.proofs.Common.{◌≡◌, sym, ap, subst, ◌∙◌, Bool, true, false, List, ℕ, T, ltb, ℤ, length, replicate, to_z-of_z, w32, to_z, of_z}
 use mathlib.Core.Option.{none, some}
 use lib.ListN.{length-replicate}
 use Rattle.laws.specs.Over.{over}
@@ -71,20 +71,15 @@ module _ (c : Else-not-enter) (is-low : to_z w32 (of_z w32 c.args.low) ≡ least
       let rows = c.enter in
       all_entered _ _ _ _ rows.new.known rows.result rows.ensures.all c.requires.known_value _ _ is-low o c.if-not-enter.false g
 
-pub enter-requires : goal.enter-requires
-enter-requires c =
-    let start = (goal.at.enter-requires c).Start in
-    record { values_len = c.requires.values_len; low_value = low-is start; values_in_bounds = omega (arith, long start) }
-
 pub returns-then-not-enter : goal.returns-then-not-enter
 returns-then-not-enter c =
     let rows = c.enter in
     conflict _ _ _ _ rows.new.known rows.result rows.ensures.all c.requires.known_value _ _ (low-is (goal.at.returns-then-not-enter c).Start) c.if-not-enter.true
 
-pub complete-requires : goal.complete-requires
-complete-requires c =
-    let g = goal.at.complete-requires c in
-    record { known_len = omega (arith, long g.Start); entries = entries g.Else-not-enter (low-is g.Start) }
+pub complete-requires-clause-entries : goal.complete-requires-clause-entries
+complete-requires-clause-entries c =
+    let g = goal.at.complete-requires-clause-entries c in
+    entries g.Else-not-enter (low-is g.Start)
 
 pub returns-then-not-complete : goal.returns-then-not-complete
 returns-then-not-complete c =

@@ -1,9 +1,10 @@
-use Rattle.std.proofs.Common.{◌-◌, length}
-use Rattle.circuit.specs.Reading.{Going}
+use Rattle.std.proofs.Common.{length}
+use Rattle.circuit.specs.View.{prefix_of}
+use Rattle.circuit.specs.Reading.{Reads}
 use Rattle.circuit.proofs.read.Given as goal
 
-abbrev pub invariant-loop-at : goal.invariant-loop-at
-invariant-loop-at l = Going l.s l.gates l.ports l.c l.at l.line
+abbrev pub invariant-loop-rest : goal.invariant-loop-rest
+invariant-loop-rest l = Reads l.text l.line (prefix_of l.prefix) l.rest
 
-abbrev pub decreases-loop-at : goal.decreases-loop-at
-decreases-loop-at l = length l.s - l.at
+abbrev pub decreases-loop-rest : goal.decreases-loop-rest
+decreases-loop-rest l = length l.rest

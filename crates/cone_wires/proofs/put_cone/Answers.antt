@@ -1,27 +1,21 @@
-use Rattle.std.proofs.Common.{◌≡◌, ◌∙◌, length, length-set, rules}
-use Rattle.cone.specs.View.{cone_of, small}
-use Rattle.cone_wires.specs.Wires.{put_all}
+use Rattle.std.proofs.Common.{◌≡◌, sym, subst, ◌+◌, ◌*◌, ◌-◌, length, set, rules, arith}
+use borrow.Rule.Slice.PartMut.{put_mid}
+use Rattle.cone_wires.specs.Wires.{TermsPut, KnownPut, put_all, known_put}
 use Rattle.cone_wires.proofs.put_cone.Goals as goal
 use Rattle.cone_wires.proofs.put_cone.Goals.{Start}
 
-sources_long : (c : Start) → length c.args.c.support ≡ 11
-sources_long c = search rules
-
-coefs_long : (c : Start) → length c.args.c.coefs ≡ 11
-coefs_long c = search rules
-
+-- `cone_wires::put_cone` meets its contract.
 entries_long : (c : Start) → length c.args.c.known ≡ 32
 entries_long c = search rules
 
-pub put_terms-requires : goal.put_terms-requires
-unfolding cone_of
-put_terms-requires c =
-    let is = c.requires.1.1 in
-    (c.requires.0, (simp length-set c.requires.1.0, (is.few, (small c.args.c is, is.near))))
-
-pub put_known-requires : goal.put_known-requires
-put_known-requires c = (c.requires.0, c.put_terms.ensures.long ∙ simp length-set c.requires.1.0)
-
 pub returns : goal.returns
 returns c =
-    put_all c.args.wires.now c.args.slot c.args.c c.requires.1.1 c.requires.0 c.requires.1.0 (sources_long (goal.at.returns c).Start) (coefs_long (goal.at.returns c).Start) (entries_long (goal.at.returns c).Start) _ _ c.put_terms.ensures c.put_known.ensures
+    let slot = c.args.slot in
+    let known = c.args.c.known in
+    let middle = c.put_terms.new.wires in
+    let long = entries_long (goal.at.returns c).Start in
+    put_all c.args.wires.now slot c.args.c c.requires.1.1 c.requires.0 c.requires.1.0 long
+    _ c.sources.ensures.are c.sources.ensures.count _ c.coefficients.ensures.are c.coefficients.ensures.count middle _
+    (subst (λ n. TermsPut (set c.args.wires.now (66 * slot) c.args.c.n) slot n c.sources.result.now c.coefficients.result.now middle) c.sources.ensures.count c.put_terms.ensures)
+    (subst (λ l. KnownPut middle slot known (put_mid (66 * slot + 34) (66 * slot + 66 - (66 * slot + 34)) middle l)) (sym c.copy_from_slice.ensures.after)
+    (known_put middle slot known long (omega (arith, c.requires.0, c.put_terms.array_long))))

@@ -1,12 +1,19 @@
-use Rattle.convert.specs.Entry.{refused_is, good_read, good_held}
+use Rattle.std.proofs.Common.{rules}
+use Rattle.convert.specs.Entry.{refused_is, plain_is, second_is, plain-turns}
+use Rattle.network.specs.View.{network_of}
 use Rattle.convert.proofs.convert.Goals as goal
 
-pub to_other-requires : goal.to_other-requires
-to_other-requires c =
-    let A = c.args in
-    (good_held A.text.now c.read-r.new.nodes c.read-r.new.ports _ c.read-r.ensures.is _ c.in-Good.is c.read-r.ensures.held, good_read A.text.now c.read-r.new.nodes c.read-r.new.ports _ c.read-r.ensures.is _ c.in-Good.is)
+pub returns-in_err-w : goal.returns-in_err-w
+returns-in_err-w c = refused_is c.args.text.now c.args.out.now _ c.from_residual.result (search rules) c.in_err-w.ensures.is
 
-pub returns-in-Refused : goal.returns-in-Refused
-returns-in-Refused c =
-    let A = c.args in
-    refused_is A.text.now c.read-r.new.nodes c.read-r.new.ports _ c.read-r.ensures.is _ _ c.in-Refused.is A.out.now
+pub to_second-requires-clause-turn : goal.to_second-requires-clause-turn
+to_second-requires-clause-turn c =
+    plain-turns c.args.text.now c.read.new.nodes c.in_ok-w.w c.in_ok-w.ensures.is c.is_edition_2.ensures c.if-is_edition_2.false
+
+pub returns-then-is_edition_2 : goal.returns-then-is_edition_2
+returns-then-is_edition_2 c =
+    plain_is c.args.text.now (network_of c.read.new.nodes c.in_ok-w.w) c.in_ok-w.ensures.is c.is_edition_2.ensures _ c.args.out.now c.if-is_edition_2.true c.to_plain.ensures
+
+pub returns-else-is_edition_2 : goal.returns-else-is_edition_2
+returns-else-is_edition_2 c =
+    second_is c.args.text.now (network_of c.read.new.nodes c.in_ok-w.w) c.in_ok-w.ensures.is c.is_edition_2.ensures _ c.args.out.now c.if-is_edition_2.false c.to_second.ensures

@@ -1,9 +1,11 @@
-use Rattle.std.proofs.Common.{◌-◌, length}
-use Rattle.edition.specs.Lines.{Lines2}
+use Rattle.std.proofs.Common.{length}
+use Rattle.network_judge.specs.View.{prefix_of}
+use Rattle.network.specs.View.{HoldsSoFar}
+use Rattle.edition.specs.Reading.{Reads}
 use Rattle.edition.proofs.read_edition_2.Given as goal
 
-abbrev pub invariant-loop-at : goal.invariant-loop-at
-invariant-loop-at l = Lines2 l.text l.nodes l.ports l.h l.line l.at
+abbrev pub invariant-loop-rest : goal.invariant-loop-rest
+invariant-loop-rest l = Reads l.text l.line (prefix_of l.nodes l.prefix) l.rest × HoldsSoFar l.nodes l.prefix
 
-abbrev pub decreases-loop-at : goal.decreases-loop-at
-decreases-loop-at l = length l.text - l.at
+abbrev pub decreases-loop-rest : goal.decreases-loop-rest
+decreases-loop-rest l = length l.rest

@@ -6,4 +6,4 @@ use Rattle.exports.proofs.fbs_find_slot.Goals as goal
 pub returns : goal.returns
 returns c =
     c.slot_numbers.ensures
-    ∙ ap slot_numbers (c.slot-r.ensures ∙ ap₂ (slot_answer c.args.p) (to_z-of_z c.ranges.value) (to_z-of_z c.ranges.error))
+    ∙ ap slot_numbers (c.slot.ensures ∙ ap₂ (slot_answer c.args.p) (to_z-of_z c.ranges.value) (to_z-of_z c.ranges.error))

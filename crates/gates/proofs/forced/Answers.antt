@@ -1,8 +1,8 @@
-use Rattle.gates.specs.Gates.{forced_yes, forced_no, boots_self}
+use Rattle.gates.specs.Gates.{forced_yes, forced_no}
 use Rattle.gates.proofs.forced.Goals as goal
 
-pub returns-then-force : goal.returns-then-force
-returns-then-force c = record { is = forced_yes _ _ _ _ _ c.if-force.true c.bootstrap_cone.ensures.is; stands = c.bootstrap_cone.ensures.stands }
+pub returns-then-force-clause-is : goal.returns-then-force-clause-is
+returns-then-force-clause-is c = forced_yes _ _ _ _ _ c.if-force.true c.bootstrap_cone.ensures.is
 
-pub returns : goal.returns
-returns c = record { is = forced_no _ _ _ _ _ c.if-force.false; stands = boots_self _ _ _ c.requires.1.0 c.requires.1.1.1 }
+pub returns-clause-is : goal.returns-clause-is
+returns-clause-is c = forced_no _ _ _ _ _ c.if-force.false

@@ -1,13 +1,9 @@
-use Rattle.std.proofs.Common.{refl, inl, inr}
-use borrow.Author.Tests.{not-true, not-false}
-use Rattle.gates.specs.Wired.{put, same}
+use Rattle.std.proofs.Common.{refl}
+use Rattle.gates.specs.Wired.{put, fixed}
 use Rattle.gates.proofs.put_new.Goals as goal
 
-pub returns-then-not-side : goal.returns-then-not-side
-returns-then-not-side c = same refl (inl (not-true c.args.side.new c.if-not-side.true))
+pub returns-in_default : goal.returns-in_default
+returns-in_default c = fixed c.in_default.field-0 c.in_default.is refl
 
-pub returns-then-slot-ge128 : goal.returns-then-slot-ge128
-returns-then-slot-ge128 c = same refl (inr c.if-slot-ge128.true)
-
-pub returns : goal.returns
-returns c = put (not-false c.args.side.new c.if-not-side.false) c.if-slot-ge128.false c.put_cone.ensures
+pub returns-then-side : goal.returns-then-side
+returns-then-side c = put c.in-Node.id c.in-Node.is c.if-side.true c.put_cone.ensures

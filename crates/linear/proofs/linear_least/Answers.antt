@@ -1,27 +1,28 @@
-use Rattle.std.proofs.Common.{◌≡◌, ap, ◌∙◌, true, false, List, ℕ, ◌+◌, ◌≤◌, ◌<◌, length, add-zero, arith, ℤ, pos, neg_ℤ, ◌+ℤ◌, get_or, drop, w64, to_z, of_z, SFits, to_z-of_z}
-use lib.Signed.{lt_z}
-use Rattle.laws.specs.Integer.{plus, minus, abs_parts, add_parts, one_part_zero, lt_z_true, lt_z_false, fits_abs, ints, plus_neg, minus_neg}
-use Rattle.scale.specs.Limits.{Within}
+use Rattle.std.proofs.Common.{◌≡◌, refl, ap, ◌∙◌, List, ℕ, zero, suc, ◌+◌, ◌≤◌, lt-ltb, add-zero, arith, ℤ, pos, negsuc, neg_ℤ, ◌+ℤ◌, get_or, w64, to_z, of_z, SFits, to_z-of_z}
+use Rattle.std.specs.Int.{int_min}
+use Rattle.laws.specs.Integer.{plus, minus, abs_parts, add_parts, one_part_zero, fits_abs, ints, plus_neg, minus_neg, read_back}
 use Rattle.linear.specs.Span.{lower_on, lower_end, lower-small}
 use Rattle.theorems.specs.LinearTables.{least_table, lower}
 use Rattle.linear.proofs.linear_least.Goals as goal
-use Rattle.linear.proofs.linear_least.Goals.{Start, then-c-lt0, else-c-lt0}
+use Rattle.linear.proofs.linear_least.Goals.{After-min-sum}
 
--- one coefficient more
-module _ (s c : ℤ) (l l' t : ℕ) (below : plus s ≡ 0) (sum : minus s + l ≡ t) (on : l ≡ minus c + l') where
-  added : lt_z c (pos 0) ≡ true → (plus (s +ℤ c) ≡ 0) × (minus (s +ℤ c) + l' ≡ t)
-  unfolding plus minus
-  added e = (omega (arith, lt_z_true c (pos 0) e, add_parts s c, one_part_zero (s +ℤ c), one_part_zero c), omega (arith, lt_z_true c (pos 0) e, add_parts s c, one_part_zero (s +ℤ c), one_part_zero c))
+-- the negative part of a coefficient
+min_is : (c : ℤ) → (plus (int_min c (pos 0)) ≡ 0) × (minus (int_min c (pos 0)) ≡ minus c)
+unfolding plus minus
+min_is (pos zero) = (refl, refl)
+min_is (pos (suc a)) = rw (lt-ltb 0 (suc a) (omega arith)) (refl, refl)
+min_is (negsuc a) = (refl, refl)
 
-  fits : lt_z c (pos 0) ≡ true → t ≤ 21824 → SFits w64 (s +ℤ c)
-  fits e h = fits_abs _ (omega (arith, abs_parts (s +ℤ c), (added e).0, (added e).1))
+-- one coefficient more: m is what it adds
+module _ (s c m : ℤ) (l l' t : ℕ) (below : plus s ≡ 0) (sum : minus s + l ≡ t) (on : l ≡ minus c + l') (is : m ≡ int_min c (pos 0)) where
+  added : (plus (s +ℤ m) ≡ 0) × (minus (s +ℤ m) + l' ≡ t)
+  added =
+      let p : plus m ≡ 0 = ap plus is ∙ (min_is c).0 in
+      let n : minus m ≡ minus c = ap minus is ∙ (min_is c).1 in
+      (omega (arith, add_parts s m, one_part_zero (s +ℤ m)), omega (arith, add_parts s m, one_part_zero (s +ℤ m)))
 
-  passed : lt_z c (pos 0) ≡ false → minus s + l' ≡ t
-  unfolding plus minus
-  passed e = omega (arith, lt_z_false c (pos 0) e, one_part_zero c)
-
-stored : (z x : ℤ) (l t : ℕ) → z ≡ to_z w64 (of_z w64 x) → SFits w64 x → (plus x ≡ 0) × (minus x + l ≡ t) → (plus z ≡ 0) × (minus z + l ≡ t)
-stored z x l t e f h = rw (e, to_z-of_z f) h
+  fits : t ≤ 21824 → SFits w64 (s +ℤ m)
+  fits h = fits_abs _ (omega (arith, abs_parts (s +ℤ m), added))
 
 none_yet : (l : ℕ) → (plus (pos 0) ≡ 0) × (minus (pos 0) + l ≡ l)
 unfolding plus minus
@@ -31,33 +32,38 @@ whole : (s z : ℤ) (t : ℕ) → plus s ≡ 0 → minus s ≡ t → z ≡ neg_�
 unfolding plus minus
 whole s z t p m e = omega (arith, ints, plus_neg (pos t), minus_neg (pos t))
 
--- the coefficient that is read, among those that are left
-on : (cs : List ℤ) (i : ℕ) → i < length cs → Within 1984 cs
-    → lower (drop i cs) ≡ minus (to_z w64 (of_z w64 (get_or cs i (pos 0)))) + lower (drop (i + 1) cs)
-on cs i h w = simp (to_z-of_z {w = w64} (fits_abs (get_or cs i (pos 0)) (omega (arith, w i)))) (lower_on cs i h)
+-- what the coefficient that is read adds
+module _ (c : After-min-sum) where
+  abbrev cs : List ℤ
+  cs = c.args.coefs.now
 
-all_small : (c : Start) → lower c.args.coefs.now ≤ 21824
-all_small c = omega (arith, c.requires.0, lower-small 1984 c.args.coefs.now c.requires.1)
+  abbrev i : ℕ
+  i = c.loop-c.c-index
 
-pub loop-i-init : goal.loop-i-init
-loop-i-init c = (omega arith, none_yet _)
+  small : lower cs ≤ 21824
+  small = omega (arith, c.requires.0, lower-small 1984 cs c.requires.1)
+
+  adds : to_z w64 (of_z w64 c.min-sum.result) ≡ int_min (get_or cs i (pos 0)) (pos 0)
+  adds =
+      let back = to_z-of_z {w = w64} (fits_abs (get_or cs i (pos 0)) (omega (arith, c.requires.1 i))) in
+      read_back c.min-sum.result c.min-sum.type_inv ∙ (simp back at c.min-sum.ensures.value)
+
+pub loop-c-init : goal.loop-c-init
+loop-c-init c = let n = none_yet (lower c.args.coefs.now) in record { not_positive = n.0; negative_parts = n.1 }
 
 pub overflow_add-sum : goal.overflow_add-sum
 overflow_add-sum c =
-    let o = c.loop-i in
-    fits _ _ _ _ _ o.invariant.1.0 o.invariant.1.1 (on c.args.coefs.now o.i (omega arith) c.requires.1) c.if-c-lt0.true (all_small (goal.at.overflow_add-sum c).Start)
+    let o = c.loop-c in
+    fits _ _ _ _ _ _ o.invariant.not_positive o.invariant.negative_parts (lower_on c.args.coefs.now o.c-index (omega arith)) (adds c) (small c)
 
-pub loop-i-preserved : goal.loop-i-preserved
-loop-i-preserved c =
-    let o = c.loop-i in
-    let here = on c.args.coefs.now o.i (omega arith) c.requires.1 in
-    let small = all_small (goal.at.loop-i-preserved c).Start in
-    elim c.if-c-lt0.branch [
-      | then-c-lt0 w ↦ (omega arith, stored _ _ _ _ w.sum-is (fits _ _ _ _ _ o.invariant.1.0 o.invariant.1.1 here w.if-c-lt0.true small) (added _ _ _ _ _ o.invariant.1.0 o.invariant.1.1 here w.if-c-lt0.true))
-      | else-c-lt0 w ↦ (omega arith, (ap plus w.sum-is ∙ o.invariant.1.0, ap (λ s. minus s + lower (drop (o.i + 1) c.args.coefs.now)) w.sum-is ∙ passed _ _ _ _ _ o.invariant.1.0 o.invariant.1.1 here w.if-c-lt0.false))
-    ]
+pub loop-c-preserved : goal.loop-c-preserved
+loop-c-preserved c =
+    let o = c.loop-c in
+    let on = lower_on c.args.coefs.now o.c-index (omega arith) in
+    let n = added _ _ _ _ _ _ o.invariant.not_positive o.invariant.negative_parts on (adds c) in
+    rw (to_z-of_z (fits _ _ _ _ _ _ o.invariant.not_positive o.invariant.negative_parts on (adds c) (small c))) (record { not_positive = n.0; negative_parts = n.1 })
 
 pub returns : goal.returns
 returns c =
-    let o = c.loop-i in
-    whole _ _ _ o.invariant.1.0 (simp (lower_end c.args.coefs.now o.i (omega arith), add-zero) at o.invariant.1.1) (least_table c.args.coefs.now)
+    let o = c.loop-c in
+    whole _ _ _ o.invariant.not_positive (simp (lower_end c.args.coefs.now o.c-index (omega arith), add-zero) at o.invariant.negative_parts) (least_table c.args.coefs.now)

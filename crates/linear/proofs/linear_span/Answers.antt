@@ -6,21 +6,21 @@ use Rattle.linear.proofs.linear_span.Goals as goal
 use Rattle.linear.proofs.linear_span.Goals.{After-magnitude-sum}
 
 -- what the coefficient that is read adds
-adds : (c : After-magnitude-sum) → let o = c.loop-i in
-    c.magnitude-sum.result + total (drop (o.i + 1) c.args.coefs.now) ≡ total (drop o.i c.args.coefs.now)
+adds : (c : After-magnitude-sum) → let o = c.loop-c in
+    c.magnitude-sum.result + total (drop (o.c-index + 1) c.args.coefs.now) ≡ total (drop o.c-index c.args.coefs.now)
 adds c =
-    let o = c.loop-i in
-    let back = to_z-of_z {w = w64} (fits_abs (get_or c.args.coefs.now o.i (pos 0)) (omega (arith, c.requires.1 o.i))) in
-    omega (arith, simp back at c.magnitude-sum.ensures, total_on c.args.coefs.now o.i (omega arith))
+    let o = c.loop-c in
+    let back = to_z-of_z {w = w64} (fits_abs (get_or c.args.coefs.now o.c-index (pos 0)) (omega (arith, c.requires.1 o.c-index))) in
+    omega (arith, simp back at c.magnitude-sum.ensures, total_on c.args.coefs.now o.c-index (omega arith))
 
 pub overflow_add-sum : goal.overflow_add-sum
 overflow_add-sum c =
     omega (arith, adds (goal.at.overflow_add-sum c).After-magnitude-sum, total-small 1984 c.args.coefs.now c.requires.1)
 
-pub loop-i-preserved : goal.loop-i-preserved
-loop-i-preserved c = omega (arith, adds (goal.at.loop-i-preserved c).After-magnitude-sum)
+pub loop-c-preserved : goal.loop-c-preserved
+loop-c-preserved c = omega (arith, adds (goal.at.loop-c-preserved c).After-magnitude-sum)
 
 pub returns : goal.returns
 returns c =
-    let o = c.loop-i in
-    omega (arith, total_end c.args.coefs.now o.i (omega arith), span_table c.args.coefs.now)
+    let o = c.loop-c in
+    omega (arith, total_end c.args.coefs.now o.c-index (omega arith), span_table c.args.coefs.now)

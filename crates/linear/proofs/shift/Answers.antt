@@ -1,49 +1,40 @@
-use Rattle.std.proofs.Common.{rules, ◌≡◌, refl, sym, ◌∙◌, List, ℕ, ◌+◌, ◌≤◌, ◌<◌, length, get_or, set, take, length-set, w32, to_z, of_z, SFits, ℤ, pos, nat_abs, ◌+ℤ◌, get_or-take, length-take-le, arith, to_z-of_z}
-use lib.ListN.{length-map, get_or-map}
-use Rattle.laws.specs.Front.{front, front_zero, front_get, front-set}
-use Rattle.linear.specs.Table.{shifted}
-use Rattle.scale.specs.Limits.{Within}
-use Rattle.laws.specs.Over.{front-over}
+use Rattle.std.proofs.Common.{◌≡◌, sym, ◌∙◌, List, ℕ, ◌+◌, ◌≤◌, ◌<◌, length, get_or, set, w32, to_z, of_z, SFits, ℤ, pos, nat_abs, ◌+ℤ◌, arith, to_z-of_z}
+use Rattle.std.proofs.Math.IntN.{+ℤ_comm}
+use lib.ListN.{get_or-map}
+use Rattle.laws.specs.Front.{Filling, front_get, filling_start, filling_step, filling-all}
 use Rattle.laws.specs.Integer.{fits_abs, abs_add}
+use Rattle.linear.specs.Table.{shifted, shifted-length}
+use Rattle.scale.specs.Limits.{Within}
 use Rattle.linear.proofs.shift.Goals as goal
 
--- one turn, on the values: l the part as it was, t as it is, z what is read
-module _ (l t : List ℤ) (n i : ℕ) (k : ℤ) (lt : i < n) (in-l : n ≤ length l) (small : nat_abs k ≤ 1984) (w : Within 21824 (take n l)) (inv : t ≡ front (shifted k (take n l)) l i) where
-  read : to_z w32 (of_z w32 (get_or t i (pos 0))) ≡ get_or (take n l) i (pos 0)
-  read =
-      rw (inv, front_get (shifted k (take n l)) l i i (pos 0) (omega arith), ← get_or-take n l i (pos 0) lt)
-      (to_z-of_z {w = w32} (fits_abs (get_or (take n l) i (pos 0)) (omega (arith, w i))))
+-- one turn, on the values: l as they were, t as they are
+module _ (l t : List ℤ) (i : ℕ) (k : ℤ) (lt : i < length l) (small : nat_abs k ≤ 1984) (w : Within 21824 l) (inv : Filling (shifted k l) l t i) where
+  read : to_z w32 (of_z w32 (get_or t i (pos 0))) ≡ get_or l i (pos 0)
+  read = rw (inv.so_far, front_get (shifted k l) l i i (pos 0) (omega arith)) (to_z-of_z {w = w32} (fits_abs (get_or l i (pos 0)) (omega (arith, w i))))
 
-  fits : SFits w32 (k +ℤ to_z w32 (of_z w32 (get_or t i (pos 0))))
-  fits = rw read (fits_abs (k +ℤ get_or (take n l) i (pos 0)) (omega (arith, w i, abs_add k (get_or (take n l) i (pos 0)))))
+  fits : SFits w32 (to_z w32 (of_z w32 (get_or t i (pos 0))) +ℤ k)
+  fits = rw read (fits_abs (get_or l i (pos 0) +ℤ k) (omega (arith, w i, abs_add (get_or l i (pos 0)) k)))
 
-  turn : set t i (to_z w32 (of_z w32 (k +ℤ to_z w32 (of_z w32 (get_or t i (pos 0)))))) ≡ front (shifted k (take n l)) l (i + 1)
+  turn : Filling (shifted k l) l (set t i (to_z w32 (of_z w32 (to_z w32 (of_z w32 (get_or t i (pos 0))) +ℤ k)))) (i + 1)
   unfolding shifted
   turn =
-      let at = get_or-map (λ (y : ℤ). k +ℤ y) (take n l) i (pos 0) in
-      rw (to_z-of_z fits, read, ← at, inv) (front-set (shifted k (take n l)) l i _ (rw (length-map, length-take-le n l in-l) lt) (omega arith))
+      rw (to_z-of_z fits, read)
+      (filling_step _ l t i _ (k +ℤ pos 0) inv (+ℤ_comm (get_or l i (pos 0)) k ∙ sym (get_or-map (λ (y : ℤ). k +ℤ y) l i (pos 0))) (rw (shifted-length k l) lt) lt)
 
-long_is : (k : ℤ) (l : List ℤ) (n : ℕ) → n ≤ length l → length (shifted k (take n l)) ≡ n
-unfolding shifted
-long_is k l n h = rw (length-map, length-take-le n l h)
+pub loop-v-init : goal.loop-v-init
+loop-v-init c = filling_start _ _
 
-pub loop-i-init : goal.loop-i-init
-loop-i-init c = (search rules, refl, sym (front_zero _ _))
+pub overflow_add-v : goal.overflow_add-v
+overflow_add-v c =
+    let o = c.loop-v in
+    fits c.args.part.now o.v-items o.v-index _ (omega arith) (simp (to_z-of_z c.ranges.c) c.requires.0) c.requires.1 o.invariant
 
-pub overflow_add-part : goal.overflow_add-part
-overflow_add-part c =
-    let o = c.loop-i in
-    fits c.args.part.now o.part c.args.count o.i _ (omega arith) c.requires.0 (simp (to_z-of_z c.ranges.c) c.requires.1.0) c.requires.1.1 o.invariant.2
-
-pub loop-i-preserved : goal.loop-i-preserved
-loop-i-preserved c =
-    let o = c.loop-i in (
-      omega arith,
-      simp length-set o.invariant.1,
-      turn c.args.part.now o.part c.args.count o.i _ (omega arith) c.requires.0 (simp (to_z-of_z c.ranges.c) c.requires.1.0) c.requires.1.1 o.invariant.2,
-    )
+pub loop-v-preserved : goal.loop-v-preserved
+loop-v-preserved c =
+    let o = c.loop-v in
+    turn c.args.part.now o.v-items o.v-index _ (omega arith) (simp (to_z-of_z c.ranges.c) c.requires.0) c.requires.1 o.invariant
 
 pub returns : goal.returns
 returns c =
-    let long : length (shifted c.args.c (take c.args.count c.args.part.now)) ≡ c.args.count = long_is c.args.c c.args.part.now c.args.count c.requires.0 in
-    (simp (to_z-of_z c.ranges.c) at c.loop-i.invariant.2) ∙ front-over _ _ c.loop-i.i (omega arith) (omega arith)
+    let o = c.loop-v in
+    filling-all _ _ _ o.v-index (simp (to_z-of_z c.ranges.c) at o.invariant) (shifted-length _ _) (omega arith)

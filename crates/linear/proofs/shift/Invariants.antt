@@ -1,10 +1,7 @@
-use Rattle.std.proofs.Common.{◌≡◌, ◌-◌, ◌≤◌, length, take}
-use Rattle.laws.specs.Front.{front}
+use Rattle.laws.specs.Front.{Filling}
 use Rattle.linear.specs.Table.{shifted}
 use Rattle.linear.proofs.shift.Given as goal
 
-abbrev pub invariant-loop-i : goal.invariant-loop-i
-invariant-loop-i l = (l.i ≤ l.count) × (length l.part ≡ length l.initial.part) × (l.part ≡ front (shifted l.c (take l.count l.initial.part)) l.initial.part l.i)
-
-abbrev pub decreases-loop-i : goal.decreases-loop-i
-decreases-loop-i l = l.count - l.i
+-- `linear::shift` meets its contract. The values before the index are shifted.
+abbrev pub invariant-loop-v : goal.invariant-loop-v
+invariant-loop-v l = Filling (shifted l.c l.initial.v-items) l.initial.v-items l.v-items l.v-index

@@ -1,4 +1,4 @@
-use Rattle.std.proofs.Common.{◌<◌, arith}
+use Rattle.std.proofs.Common.{◌<◌, refl, arith}
 use Rattle.theorems.specs.Widths.{some_step, period_most}
 use Rattle.phase.specs.Reckoned.{circle, nearest_is}
 use Rattle.phase.proofs.nearest.Goals as goal
@@ -8,8 +8,8 @@ use Rattle.phase.proofs.nearest.Goals.{After-step_of-step}
 divides : (c : After-step_of-step) → 0 < c.step_of-step.result
 divides c = omega (arith, some_step (circle c.args.p c.requires), c.step_of-step.ensures)
 
-pub nonzero_div-phase : goal.nonzero_div-phase
-nonzero_div-phase c = divides (goal.at.nonzero_div-phase c).After-step_of-step
+pub nonzero_div-k : goal.nonzero_div-k
+nonzero_div-k c = divides (goal.at.nonzero_div-k c).After-step_of-step
 
 pub nonzero_rem-phase : goal.nonzero_rem-phase
 nonzero_rem-phase c = divides (goal.at.nonzero_rem-phase c).After-step_of-step
@@ -21,6 +21,4 @@ pub nonzero_rem-result : goal.nonzero_rem-result
 nonzero_rem-result c = omega (arith, (circle c.args.p c.requires).some_slots)
 
 pub returns : goal.returns
-returns c =
-    let step = c.step_of-step in
-    nearest_is c.args.p c.args.phase step.result _ _ step.ensures c.wide-k.ensures.0 c.nearer.ensures
+returns c = nearest_is c.args.p c.args.phase c.step_of-step.result _ _ c.step_of-step.ensures refl c.nearer.ensures

@@ -36,14 +36,6 @@ returns-then-not-is_value c =
     let at = (goal.at.returns-then-not-is_value c).After-is_value in
     bad_value _ _ _ (period at) (sym (read at) ∙ c.if-not-is_value.true)
 
-pub phase_of-requires : goal.phase_of-requires
-phase_of-requires c =
-    let at = (goal.at.phase_of-requires c).After-is_value in
-    (period at, rw (to_z-of_z c.ranges.v) (in_circle at c.if-not-is_value.false))
-
-pub nearest-requires : goal.nearest-requires
-nearest-requires c = period (goal.at.nearest-requires c).After-is_value
-
 pub returns : goal.returns
 returns c =
     let at = (goal.at.returns c).After-is_value in

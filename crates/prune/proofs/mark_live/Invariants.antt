@@ -1,11 +1,7 @@
-use Rattle.std.proofs.Common.{◌≤◌}
 use Rattle.nodes.specs.View.{store_of}
 use Rattle.prune.specs.Prune.{Reaching}
 use Rattle.prune.proofs.mark_live.Given as goal
 
 -- `prune::mark_live` meets its contract: the nodes below i are left.
 abbrev pub invariant-loop-i : goal.invariant-loop-i
-invariant-loop-i l = (l.i ≤ l.count) × Reaching (store_of l.nodes l.count) l.count l.i l.initial.live l.live
-
-abbrev pub decreases-loop-i : goal.decreases-loop-i
-decreases-loop-i l = l.i
+invariant-loop-i l = Reaching (store_of l.nodes l.count) l.count l.i l.initial.live l.live

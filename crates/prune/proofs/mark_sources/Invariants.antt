@@ -1,4 +1,4 @@
-use Rattle.std.proofs.Common.{◌≤◌, length, drop}
+use Rattle.std.proofs.Common.{drop}
 use Rattle.rules.specs.Store.{needs}
 use Rattle.nodes.specs.View.{node_of}
 use Rattle.prune.specs.Prune.{Marking, adding}
@@ -6,7 +6,4 @@ use Rattle.prune.proofs.mark_sources.Given as goal
 
 -- `prune::mark_sources` meets its contract: the sources from k on are marked.
 abbrev pub invariant-loop-k : goal.invariant-loop-k
-invariant-loop-k l = (l.k ≤ length (needs (node_of l.nodes l.i))) × Marking (adding (drop l.k (needs (node_of l.nodes l.i)))) l.initial.live l.live
-
-abbrev pub decreases-loop-k : goal.decreases-loop-k
-decreases-loop-k l = l.k
+invariant-loop-k l = Marking (adding (drop l.k (needs (node_of l.nodes l.i)))) l.initial.live l.live

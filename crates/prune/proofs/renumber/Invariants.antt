@@ -1,10 +1,7 @@
-use Rattle.std.proofs.Common.{◌≡◌, List, ℕ, ◌-◌, ◌≤◌, length}
+use Rattle.std.proofs.Common.{List, ℕ, ◌≤◌}
 use Rattle.prune.specs.Prune.{Marks, Numbering}
 use Rattle.prune.proofs.renumber.Given as goal
 
 -- `prune::renumber` meets its contract: the nodes below i have their numbers.
-abbrev pub invariant-loop-i : goal.invariant-loop-i
-invariant-loop-i l = (l.i ≤ l.count) × (length l.live ≡ 672) × (l.next ≤ l.i) × ((kept : List ℕ) → Marks kept l.initial.live → Numbering kept l.live l.i l.next)
-
-abbrev pub decreases-loop-i : goal.decreases-loop-i
-decreases-loop-i l = l.count - l.i
+abbrev pub invariant-loop-mark : goal.invariant-loop-mark
+invariant-loop-mark l = (l.next ≤ l.mark-index) × ((kept : List ℕ) → Marks kept l.fn.live → Numbering kept l.mark-items l.mark-index l.next)

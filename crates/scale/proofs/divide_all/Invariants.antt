@@ -1,11 +1,7 @@
-use Rattle.std.proofs.Common.{◌≡◌, ◌-◌, ◌≤◌, length}
-use Rattle.laws.specs.Front.{front}
+use Rattle.laws.specs.Front.{Filling}
 use Rattle.rules.specs.Scale.{quotients}
 use Rattle.scale.proofs.divide_all.Given as goal
 
-abbrev pub invariant-loop-i : goal.invariant-loop-i
-invariant-loop-i l =
-    (l.i ≤ length l.initial.values) × (length l.values ≡ length l.initial.values) × (l.values ≡ front (quotients l.d l.initial.values) l.initial.values l.i)
-
-abbrev pub decreases-loop-i : goal.decreases-loop-i
-decreases-loop-i l = length l.initial.values - l.i
+-- `scale::divide_all` meets its contract. The values before the index are divided, and the others are as they were.
+abbrev pub invariant-loop-v : goal.invariant-loop-v
+invariant-loop-v l = Filling (quotients l.d l.initial.v-items) l.initial.v-items l.v-items l.v-index

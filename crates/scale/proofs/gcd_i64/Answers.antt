@@ -22,7 +22,6 @@ loop-r-preserved c =
 
 pub returns : goal.returns
 returns c =
-    let zero_right = c.loop-r-test.false in
-    let same = simp (to_z-of_z c.ranges.left, to_z-of_z c.ranges.right, zero_right) at c.loop-r.invariant.same_gcd in
-    simp (read_back c.abs_i64.result c.abs_i64.type_inv)
-    (c.abs_i64.ensures ∙ ap pos (sym (gcd_zero (nat_abs (to_z w64 c.loop-r.l-bits))) ∙ same))
+    let same = simp (to_z-of_z c.ranges.left, to_z-of_z c.ranges.right, c.loop-r-test.false) at c.loop-r.invariant.same_gcd in
+    read_back c.abs.result c.abs.type_inv
+    ∙ c.abs.ensures.value ∙ ap pos (sym (gcd_zero (nat_abs (to_z w64 c.loop-r.l-bits))) ∙ same)

@@ -20,12 +20,6 @@ by_fits c = fits_abs _ (omega (arith, size c))
 sum_fits : (c : Start) → SFits w64 ((c.args.a *ℤ c.args.x) +ℤ (c.args.b *ℤ c.args.y))
 sum_fits c = fits_abs _ (omega (arith, size c))
 
-pub overflow_mul-result : goal.overflow_mul-result
-overflow_mul-result c = simp (to_z-of_z c.ranges.a, to_z-of_z c.ranges.x) (ax_fits c)
-
-pub overflow_mul-result-2 : goal.overflow_mul-result-2
-overflow_mul-result-2 c = simp (to_z-of_z c.ranges.b, to_z-of_z c.ranges.y) (by_fits c)
-
 pub overflow_add-result : goal.overflow_add-result
 overflow_add-result c =
     simp (to_z-of_z c.ranges.a, to_z-of_z c.ranges.x, to_z-of_z c.ranges.b, to_z-of_z c.ranges.y, to_z-of_z (ax_fits c), to_z-of_z (by_fits c)) (sum_fits c)

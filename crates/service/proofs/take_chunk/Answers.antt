@@ -1,14 +1,13 @@
-use Rattle.std.proofs.Common.{refl, arith, rules}
-use Rattle.service.specs.Chunk.{chunk_start, chunk_step, chunk_done}
+use Rattle.std.proofs.Common.{◌∙◌, rules, drop_of_length-le}
+use Rattle.framing.specs.Feeding.{fed_all}
+use Rattle.service.specs.Chunk.{chunk_step}
 use Rattle.service.proofs.take_chunk.Goals as goal
 
-pub loop-i-init : goal.loop-i-init
-loop-i-init g c = (refl, refl, chunk_start _ _)
-
-pub loop-i-preserved : goal.loop-i-preserved
-loop-i-preserved g c =
-    let o = c.loop-i in
-    (search rules, search rules, chunk_step _ _ _ _ _ _ _ _ o.invariant.2 (omega arith) c.feed_byte-e.ensures.step c.next_feed-f.ensures)
+pub loop-b-preserved : goal.loop-b-preserved
+loop-b-preserved g c =
+    let o = c.loop-b in
+    (search rules, search rules, chunk_step c.args.chunk.now _ _ _ _ o.b-index _ (search rules) c.feed_byte-closed.ensures.step ∙ o.invariant.2)
 
 pub returns : goal.returns
-returns g c = λ e. chunk_done _ _ _ _ c.loop-i.invariant.2 (omega arith)
+unfolding fed_all
+returns g c = rw (← c.loop-b.invariant.2, drop_of_length-le c.args.chunk.now {i = c.loop-b.b-index} (search rules))

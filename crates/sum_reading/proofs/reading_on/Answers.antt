@@ -42,5 +42,8 @@ returns c =
     let x = node_of c.args.nodes.now c.args.i in
     let e = rest-is (goal.at.returns c).After-constant_of in
     let fits = subst (SFits w64) (sym e) (rest-fits c.args.value (constant_of x) c.ranges.value (constant_small c.args.i x c.requires.0.fine c.requires.1)) in
-    c.shown.ensures
-    ∙ sum-answer x c.args.value _ c.size_of-n.result c.first_row-row.result _ c.requires.1 (many (goal.at.returns c).After-size_of-n) c.coefs_of-coefs.ensures (to_z-of_z {w = w64} fits ∙ e) c.first_row-row.ensures
+    record {
+      few = c.shown.ensures.few;
+      is = c.shown.ensures.is
+          ∙ sum-answer x c.args.value _ c.size_of-n.result c.first_row-row.result _ c.requires.1 (many (goal.at.returns c).After-size_of-n) c.coefs_of-coefs.ensures (to_z-of_z {w = w64} fits ∙ e) c.first_row-row.ensures;
+    }

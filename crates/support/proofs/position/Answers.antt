@@ -1,15 +1,8 @@
-use Rattle.std.proofs.Common.{arith}
-use Rattle.support.specs.Support.{position_here, position_on, position_end}
+use Rattle.std.proofs.Common.{ap, ◌∙◌, length}
+use Rattle.std.specs.Option.{unwrap_or}
+use Rattle.support.specs.Support.{position_is}
 use Rattle.support.proofs.position.Goals as goal
 
-pub returns-then-nodes-i : goal.returns-then-nodes-i
-returns-then-nodes-i c =
-    omega (arith, position_here c.args.nodes.now c.args.node c.loop-i.i (omega arith) c.if-nodes-i.true)
-
-pub loop-i-preserved : goal.loop-i-preserved
-loop-i-preserved c =
-    omega (arith, position_on c.args.nodes.now c.args.node c.loop-i.i (omega arith) c.if-nodes-i.false)
-
+-- `support::position` meets its contract.
 pub returns : goal.returns
-returns c =
-    omega (arith, position_end c.args.nodes.now c.args.node c.loop-i.i (omega arith))
+returns c = c.unwrap_or.ensures ∙ ap (λ o. unwrap_or o (length c.args.nodes.now)) c.place.ensures ∙ position_is c.args.nodes.now c.args.node

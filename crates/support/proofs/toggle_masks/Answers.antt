@@ -25,14 +25,15 @@ first : (U rs m : List ℕ) → ((z : ℕ) → z < 12 → get_or m z 0 ≡ hit_m
 first U rs m h z l = let e : z ≡ 0 = omega arith in rw (e, toggle_mask-first) (h 0 (omega arith))
 
 pub loop-shift-init : goal.loop-shift-init
-loop-shift-init c = (omega arith, omega arith, search rules, first _ _ c.source_masks-masks.result c.source_masks-masks.ensures, λ z h l. c.source_masks-masks.ensures z l)
+loop-shift-init c = record { twelve = search rules; lower = first _ _ c.source_masks-masks.result c.source_masks-masks.ensures; upper = λ z h l. c.source_masks-masks.ensures z l }
 
 pub loop-shift-preserved : goal.loop-shift-preserved
 loop-shift-preserved c =
     let o = c.loop-shift in
     let n = o.invariant in
     let t = c.loop-shift-test.true in
-    (omega arith, omega arith, simp length-set n.2, next_lower _ _ o.masks o.shift n.0 t n.2 n.3 n.4, next_upper _ _ o.masks o.shift n.0 t n.2 n.3 n.4)
-
-pub returns : goal.returns
-returns c = λ z h. c.loop-shift.invariant.3 z (omega arith)
+    record {
+      twelve = simp length-set n.twelve;
+      lower = next_lower _ _ o.masks o.shift (omega arith) t n.twelve n.lower n.upper;
+      upper = next_upper _ _ o.masks o.shift (omega arith) t n.twelve n.lower n.upper;
+    }

@@ -1,4 +1,4 @@
-use Rattle.std.proofs.Common.{◌≡◌, List, ◌++◌, ℕ, ◌+◌, ◌-◌, ◌≤◌, length, drop, take}
+use Rattle.std.proofs.Common.{◌≡◌, List, ◌++◌, ℕ, ◌+◌, length, drop, take}
 use Rattle.laws.specs.Select.{select}
 use Rattle.rules.specs.Composition.{union_support}
 use Rattle.support.specs.Support.{is_new}
@@ -11,8 +11,5 @@ pub record Joined (left right : List ℕ) (i n : ℕ) (nodes : List ℕ) : Type 
   pub whole : take n nodes ++ select (is_new left) (drop i right) ≡ union_support left right
 
 -- `support::union_support` meets its contract: the sources so far, and the new ones among those that are left, are the union.
-abbrev pub invariant-loop-i : goal.invariant-loop-i
-invariant-loop-i l = (l.i ≤ length l.right) × Joined l.left l.right l.i l.s.n l.s.nodes
-
-abbrev pub decreases-loop-i : goal.decreases-loop-i
-decreases-loop-i l = length l.right - l.i
+abbrev pub invariant-loop-node : goal.invariant-loop-node
+invariant-loop-node l = Joined l.left l.right l.node-index l.s.n l.s.nodes

@@ -1,9 +1,6 @@
-use Rattle.std.proofs.Common.{◌≡◌, ◌-◌, ◌≤◌, min}
-use Rattle.text.specs.Number.{digits_value}
+use Rattle.std.proofs.Common.{◌≡◌, min, take}
+use Rattle.rules.specs.Form.{value_from}
 use Rattle.text.proofs.value_of.Given as goal
 
-abbrev pub invariant-loop-i : goal.invariant-loop-i
-invariant-loop-i l = (l.at ≤ l.i) × (l.i ≤ l.end) × (l.v ≡ min 65536 (digits_value l.s l.at l.i))
-
-abbrev pub decreases-loop-i : goal.decreases-loop-i
-decreases-loop-i l = l.end - l.i
+abbrev pub invariant-loop-b : goal.invariant-loop-b
+invariant-loop-b l = l.v ≡ min 65536 (value_from 0 (take l.b-index l.digits))

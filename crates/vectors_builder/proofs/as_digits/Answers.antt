@@ -1,18 +1,11 @@
-use Rattle.std.proofs.Common.{refl, sym, arith, rules, length-set}
-use Rattle.laws.specs.Front.{front_zero}
-use Rattle.vectors_builder.specs.Case.{shown_next, shown_end}
+use Rattle.std.proofs.Common.{◌<◌, length, sym, arith}
+use Rattle.std.proofs.lemmas.Grind.{get_or_default_zero}
+use Rattle.std.proofs.lemmas.List.Edits.{map_over_more}
+use Rattle.vectors_builder.specs.Shown.{shown_byte}
 use Rattle.vectors_builder.proofs.as_digits.Goals as goal
 
-pub loop-i-init : goal.loop-i-init
-loop-i-init c = (search rules, refl, sym (front_zero _ _))
-
-pub loop-i-preserved : goal.loop-i-preserved
-loop-i-preserved c =
-    let o = c.loop-i in
-    (omega arith, simp length-set o.invariant.1, shown_next c.args.out.now o.out o.i _ o.invariant.2 (omega arith) c.shown.ensures)
-
-pub shape_of-out : goal.shape_of-out
-shape_of-out c = c.loop-i.invariant.1
-
-pub returns : goal.returns
-returns c = let o = c.loop-i in shown_end c.args.out.now o.out o.i o.invariant.2 (omega arith)
+pub loop-b-preserved : goal.loop-b-preserved
+loop-b-preserved c =
+    let o = c.loop-b in
+    let h : o.b-index < length o.b-items = omega arith in
+    rw c.shown.ensures (map_over_more shown_byte _ o.b-items o.b-index _ (omega arith) o.invariant (sym (get_or_default_zero o.b-items o.b-index _ h)))

@@ -1,8 +1,7 @@
 use Rattle.std.proofs.Common.{◌≡◌, refl, sym, ap, subst, ◌∙◌, List, ℕ, ◌≤◌, arith, rules, ℤ, length, take}
 use Rattle.rules.specs.Cone as C
 use mathlib.Core.Option.{some}
-use borrow.Author.Tests.{not-true, not-false}
-use Rattle.laws.specs.Tail.{head_length}
+use Rattle.std.specs.Option.{IfSome}
 use Rattle.rules.specs.Builder.{known_entries}
 use Rattle.rules.specs.Cone.{linear_table, cone_span, values, fits}
 use Rattle.rules.specs.Span.{span}
@@ -10,9 +9,9 @@ use Rattle.cone.specs.declared.Cone.{Cone}
 use Rattle.cone.specs.View.{cone_of, IsCone}
 use Rattle.cone.specs.Sources.{AreNodes, below_same}
 use Rattle.nodes.specs.View.{store_of}
-use Rattle.bootstrap.specs.Form.{reformed, entries_clash, entries_agree, formed_is, formed_cone, fits_long, fits-clash, form_not, form_so, kept_itself, kept-form}
+use Rattle.bootstrap.specs.Form.{reformed, formed_is, formed_cone, candidate_in, Reforms, fits_long, fits-clash, form_not, form_tested, kept_tested}
 use Rattle.bootstrap.proofs.form.form_cone.Goals as goal
-use Rattle.bootstrap.proofs.form.form_cone.Goals.{Else-not-e, Start}
+use Rattle.bootstrap.proofs.form.form_cone.Goals.{In_ok-known}
 
 -- `bootstrap::form::form_cone` meets its contract.
 module _ (c : Cone) (cs : List ℤ) where
@@ -28,85 +27,61 @@ module _ (c : Cone) (cs : List ℤ) where
   unfolding reformed
   sources_are = refl
 
-few_coefs : (c : Start) → c.args.c.n ≤ length c.args.coefs
-few_coefs c = let long : length c.args.coefs ≡ 11 = search rules in omega (arith, long, c.requires.1.0.few)
+module _ (c : In_ok-known) where
+  abbrev coefs : List ℤ
+  coefs = take c.args.c.n c.args.coefs
 
-coefs_long : (c : Else-not-e) → length c.args.c.coefs ≡ 11
-coefs_long c = search rules
+  abbrev made : Cone
+  made = record { n = c.args.c.n; support = c.args.c.support; coefs = c.args.coefs; known = c.in_ok-known.known }
 
-form_long : (c : Else-not-e) → length c.args.coefs ≡ 11
-form_long c = search rules
+  coefs_long : length c.args.c.coefs ≡ 11
+  coefs_long = search rules
 
--- the span is within the entries
-entries : (c : Else-not-e) → (span (linear_table (take c.args.c.n c.args.coefs)) ≤ 32)
-    × (known_entries (linear_table (take c.args.c.n c.args.coefs)) (cone_of c.args.c).truth ≡ some (take (span (linear_table (take c.args.c.n c.args.coefs))) c.enter_form-e.result.known))
-entries c = (
-  omega (arith, c.requires.0, c.if-s-span.false, c.linear_span-span.ensures),
-  entries_agree _ c.enter_form-e.result _ c.enter_form-e.ensures (not-false c.enter_form-e.result.ok c.if-not-e.false)
-      ∙ ap (λ (n : ℕ). some (take n c.enter_form-e.result.known)) c.linear_span-span.ensures,
-)
+  form_long : length c.args.coefs ≡ 11
+  form_long = search rules
 
--- the cone is the one with the form's coefficients
-form : (c : Else-not-e) → cone_of (record { n = c.args.c.n; support = c.args.c.support; coefs = c.args.coefs; known = c.enter_form-e.result.known }) ≡ reformed (cone_of c.args.c) (take c.args.c.n c.args.coefs)
-form c =
-    let w = entries c in
-    formed_is c.args.c c.requires.1.0 (coefs_long c) c.args.coefs (form_long c) _ w.0 w.1
+  -- the span is within the entries
+  short : span (linear_table coefs) ≤ 32
+  short = omega (arith, c.requires.0, c.if-s-span.false, c.linear_span-span.ensures)
 
--- its sources are the cone's
-sources : (c : Else-not-e) → (cone_of (record { n = c.args.c.n; support = c.args.c.support; coefs = c.args.coefs; known = c.enter_form-e.result.known })).support ≡ (cone_of c.args.c).support
-sources c =
-    ap (λ (k : C.Cone). k.support) (form c) ∙ sources_are c.args.c (take c.args.c.n c.args.coefs)
+  entries : known_entries (linear_table coefs) (cone_of c.args.c).truth ≡ some (take (span (linear_table coefs)) c.in_ok-known.known)
+  entries = sym c.in_ok-known.ensures ∙ ap (λ (n : ℕ). some (take n c.in_ok-known.known)) c.linear_span-span.ensures
 
-is_cone : (c : Else-not-e) → IsCone (record { n = c.args.c.n; support = c.args.c.support; coefs = c.args.coefs; known = c.enter_form-e.result.known })
-is_cone c =
-    let w = entries c in
-    formed_cone c.args.c c.requires.1.0 (coefs_long c) c.args.coefs (form_long c) _ w.0 w.1
+  -- the cone is the one with the form's coefficients, and its sources are the cone's
+  form : cone_of made ≡ reformed (cone_of c.args.c) coefs
+  form = formed_is c.args.c c.requires.1.0 coefs_long c.args.coefs form_long _ short entries
 
-pub slice_bounds-linear_span-end : goal.slice_bounds-linear_span-end
-slice_bounds-linear_span-end c = head_length _ c.args.c.n (few_coefs (goal.at.slice_bounds-linear_span-end c).Start)
+  sources : (cone_of made).support ≡ (cone_of c.args.c).support
+  sources = ap (λ (k : C.Cone). k.support) form ∙ sources_are c.args.c coefs
 
-pub linear_span-span-requires : goal.linear_span-span-requires
-linear_span-span-requires c =
-    let n = head_length _ c.args.c.n (few_coefs (goal.at.linear_span-span-requires c).Start) in
-    (omega (arith, n, c.requires.1.0.few), λ i. omega (arith, c.requires.1.1.1 i))
+  is_cone : IsCone made
+  is_cone = formed_cone c.args.c c.requires.1.0 coefs_long c.args.coefs form_long _ short entries
 
-pub returns-then-s-span : goal.returns-then-s-span
-returns-then-s-span c =
-    let cs = take c.args.c.n c.args.coefs in
-    let v = reformed (cone_of c.args.c) cs in record {
-      is = λ count b. form_not c.args.s _ v c.args.c (fits_long c.args.s _ v (omega (arith, span_is c.args.c cs, c.linear_span-span.ensures, c.if-s-span.true)));
-      kept = kept_itself c.args.c c.requires.1.0;
-    }
-
-pub enter_form-e-requires : goal.enter_form-e-requires
-enter_form-e-requires c =
-    (c.requires.1.0, (c.requires.1.1.1, (c.linear_span-span.ensures, omega (arith, c.requires.0, c.if-s-span.false))))
-
-pub returns-then-not-e : goal.returns-then-not-e
-returns-then-not-e c =
+pub returns-then-s-span-clause-is : goal.returns-then-s-span-clause-is
+returns-then-s-span-clause-is c count b =
     let cs = take c.args.c.n c.args.coefs in
     let v = reformed (cone_of c.args.c) cs in
-    let clash = entries_are c.args.c cs ∙ entries_clash _ c.enter_form-e.result _ c.enter_form-e.ensures (not-true c.enter_form-e.result.ok c.if-not-e.true) in
-    record { is = λ count b. form_not c.args.s _ v c.args.c (fits-clash c.args.s _ v clash); kept = kept_itself c.args.c c.requires.1.0 }
+    form_not c.args.s _ v (fits_long c.args.s _ v (omega (arith, span_is c.args.c cs, c.linear_span-span.ensures, c.if-s-span.true)))
+
+pub returns-in_err-known-clause-is : goal.returns-in_err-known-clause-is
+returns-in_err-known-clause-is c count b =
+    let cs = take c.args.c.n c.args.coefs in
+    let v = reformed (cone_of c.args.c) cs in
+    ap (candidate_in (store_of c.args.nodes.now count)) c.from_residual.ensures
+    ∙ form_not c.args.s _ v (fits-clash c.args.s _ v (entries_are c.args.c cs ∙ sym c.in_err-known.ensures))
 
 pub is_fit-requires : goal.is_fit-requires
 is_fit-requires c =
-    (is_cone (goal.at.is_fit-requires c).Else-not-e, subst (AreNodes c.args.nodes.now) (sym (sources (goal.at.is_fit-requires c).Else-not-e)) c.requires.1.1.0)
+    let p = (goal.at.is_fit-requires c).In_ok-known in
+    (is_cone p, subst (AreNodes c.args.nodes.now) (sym (sources p)) c.requires.1.1.0)
 
-pub returns-then-not-is_fit : goal.returns-then-not-is_fit
-returns-then-not-is_fit c =
-    let v = reformed (cone_of c.args.c) (take c.args.c.n c.args.coefs) in record {
-      is = λ count b.
-          form_not c.args.s _ v c.args.c
-          (ap (fits c.args.s (store_of c.args.nodes.now count)) (sym (form (goal.at.returns-then-not-is_fit c).Else-not-e)) ∙ sym (c.is_fit.ensures count (below_same count _ (cone_of c.args.c) (sources (goal.at.returns-then-not-is_fit c).Else-not-e) b)) ∙ c.if-not-is_fit.true);
-      kept = kept_itself c.args.c c.requires.1.0;
-    }
+pub returns-clause-is : goal.returns-clause-is
+returns-clause-is c count b =
+    let p = (goal.at.returns-clause-is c).In_ok-known in
+    ap (candidate_in (store_of c.args.nodes.now count)) c.then_some.ensures
+    ∙ form_tested c.args.s _ (reformed (cone_of c.args.c) (take c.args.c.n c.args.coefs)) (made p) (form p) c.is_fit.result (c.is_fit.ensures count (below_same count _ (cone_of c.args.c) (sources p) b))
 
-pub returns : goal.returns
-returns c =
-    let cs = take c.args.c.n c.args.coefs in
-    let v = reformed (cone_of c.args.c) cs in record {
-      is = λ count b.
-          form_so c.args.s _ v _ (form (goal.at.returns c).Else-not-e) (sym (c.is_fit.ensures count (below_same count _ (cone_of c.args.c) (sources (goal.at.returns c).Else-not-e) b)) ∙ c.if-not-is_fit.false);
-      kept = kept-form c.args.c _ (is_cone (goal.at.returns c).Else-not-e) (sources (goal.at.returns c).Else-not-e);
-    }
+pub returns-clause-kept : goal.returns-clause-kept
+returns-clause-kept c =
+    let p = (goal.at.returns-clause-kept c).In_ok-known in
+    subst (λ o. IfSome o (Reforms c.args.c)) (sym c.then_some.ensures) (kept_tested c.args.c c.is_fit.result (made p) (record { is = is_cone p; support = sources p }))

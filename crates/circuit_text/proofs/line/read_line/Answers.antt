@@ -1,35 +1,37 @@
-use Rattle.std.proofs.Common.{subst, length}
-use Rattle.forms.specs.Forms.{in_from, in_to, in_end, in_taken, out_from, out_to, out_end, out_taken, named-at}
-use Rattle.text.specs.Reads.{found, ends}
-use Rattle.circuit_text.specs.GateLine.{gate_taken, gate_end, BitsIn}
-use Rattle.circuit_text.specs.LineRead.{fbs_line_lem, in_line_lem, gate-line, out_line_lem, no_line}
-use Rattle.circuit_text.specs.Settings.{fbs_taken, fbs_end}
+use Rattle.std.specs.Prelude as P
+use Rattle.std.proofs.Common.{rules}
+use Rattle.rules.specs.Form.{either, onward}
+use Rattle.text.specs.Capped.{capped}
+use Rattle.forms.specs.Forms.{cap_output}
+use Rattle.circuit_text.specs.declared.line.Line.TheVariants.{Fbs, In, Out}
+use Rattle.circuit_text.specs.Brief.{brief, briefed}
+use Rattle.circuit_text.specs.LineRead.{forms, whole_line}
 use Rattle.circuit_text.proofs.line.read_line.Goals as goal
 
-pub returns-in-At : goal.returns-in-At
-returns-in-At c =
-    fbs_line_lem _ _ _ c.requires _ _ (found (fbs_taken _) c.read_fbs.ensures c.in-At.is) (ends fbs_end c.read_fbs.ensures c.in-At.is)
+pub returns-in-Some : goal.returns-in-Some
+unfolding either onward capped forms brief briefed
+returns-in-Some c =
+    let w = whole_line c.args.n c.args.s.now (P.Some (Fbs c.in-Some.settings, c.in-Some.rest)) (search rules) in
+    record { line = w.0; rest = w.1 }
 
-pub returns-in-At-read_in : goal.returns-in-At-read_in
-returns-in-At-read_in c =
-    in_line_lem _ _ _ c.requires (found (fbs_taken _) c.read_fbs.ensures c.in_default.is) _ _ _ _
-    (found (in_taken _) c.read_in.ensures.reads c.in-At-read_in.is) (ends in_end c.read_in.ensures.reads c.in-At-read_in.is)
-    (named-at in_from in_to c.read_in.ensures.named c.in-At-read_in.is)
+pub returns-in-Some-read_in : goal.returns-in-Some-read_in
+unfolding either onward capped forms brief briefed
+returns-in-Some-read_in c =
+    let w = whole_line c.args.n c.args.s.now (P.Some (In c.in-Some-read_in.input, c.in-Some-read_in.rest)) (search rules) in
+    record { line = w.0; rest = w.1 }
 
-pub returns-in-At-read_gate : goal.returns-in-At-read_gate
-returns-in-At-read_gate c =
-    gate-line _ _ _ c.requires (found (fbs_taken _) c.read_fbs.ensures c.in_default.is) (found (in_taken _) c.read_in.ensures.reads c.in_default-read_in.is) _ _ _ _
-    (found (gate_taken _) c.read_gate.ensures.reads c.in-At-read_gate.is) (ends gate_end c.read_gate.ensures.reads c.in-At-read_gate.is)
-    (subst (BitsIn (length c.args.s.now)) c.in-At-read_gate.is c.read_gate.ensures.bits_in)
+pub returns-in-Some-read_gate : goal.returns-in-Some-read_gate
+unfolding either onward capped forms brief briefed
+returns-in-Some-read_gate c =
+    let w = whole_line c.args.n c.args.s.now (P.Some c.in-Some-read_gate.gate) (search rules) in
+    record { line = w.0; rest = w.1 }
 
-pub returns-in_default-read_out : goal.returns-in_default-read_out
-returns-in_default-read_out c =
-    no_line _ _ _ c.requires (found (fbs_taken _) c.read_fbs.ensures c.in_default.is) (found (in_taken _) c.read_in.ensures.reads c.in_default-read_in.is)
-    (found (gate_taken _) c.read_gate.ensures.reads c.in_default-read_gate.is) (found (out_taken _) c.read_out.ensures.reads c.in_default-read_out.is)
+pub returns-in_err-output-clause-line : goal.returns-in_err-output-clause-line
+unfolding either onward capped forms brief briefed
+returns-in_err-output-clause-line c = (whole_line c.args.n c.args.s.now c.from_residual.result (search rules)).0
 
 pub returns : goal.returns
+unfolding either onward capped forms brief briefed cap_output
 returns c =
-    out_line_lem _ _ _ c.requires (found (fbs_taken _) c.read_fbs.ensures c.in_default.is) (found (in_taken _) c.read_in.ensures.reads c.in_default-read_in.is)
-    (found (gate_taken _) c.read_gate.ensures.reads c.in_default-read_gate.is) _ _ _ _
-    (found (out_taken _) c.read_out.ensures.reads c.in-At-read_out.is) (ends out_end c.read_out.ensures.reads c.in-At-read_out.is)
-    (named-at out_from out_to c.read_out.ensures.named c.in-At-read_out.is)
+    let w = whole_line c.args.n c.args.s.now (P.Some (Out c.in_ok-output.output, c.in_ok-output.rest)) (search rules) in
+    record { line = w.0; rest = w.1 }

@@ -1,9 +1,5 @@
-use Rattle.std.proofs.Common.{◌≤◌}
-use Rattle.conclude.specs.Live.{MarkedFrom}
+use Rattle.conclude.specs.Live.{Marked}
 use Rattle.conclude.proofs.live.mark_outputs.Given as goal
 
-abbrev pub invariant-loop-i : goal.invariant-loop-i
-invariant-loop-i l = (l.i ≤ l.outs) × MarkedFrom l.ports l.outs l.i l.initial.live l.live
-
-abbrev pub decreases-loop-i : goal.decreases-loop-i
-decreases-loop-i l = l.i
+abbrev pub invariant-loop-output : goal.invariant-loop-output
+invariant-loop-output l = Marked l.outputs l.output-index l.initial.live l.live

@@ -31,7 +31,7 @@ low-is : (c : Start) → to_z w32 (of_z w32 c.args.low) ≡ c.args.low
 low-is c = to_z-of_z c.ranges.low
 
 pub loop-i-init : goal.loop-i-init
-loop-i-init c = (omega arith, filling_start _ _)
+loop-i-init c = filling_start _ _
 
 pub offset-requires : goal.offset-requires
 offset-requires c =
@@ -49,9 +49,9 @@ loop-i-preserved c =
     let h : o.i < length c.args.values.now = c.loop-i-test.true in
     let at : c.offset.result ≡ nat_abs (get_or c.args.values.now o.i (pos 0) -ℤ to_z w32 (of_z w32 c.args.low)) =
     placed (get_or c.args.values.now o.i (pos 0)) _ _ _ _ c.offset.ensures.0 (read_back-at w32 _ (omega arith)) refl in
-    (omega arith, filling_step _ _ o.truth o.i _ 0 o.invariant.1 (looked _ c.args.known c.args.values.now o.i c.offset.result h at) (rw length-map h) (omega (arith, c.requires.1.1)))
+    filling_step _ _ o.truth o.i _ 0 o.invariant (looked _ c.args.known c.args.values.now o.i c.offset.result h at) (rw length-map h) (omega (arith, c.requires.1.1))
 
 pub returns : goal.returns
 returns c =
     let o = c.loop-i in
-    whole _ _ c.args.known c.args.values.now _ o.truth o.i (low-is (goal.at.returns c).Start) o.invariant.1 (omega (arith, c.loop-i-test.false)) c.requires.1.1
+    whole _ _ c.args.known c.args.values.now _ o.truth o.i (low-is (goal.at.returns c).Start) o.invariant (omega (arith, c.loop-i-test.false)) c.requires.1.1

@@ -26,9 +26,9 @@ place k z low e f = e ∙ ap (λ y. nat_abs (pos 0 -ℤ y)) f
 pub offset-requires : goal.offset-requires
 offset-requires c = below _ _ (low-is (goal.at.offset-requires c).After-low_of) (low_below c.args.c c.requires)
 
-pub bounds-known-offset : goal.bounds-known-offset
-bounds-known-offset c =
-    let e = place _ _ _ c.offset.ensures.0 (low-is (goal.at.bounds-known-offset c).After-low_of) in
+pub bounds-c-offset : goal.bounds-c-offset
+bounds-c-offset c =
+    let e = place _ _ _ c.offset.ensures.0 (low-is (goal.at.bounds-c-offset c).After-low_of) in
     omega (arith, e, opposite (least (rules.values (cone_of c.args.c))), low_small c.args.c c.requires)
 
 pub returns : goal.returns

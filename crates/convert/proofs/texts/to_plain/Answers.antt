@@ -1,17 +1,20 @@
-use Rattle.convert.specs.Arrays.{counted_stays}
-use Rattle.convert.specs.Both.{Read, plain_asks, plain_answers}
+use Rattle.std.proofs.Common.{rules}
+use Rattle.convert.specs.Moved.{counted_stays, outputs-live, sourced}
+use Rattle.convert.specs.Both.{plain-room, plain_same}
 use Rattle.convert.proofs.texts.to_plain.Goals as goal
 
-pub plain-requires : goal.plain-requires
-plain-requires c =
-    let n = c.network_of-n.ensures in
-    let r = counted_stays c.requires.0.store.most c.keep_numbers.ensures in
-    let d : Read c.args.text.now c.args.nodes.now c.args.ports.now c.args.h = record { holds = c.requires.0; limits = c.requires.1; norm = n.1 } in
-    plain_asks r c.widen.ensures d n.0
+pub answer-requires : goal.answer-requires
+answer-requires c =
+    let d = c.requires in
+    let r = counted_stays d.store.most c.keep_numbers.ensures in
+    let a = sourced r d.store in
+    let b = outputs-live r d.store.most c.args.w.now.outputs.items d.outputs in
+    let k = plain-room c.args.w.now r d c.limit_fits.ensures in
+    search rules
 
 pub returns : goal.returns
 returns c =
-    let n = c.network_of-n.ensures in
-    let r = counted_stays c.requires.0.store.most c.keep_numbers.ensures in
-    let d : Read c.args.text.now c.args.nodes.now c.args.ports.now c.args.h = record { holds = c.requires.0; limits = c.requires.1; norm = n.1 } in
-    plain_answers r c.widen.ensures d n.0 _ _ c.plain.ensures
+    let d = c.requires in
+    let r = counted_stays d.store.most c.keep_numbers.ensures in
+    let e = plain_same c.args.w.now r d in
+    search rules

@@ -1,14 +1,18 @@
-use Rattle.convert.specs.Both.{Read, second_asks, second_answers}
+use Rattle.std.proofs.Common.{rules}
+use Rattle.convert.specs.Moved.{outputs-live}
+use Rattle.convert.specs.Both.{renames, second-ordered, second-room, second_same}
 use Rattle.convert.proofs.texts.to_second.Goals as goal
 
-pub second-requires : goal.second-requires
-second-requires c =
-    let n = c.network_of-n.ensures in
-    let d : Read c.args.text.now c.args.nodes.now c.args.ports.now c.args.h = record { holds = c.requires.0.0; limits = c.requires.0.1; norm = n.1 } in
-    second_asks c.regroup.ensures c.widen.ensures d c.requires.1 n.0
+pub answer-requires : goal.answer-requires
+answer-requires c =
+    let w = c.args.w.now in
+    let d = c.requires.holds in
+    let a = second-ordered w c.regroup.ensures d c.requires.turn in
+    let b = outputs-live (renames w c.regroup.ensures d c.requires.turn) d.store.most w.outputs.items d.outputs in
+    let k = second-room w c.regroup.ensures d c.requires.turn c.limit_fits.ensures in
+    search rules
 
 pub returns : goal.returns
 returns c =
-    let n = c.network_of-n.ensures in
-    let d : Read c.args.text.now c.args.nodes.now c.args.ports.now c.args.h = record { holds = c.requires.0.0; limits = c.requires.0.1; norm = n.1 } in
-    second_answers c.regroup.ensures c.widen.ensures d c.requires.1 n.0 _ _ c.second.ensures
+    let e = second_same c.args.w.now c.regroup.ensures c.requires.holds c.requires.turn in
+    search rules

@@ -1,29 +1,30 @@
-use Rattle.std.proofs.Common.{◌∙◌}
-use borrow.Author.Tests.{not-true, not-false}
+use Rattle.std.proofs.Common.{◌≡◌, refl, ap, ◌∙◌, Option, None, Some, Err, rules}
+use Rattle.std.specs.Option.{ok_or}
+use Rattle.rules.specs.declared.Reason.{Reason}
+use Rattle.rules.specs.declared.Reason.TheVariants.{NoComposition}
+use Rattle.cone.specs.declared.Cone.{Cone}
+use Rattle.gate.specs.View.{mapped_of}
 use Rattle.gate.specs.GateSteps.{step_goes, step_none, third_is, grows, nine}
 use Rattle.gate.proofs.map.third_attempt.Goals as goal
 
-pub attempt_sides-t-requires : goal.attempt_sides-t-requires
-attempt_sides-t-requires c = (c.requires.0, c.bootstrap_right-b.ensures.steps.ready)
+-- `gate::map::third_attempt` meets its contract.
+none_of : (o : Option Cone) (r : Reason) → Err r ≡ ok_or o NoComposition → (o ≡ None) × (r ≡ NoComposition)
+none_of None r e = (refl, cc)
+none_of (Some c) r e = absurd cc
 
-pub returns-then-not-t : goal.returns-then-not-t
-unfolding nine
-returns-then-not-t c =
-    let a = c.args in
+pub returns-in_err-cone-clause-is : goal.returns-in_err-cone-clause-is
+unfolding nine mapped_of
+returns-in_err-cone-clause-is c =
     let q = c.bootstrap_right-b in
-    let t = c.attempt_sides-t in
-    record {
-      is = c.refused.ensures.is _ ∙ step_none a.s nine _ _ q.result q.ensures.is t.result t.ensures.is (not-true t.result.found c.if-not-t.true) ∙ third_is _ _;
-      stands = c.refused.ensures.stands _ _ _ _ _;
-    }
+    let e : c.from_residual.result ≡ Err c.in_err-cone.field-0.0 = search rules in
+    let none = none_of c.attempt_sides.result c.in_err-cone.field-0.0 c.in_err-cone.ensures.value in
+    ap (mapped_of q.new.nodes) (e ∙ ap Err none.1) ∙ step_none c.args.s nine _ _ q.result q.ensures.is c.attempt_sides.result c.attempt_sides.ensures.is none.0 ∙ third_is _ _
 
 pub returns : goal.returns
 returns c =
-    let a = c.args in
     let q = c.bootstrap_right-b in
-    let t = c.attempt_sides-t in
-    let f = not-false t.result.found c.if-not-t.false in
+    let some = c.in_ok-cone.ensures.ok_part in
     record {
-      is = c.concluded.ensures.is _ ∙ step_goes a.s nine _ _ q.result q.ensures.is t.result t.ensures.is f ∙ third_is _ _;
-      stands = c.concluded.ensures.stands _ _ _ _ _ (grows q.ensures.steps) q.ensures.steps.ready.both (t.ensures.stands f);
+      is = c.concluded.ensures.is _ ∙ step_goes c.args.s nine _ _ q.result q.ensures.is c.attempt_sides.result c.attempt_sides.ensures.is _ some ∙ third_is _ _;
+      stands = c.concluded.ensures.stands _ _ _ _ _ (grows q.ensures.steps) q.ensures.steps.ready.both (rw some at c.attempt_sides.ensures.stands);
     }

@@ -9,6 +9,6 @@ returns-then-over_limit c = let o = c.over_limit in record {
   steps = c.bootstrap_left.ensures.steps;
 }
 
-pub returns : goal.returns
+pub returns-else-over_limit : goal.returns-else-over_limit
 unfolding limited_of
-returns c = let o = c.over_limit in record { is = second_not _ _ (sym (o.ensures _) ∙ c.if-over_limit.false); steps = steps_none c.requires.1 }
+returns-else-over_limit c = let o = c.over_limit in record { is = second_not _ _ (sym (o.ensures _) ∙ c.if-over_limit.false); steps = steps_none c.requires.1 }

@@ -19,8 +19,8 @@ returns-then-is_less c = let a = c.args in let w = c.switch_inputs in record {
   same = same_switched a.left a.right a.gate _ w.ensures.is w.ensures.places;
 }
 
-pub returns : goal.returns
-returns c = let a = c.args in record {
-  is = λ count l r. sides_kept a.left a.right a.gate _ (test (goal.at.returns c).After-is_less count l r ∙ c.if-is_less.false);
+pub returns-else-is_less : goal.returns-else-is_less
+returns-else-is_less c = let a = c.args in record {
+  is = λ count l r. sides_kept a.left a.right a.gate _ (test (goal.at.returns-else-is_less c).After-is_less count l r ∙ c.if-is_less.false);
   same = same_kept a.left a.right a.gate;
 }

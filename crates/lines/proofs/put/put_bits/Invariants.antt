@@ -1,10 +1,7 @@
-use Rattle.std.proofs.Common.{◌≡◌, ◌-◌, ◌≤◌, length, drop}
-use Rattle.lines.specs.Put.{Left}
+use Rattle.std.proofs.Common.{drop}
 use Rattle.rules.specs.Writing.{bits_text}
+use Rattle.lines.specs.Put.{Left}
 use Rattle.lines.proofs.put.put_bits.Given as goal
 
-abbrev pub invariant-loop-i : goal.invariant-loop-i
-invariant-loop-i l = (l.i ≤ length l.table) × Left l.at (bits_text l.table) l.initial.out l.to (bits_text (drop l.i l.table)) l.out × (length l.out ≡ length l.initial.out)
-
-abbrev pub decreases-loop-i : goal.decreases-loop-i
-decreases-loop-i l = length l.table - l.i
+abbrev pub invariant-loop-bit : goal.invariant-loop-bit
+invariant-loop-bit l = Left l.at (bits_text l.table) l.initial.out l.to (bits_text (drop l.bit-index l.table)) l.out

@@ -1,4 +1,3 @@
-use Rattle.std.proofs.Common.{◌≡◌, ◌-◌, length}
 use Rattle.rules.specs.Store.{terms_of}
 use Rattle.nodes.specs.View.{node_of}
 use Rattle.lut.specs.Forms.{Aligning}
@@ -6,7 +5,4 @@ use Rattle.lut.proofs.forms.align.Given as goal
 
 -- `lut::forms::align` meets its contract: the sources before k have their coefficients.
 abbrev pub invariant-loop-k : goal.invariant-loop-k
-invariant-loop-k l = (l.n ≡ length (terms_of (node_of l.nodes l.i))) × Aligning l.support (terms_of (node_of l.nodes l.i)) l.k l.coefs
-
-abbrev pub decreases-loop-k : goal.decreases-loop-k
-decreases-loop-k l = length l.support - l.k
+invariant-loop-k l = Aligning l.support (terms_of (node_of l.nodes l.i)) l.k l.coefs

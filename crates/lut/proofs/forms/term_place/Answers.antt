@@ -1,29 +1,19 @@
-use Rattle.std.proofs.Common.{sym, ◌∙◌, ◌<◌, arith, length}
-use Rattle.rules.specs.Store.{terms_of}
-use Rattle.nodes.specs.View.{node_of}
+use Rattle.std.proofs.Common.{◌≡◌, ◌<◌, true, false, eqb, arith, rules, length, get_or}
+use Rattle.std.proofs.lemmas.Iterator.{first_from_Range, serves_from_Range}
+use borrow.Author.Tests.{tests}
+use Rattle.rules.specs.Store.{needs}
 use Rattle.nodes.specs.Nodes.{terms_need}
-use Rattle.lut.specs.Forms.{place_here, place_on, place_end}
+use Rattle.nodes.specs.View.{node_of}
+use Rattle.lut.specs.Forms.{place_found}
 use Rattle.lut.proofs.forms.term_place.Goals as goal
 
-pub source_of-requires : goal.source_of-requires
-source_of-requires c =
-    (c.requires.0, (terms_need (node_of c.args.nodes.now c.args.i) c.loop-k.k (omega (arith, c.requires.1))).0)
-
-pub returns-then-source_of-source : goal.returns-then-source_of-source
-returns-then-source_of-source c =
-    let o = c.loop-k in
+pub find-requires-clause-callable : goal.find-requires-clause-callable
+find-requires-clause-callable c = serves_from_Range (λ x q k. search (rules, tests)) (λ x low high.
     let n = node_of c.args.nodes.now c.args.i in
-    let l : o.k < length (terms_of n) = omega (arith, c.requires.1) in
-    omega (arith, place_here (terms_of n) c.args.source o.k l (sym (terms_need n o.k l).1 ∙ sym c.source_of.ensures ∙ c.if-source_of-source.true))
-
-pub loop-k-preserved : goal.loop-k-preserved
-loop-k-preserved c =
-    let o = c.loop-k in
-    let n = node_of c.args.nodes.now c.args.i in
-    let l : o.k < length (terms_of n) = omega (arith, c.requires.1) in
-    omega (arith, place_on (terms_of n) c.args.source o.k l (λ e. c.if-source_of-source.false (c.source_of.ensures ∙ (terms_need n o.k l).1 ∙ e)))
+    let b : x < length (needs n) = (terms_need n x (omega (arith, c.requires.1))).0 in search rules)
 
 pub returns : goal.returns
 returns c =
-    let o = c.loop-k in
-    omega (arith, place_end (terms_of (node_of c.args.nodes.now c.args.i)) c.args.source o.k (omega (arith, c.requires.1)))
+    place_found (node_of c.args.nodes.now c.args.i) c.args.source c.args.n c.requires.1 _
+    (first_from_Range _ _ _ _ (λ k. eqb (get_or (needs (node_of c.args.nodes.now c.args.i)) k 0) c.args.source ≡ true) (λ k. eqb (get_or (needs (node_of c.args.nodes.now c.args.i)) k 0) c.args.source ≡ false) c.find.ensures.ran
+    (λ x q k. search (rules, tests)) (λ x q k. search (rules, tests)))

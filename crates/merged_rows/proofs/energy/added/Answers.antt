@@ -38,19 +38,6 @@ module _ (c : Start) where
       fits_abs (c.args.sum +ℤ ((c.args.x *ℤ c.args.y) *ℤ pos c.args.count))
       (omega (arith, all_small, abs_add c.args.sum ((c.args.x *ℤ c.args.y) *ℤ pos c.args.count), c.requires.0))
 
-pub overflow_cast-result : goal.overflow_cast-result
-overflow_cast-result c = rw (to_z-of_z c.ranges.x) (wide_x c)
-
-pub overflow_cast-result-2 : goal.overflow_cast-result-2
-overflow_cast-result-2 c = rw (to_z-of_z c.ranges.y) (wide_y c)
-
-pub overflow_mul-result : goal.overflow_mul-result
-overflow_mul-result c = rw (to_z-of_z c.ranges.x, to_z-of_z c.ranges.y, to_z-of_z (wide_x c), to_z-of_z (wide_y c)) (product c)
-
-pub overflow_mul-result-2 : goal.overflow_mul-result-2
-overflow_mul-result-2 c =
-    rw (to_z-of_z c.ranges.x, to_z-of_z c.ranges.y, to_z-of_z (wide_x c), to_z-of_z (wide_y c), to_z-of_z (product c), count_is c) (all c)
-
 pub overflow_add-result : goal.overflow_add-result
 overflow_add-result c =
     rw (to_z-of_z c.ranges.x, to_z-of_z c.ranges.y, to_z-of_z c.ranges.sum, to_z-of_z (wide_x c), to_z-of_z (wide_y c), to_z-of_z (product c), count_is c, to_z-of_z (all c))

@@ -1,41 +1,31 @@
-use Rattle.std.proofs.Common.{◌≡◌, ap, ◌∙◌, ℕ, ◌+◌, ◌≤◌, ◌<◌, zero-le, arith, take}
-use Rattle.merged_rows.specs.EnergyRows.{none_so_far, in_fewer, moments_of}
+use Rattle.std.proofs.Common.{◌≡◌, sym, ap, subst, ◌∙◌, ℕ, ◌+◌, ◌*◌, ◌<◌, fold, min, take, arith}
+use Rattle.merged_rows.specs.declared.energy.Moments.{Moments}
+use Rattle.merged_rows.specs.EnergyRows.{SoFar, NearRows, add_record, none_so_far, block_near, block_so_far}
 use Rattle.merged_rows.proofs.energy.energy_moments.Goals as goal
-use Rattle.merged_rows.proofs.energy.energy_moments.Goals.{Joined-n-i-lt8, then-n-i-lt8, else-n-i-lt8}
+use Rattle.merged_rows.proofs.energy.energy_moments.Goals.{In-loop-block}
 
--- how many rows the block has
-piece : (c : Joined-n-i-lt8) → let i = c.loop-i.i in (0 < c.if-n-i-lt8.k) × ((c.if-n-i-lt8.k ≤ 8) × (i + c.if-n-i-lt8.k ≤ c.args.n))
-piece c =
-    let t = c.loop-i-test.true in
-    elim c.if-n-i-lt8.branch [
-      | then-n-i-lt8 w ↦ of w.k-is (omega (arith, w.if-n-i-lt8.true))
-      | else-n-i-lt8 w ↦ of w.k-is (omega (arith, w.if-n-i-lt8.false))
-    ]
-  where
-    of : {k m : ℕ} → k ≡ m → (0 < m) × ((m ≤ 8) × (c.loop-i.i + m ≤ c.args.n))
-        → (0 < k) × ((k ≤ 8) × (c.loop-i.i + k ≤ c.args.n))
-    of e h = rw e h
+-- the block starts before the end
+inside : (c : In-loop-block) → 8 * c.loop-block.block < c.args.n
+inside c = omega (arith, c.loop-block-test.true, c.div_ceil-block-end.ensures)
 
-pub loop-i-init : goal.loop-i-init
-loop-i-init c = (zero-le, none_so_far c.args.xs.now c.args.ys.now c.args.counts.now)
+pub loop-block-init : goal.loop-block-init
+loop-block-init c = none_so_far _ _ _ _ (omega arith)
 
-pub block_moments-m-requires : goal.block_moments-m-requires
-block_moments-m-requires c =
-    let o = c.loop-i in
-    let p = piece c in
-    (p.1.0, (in_fewer (o.i + c.if-n-i-lt8.k) c.args.n c.args.xs.now c.args.ys.now c.args.counts.now p.1.1 c.requires, o.invariant.1))
+pub row_moments-m-requires-clause-near : goal.row_moments-m-requires-clause-near
+row_moments-m-requires-clause-near c =
+    let a = c.args in
+    let i = inside (goal.at.row_moments-m-requires-clause-near c).In-loop-block in
+    subst (λ l. NearRows (take c.min.result l)) (sym c.pack_rows-rows.ensures)
+    (block_near a.n (8 * c.loop-block.block) c.min.result a.xs.now a.ys.now a.truth.now a.counts.now c.requires (omega (arith, c.min.ensures)) (omega (arith, c.min.ensures, i)))
 
-pub overflow_add-i : goal.overflow_add-i
-overflow_add-i c = record { fits = omega (arith, piece (goal.at.overflow_add-i c).Joined-n-i-lt8, c.requires.few) }
-
-pub loop-i-smaller : goal.loop-i-smaller
-loop-i-smaller c = let p = piece (goal.at.loop-i-smaller c).Joined-n-i-lt8 in omega (arith, p.0, p.1.1)
-
-pub loop-i-preserved : goal.loop-i-preserved
-loop-i-preserved c = ((piece (goal.at.loop-i-preserved c).Joined-n-i-lt8).1.1, c.block_moments-m.ensures)
-
-pub returns : goal.returns
-returns c =
-    let o = c.loop-i in
-    let e : o.i ≡ c.args.n = omega (arith, o.invariant.0, c.loop-i-test.false) in
-    o.invariant.1.sums ∙ ap (λ k. moments_of (take k c.args.xs.now) (take k c.args.ys.now) (take k c.args.counts.now)) e
+pub loop-block-preserved : goal.loop-block-preserved
+loop-block-preserved c =
+    let a = c.args in
+    let o = c.loop-block in
+    let i = inside (goal.at.loop-block-preserved c).In-loop-block in
+    let start : min (8 * o.block) a.n ≡ 8 * o.block = omega (arith, i) in
+    let end : 8 * o.block + c.min.result ≡ min (8 * (o.block + 1)) a.n = omega (arith, c.min.ensures, i) in
+    let S = λ (k : ℕ) (m : Moments). SoFar k a.xs.now a.ys.now a.counts.now m in
+    let done = block_so_far a.n (8 * o.block) c.min.result a.xs.now a.ys.now a.truth.now a.counts.now c.requires (omega (arith, c.min.ensures)) (omega (arith, c.min.ensures, i)) o.m c.fits-counts (subst (λ k. S k o.m) start o.invariant) in
+    subst (λ k. S k c.row_moments-m.result) end
+    (subst (S (8 * o.block + c.min.result)) (sym (c.row_moments-m.ensures ∙ ap (λ l. fold add_record o.m (take c.min.result l)) c.pack_rows-rows.ensures)) done)

@@ -9,7 +9,7 @@ use Rattle.network_run.proofs.value.sum_of.Goals as goal
 use Rattle.network_run.proofs.value.sum_of.Goals.{In-loop-k}
 
 below : (c : In-loop-k) → c.loop-k.k < length (terms_of (node_of c.args.nodes.now c.args.i))
-below c = omega (arith, c.loop-k.invariant.1, c.loop-k-test.true)
+below c = omega (arith, c.loop-k.invariant.0, c.loop-k-test.true)
 
 -- a source stands before its node
 source_below : (bytes : List ℕ) (i k j : ℕ) → IsNode bytes i → k < length (terms_of (node_of bytes i)) → j ≡ get_or (needs (node_of bytes i)) k 0 → j < 672
@@ -21,8 +21,8 @@ source_below bytes i k j s h e =
 sum_fits : (i k : ℕ) (n : LutNode) (s x : ℤ) → Fine i n → k < length (terms_of n) → nat_abs s ≤ 31 + 7905 * k → nat_abs x ≤ 7905 → SFits w64 (s +ℤ x)
 sum_fits i k n s x f h a b = fits_abs (s +ℤ x) (omega (arith, sum_size s x k a b, few_terms i n f))
 
-pub size_of-n-requires : goal.size_of-n-requires
-size_of-n-requires c = c.requires.0.node
+pub size_of-k-end-requires : goal.size_of-k-end-requires
+size_of-k-end-requires c = c.requires.0.node
 
 pub constant_of-sum-requires : goal.constant_of-sum-requires
 constant_of-sum-requires c = (c.requires.0.node, c.requires.1)
@@ -32,8 +32,7 @@ loop-k-init c =
     let n = node_of c.args.nodes.now c.args.i in
     let near = constant_small c.args.i n c.requires.0.node.fine c.requires.1 in
     simp (read_back c.constant_of-sum.result c.constant_of-sum.type_inv) (
-      omega arith,
-      c.size_of-n.ensures ∙ as_many n c.requires.1,
+      c.size_of-k-end.ensures ∙ as_many n c.requires.1,
       omega (arith, near, ap nat_abs c.constant_of-sum.ensures),
       ap (λ x. sum_from c.args.values.now x (terms_of n)) (sym c.constant_of-sum.ensures) ∙ sum_start c.args.values.now c.constant_of-sum.result (terms_of n),
     )
@@ -65,7 +64,7 @@ term_value-sum-requires c =
 pub overflow_add-sum : goal.overflow_add-sum
 overflow_add-sum c =
     simp (read_back c.term_value-sum.result c.term_value-sum.type_inv)
-    (sum_fits c.args.i c.loop-k.k (node_of c.args.nodes.now c.args.i) (to_z w64 c.loop-k.sum-bits) c.term_value-sum.result c.requires.0.node.fine (below (goal.at.overflow_add-sum c).In-loop-k) c.loop-k.invariant.2 c.term_value-sum.ensures.1)
+    (sum_fits c.args.i c.loop-k.k (node_of c.args.nodes.now c.args.i) (to_z w64 c.loop-k.sum-bits) c.term_value-sum.result c.requires.0.node.fine (below (goal.at.overflow_add-sum c).In-loop-k) c.loop-k.invariant.1 c.term_value-sum.ensures.1)
 
 pub loop-k-preserved : goal.loop-k-preserved
 loop-k-preserved c =
@@ -79,11 +78,11 @@ loop-k-preserved c =
     let value
     = term_is c.args.values.now (terms_of n) o.k x.result f.result g.result f.ensures (g.ensures ∙ (terms_need n o.k b).1)
     (simp (read_back f.result f.type_inv, read_back (get_or c.args.values.now g.result (pos 0)) (search rules)) at x.ensures.0) in
-    let fits = sum_fits c.args.i o.k n s x.result c.requires.0.node.fine b o.invariant.2 x.ensures.1 in
+    let fits = sum_fits c.args.i o.k n s x.result c.requires.0.node.fine b o.invariant.1 x.ensures.1 in
     simp (read_back x.result x.type_inv, to_z-of_z fits)
-    (omega (arith, c.loop-k-test.true), o.invariant.1, sum_size s x.result o.k o.invariant.2 x.ensures.1, o.invariant.3 ∙ sum_next c.args.values.now s (terms_of n) o.k x.result b value)
+    (o.invariant.0, sum_size s x.result o.k o.invariant.1 x.ensures.1, o.invariant.2 ∙ sum_next c.args.values.now s (terms_of n) o.k x.result b value)
 
 pub returns : goal.returns
 returns c =
     let o = c.loop-k in
-    sym (o.invariant.3 ∙ sum_end c.args.values.now (to_z w64 o.sum-bits) (terms_of (node_of c.args.nodes.now c.args.i)) o.k (omega (arith, o.invariant.1, c.loop-k-test.false)))
+    sym (o.invariant.2 ∙ sum_end c.args.values.now (to_z w64 o.sum-bits) (terms_of (node_of c.args.nodes.now c.args.i)) o.k (omega (arith, o.invariant.0, c.loop-k-test.false)))

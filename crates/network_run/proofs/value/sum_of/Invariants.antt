@@ -1,4 +1,4 @@
-use Rattle.std.proofs.Common.{◌≡◌, ◌+◌, ◌*◌, ◌-◌, ◌≤◌, nat_abs, length}
+use Rattle.std.proofs.Common.{◌≡◌, ◌+◌, ◌*◌, ◌≤◌, nat_abs, length}
 use Rattle.rules.specs.Network.{sum_from}
 use Rattle.rules.specs.Store.{terms_of}
 use Rattle.nodes.specs.Nodes.{constant_of}
@@ -6,13 +6,8 @@ use Rattle.nodes.specs.View.{node_of}
 use Rattle.network_run.specs.Value.{sum_at}
 use Rattle.network_run.proofs.value.sum_of.Given as goal
 
--- `network_run::value::sum_of` meets its contract.
 abbrev pub invariant-loop-k : goal.invariant-loop-k
 invariant-loop-k l =
-    (l.k ≤ l.n)
-    × (l.n ≡ length (terms_of (node_of l.nodes l.i)))
+    (l.k-end ≡ length (terms_of (node_of l.nodes l.i)))
     × (nat_abs l.sum ≤ 31 + 7905 * l.k)
     × (sum_from l.values (constant_of (node_of l.nodes l.i)) (terms_of (node_of l.nodes l.i)) ≡ sum_at l.values l.sum (terms_of (node_of l.nodes l.i)) l.k)
-
-abbrev pub decreases-loop-k : goal.decreases-loop-k
-decreases-loop-k l = l.n - l.k

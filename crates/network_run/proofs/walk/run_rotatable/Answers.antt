@@ -20,8 +20,8 @@ pub loop-i-preserved : goal.loop-i-preserved
 loop-i-preserved c =
     let o = c.loop-i in
     let e = c.node_value.ensures in
-    let q = c.in-At.is in
-    let f : SFits w64 c.in-At.v = search rules in
+    let q = c.in-Some.is in
+    let f : SFits w64 c.in-Some.v = search rules in
     simp (to_z-of_z f)
     (running_next c.requires.0 o.invariant c.loop-i-test.true e.is _ (ap value_of q) (λ z. subst SmallValue q (e.small z)))
 

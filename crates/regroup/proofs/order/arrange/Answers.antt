@@ -4,27 +4,24 @@ use Rattle.regroup.specs.Order.{Arranged, arranged_none, arranged_below, arrange
 use Rattle.regroup.proofs.order.arrange.Goals as goal
 
 pub loop-k-init : goal.loop-k-init
-loop-k-init c = (omega arith, arranged_none c.args.nodes.now c.args.order.now c.requires.1)
+loop-k-init c = arranged_none c.args.nodes.now c.args.order.now c.requires.1
 
 pub place-at-requires : goal.place-at-requires
 place-at-requires c =
     let o = c.loop-k in
-    (is_node c.args.nodes.now c.args.count o.k c.requires.0 c.loop-k-test.true, (store_below c.args.nodes.now c.args.count o.k c.requires.0 o.invariant.0, arranged_below o.invariant.1))
+    (is_node c.args.nodes.now c.args.count o.k c.requires.0 c.loop-k-test.true, (store_below c.args.nodes.now c.args.count o.k c.requires.0 (omega arith), arranged_below o.invariant))
 
-pub insert-requires : goal.insert-requires
-insert-requires c =
+pub insert_at-requires : goal.insert_at-requires
+insert_at-requires c =
     let o = c.loop-k in
-    let t = c.loop-k-test.true in
-    let e = length-take-le o.k o.order (omega (arith, o.invariant.1.long, c.requires.0.most)) in
-    (o.invariant.1.long, omega (arith, c.place-at.ensures.within, e), omega (arith, c.requires.0.most))
+    let e = length-take-le o.k o.order (omega (arith, o.invariant.long, c.requires.0.most)) in
+    (omega (arith, c.place-at.ensures.within, e), omega (arith, o.invariant.long, c.requires.0.most))
 
 pub loop-k-preserved : goal.loop-k-preserved
-loop-k-preserved c =
-    let o = c.loop-k in
-    (omega arith, arranged_step o.invariant.1 c.place-at.ensures c.insert.ensures)
+loop-k-preserved c = arranged_step c.loop-k.invariant c.place-at.ensures (omega arith) c.insert_at.ensures
 
 pub returns : goal.returns
 returns c =
     let o = c.loop-k in
-    let e : o.k ≡ c.args.count = omega (arith, o.invariant.0, c.loop-k-test.false) in
-    subst (λ n. Arranged c.args.nodes.now n o.order) e o.invariant.1
+    let e : o.k ≡ c.args.count = omega arith in
+    subst (λ n. Arranged c.args.nodes.now n o.order) e o.invariant

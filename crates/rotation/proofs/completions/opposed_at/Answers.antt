@@ -9,5 +9,5 @@ returns-then-size-known c = c.against.ensures ∙ sym (opposed_at_low _ _ _ (ome
 pub returns-then-size-i : goal.returns-then-size-i
 returns-then-size-i c = c.against-then-size-i.ensures ∙ sym (opposed_at_high _ _ _ (omega arith) (omega arith))
 
-pub returns : goal.returns
-returns c = c.known_or.ensures ∙ sym (opposed_at_alone _ _ _ (omega arith) (omega arith))
+pub returns-else-size-i : goal.returns-else-size-i
+returns-else-size-i c = c.known_or.ensures ∙ sym (opposed_at_alone _ _ _ (omega arith) (omega arith))

@@ -7,5 +7,5 @@ use Rattle.rotation.proofs.pairs.centre_of.Goals as goal
 pub centre-requires : goal.centre-requires
 centre-requires c = record { of_bits = c.requires; rotated = is_T _ (sym c.is_fbs_table_valid.ensures ∙ c.if-is_fbs_table_valid.true) }
 
-pub returns : goal.returns
-returns c = sym (centre_of_none _ _ (sym c.is_fbs_table_valid.ensures ∙ c.if-is_fbs_table_valid.false))
+pub returns-else-is_fbs_table_valid : goal.returns-else-is_fbs_table_valid
+returns-else-is_fbs_table_valid c = sym (centre_of_none _ _ (sym c.is_fbs_table_valid.ensures ∙ c.if-is_fbs_table_valid.false))

@@ -1,15 +1,15 @@
-use Rattle.std.proofs.Common.{sym, ◌∙◌, arith}
+use Rattle.std.proofs.Common.{refl, sym, ◌∙◌, arith, le-leb}
+use Rattle.std.proofs.lemmas.Bool.{lt-leb}
 use Rattle.theorems.specs.Completions.{completable-small, completable_long, completable-left}
 use Rattle.rotation.proofs.pairs.is_known_lut_valid.Goals as goal
 
-pub returns-then-known-size : goal.returns-then-known-size
-returns-then-known-size c = sym (completable-small _ _ (omega arith))
-
-pub returns-then-size-known : goal.returns-then-size-known
-returns-then-size-known c = sym (completable_long _ _ (omega arith))
-
 -- `rotation::pairs::is_known_lut_valid` meets its contract.
-pub returns : goal.returns
-returns c =
-    let entries = c.requires in
-    c.any.ensures ∙ completable-left _ _ entries (omega arith) _ _ _ c.sums_left.ensures (omega arith)
+pub returns-then-known-size : goal.returns-then-known-size
+returns-then-known-size c = le-leb _ _ c.if-known-size.true ∙ sym (completable-small _ _ c.if-known-size.true)
+
+pub returns-else-known-size-2 : goal.returns-else-known-size-2
+returns-else-known-size-2 c = lt-leb _ _ c.if-known-size-2.false ∙ sym (completable_long _ _ (omega arith))
+
+pub returns-then-known-size-2 : goal.returns-then-known-size-2
+returns-then-known-size-2 c =
+    c.has_common_sum.ensures ∙ completable-left _ _ c.requires (omega arith) _ _ _ (refl, refl, refl) (omega arith)

@@ -1,10 +1,6 @@
-use Rattle.std.proofs.Common.{◌≡◌, ◌-◌, ◌≤◌, length, take}
+use Rattle.std.proofs.Common.{◌≡◌, length, take}
 use Rattle.scale_pair.specs.Pair.{merged_row}
 use Rattle.scale_pair.proofs.pair.merge_rows.Given as goal
 
 abbrev pub invariant-loop-i : goal.invariant-loop-i
-invariant-loop-i l =
-    (l.i ≤ length l.left) × (length l.coefs ≡ 11) × (take l.i l.coefs ≡ take l.i (merged_row l.a l.b l.left l.right))
-
-abbrev pub decreases-loop-i : goal.decreases-loop-i
-decreases-loop-i l = length l.left - l.i
+invariant-loop-i l = (length l.coefs ≡ 11) × (take l.i l.coefs ≡ take l.i (merged_row l.a l.b l.left l.right))

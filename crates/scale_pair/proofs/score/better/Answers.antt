@@ -1,32 +1,30 @@
-use Rattle.std.proofs.Common.{◌≡◌, sym, ap, ◌∙◌, true, false}
-use Rattle.std.proofs.lemmas.Bool.{not-true, not-false}
-use Rattle.laws.specs.Test.{if◌then◌otherwise◌}
+use Rattle.std.proofs.Common.{◌≡◌, sym, ◌∙◌, Bool, true, false, Option, Some}
+use Rattle.std.specs.Ordering.{partial_lt}
 use Rattle.rules.specs.Cone.{less}
+use Rattle.scale_pair.specs.declared.score.Rank.{Rank}
 use Rattle.scale_pair.specs.declared.score.Score.{Score}
-use Rattle.scale_pair.specs.Score.{score_list, better_score}
+use Rattle.scale_pair.specs.contracts.score.RankPartialOrd.TheImpl.{partial_cmp-value}
+use Rattle.scale_pair.specs.Score.{rank_list, score_list, better_score, first_number, first_int, last_int}
 use Rattle.scale_pair.proofs.score.better.Goals as goal
 
+-- the derived order compares the numbers that a score is ranked by
+rank_below : (r s : Rank) → partial_lt partial_cmp-value.it r s ≡ less (rank_list r) (rank_list s)
+unfolding rank_list
+rank_below r s =
+    first_number _ _ _ (first_number _ _ _ (first_number _ _ _ (first_int _ _ _ (first_int _ _ _ (last_int r.b s.b) r.a s.a) r.energy s.energy) r.norm s.norm) r.span s.span) r.reuse s.reuse
+
+module _ (o : Option Score) (best s : Score) (is : o ≡ Some best) (t : Bool) (e : t ≡ partial_lt partial_cmp-value.it s.rank best.rank) where
+  lower : t ≡ true → s ≡ better_score o s
+  unfolding better_score score_list
+  lower h = let q : less (rank_list s.rank) (rank_list best.rank) ≡ true = sym (rank_below s.rank best.rank) ∙ sym e ∙ h in rw (is, q)
+
+  kept : t ≡ false → best ≡ better_score o s
+  unfolding better_score score_list
+  kept h = let q : less (rank_list s.rank) (rank_list best.rank) ≡ false = sym (rank_below s.rank best.rank) ∙ sym e ∙ h in rw (is, q)
+
 -- `scale_pair::score::better` meets its contract.
-module _ (best s : Score) where
-  first : best.found ≡ false → s ≡ better_score best s
-  unfolding better_score
-  first e = ap (λ t. if t then (if less (score_list s) (score_list best) then s otherwise best) otherwise s) (sym e)
+pub returns-then-lt : goal.returns-then-lt
+returns-then-lt c = lower _ _ _ c.in-Some.is _ c.lt.ensures c.if-lt.true
 
-  found : best.found ≡ true → (if less (score_list s) (score_list best) then s otherwise best) ≡ better_score best s
-  unfolding better_score
-  found e = ap (λ t. if t then (if less (score_list s) (score_list best) then s otherwise best) otherwise s) (sym e)
-
-  lower : best.found ≡ true → less (score_list s) (score_list best) ≡ true → s ≡ better_score best s
-  lower e f = ap (λ t. if t then s otherwise best) (sym f) ∙ found e
-
-  kept : best.found ≡ true → less (score_list s) (score_list best) ≡ false → best ≡ better_score best s
-  kept e f = ap (λ t. if t then s otherwise best) (sym f) ∙ found e
-
-pub returns-then-not-best : goal.returns-then-not-best
-returns-then-not-best c = first _ _ (not-true _ c.if-not-best.true)
-
-pub returns-then-is_less : goal.returns-then-is_less
-returns-then-is_less c = lower _ _ (not-false _ c.if-not-best.false) (sym c.is_less.ensures ∙ c.if-is_less.true)
-
-pub returns : goal.returns
-returns c = kept _ _ (not-false _ c.if-not-best.false) (sym c.is_less.ensures ∙ c.if-is_less.false)
+pub returns-else-lt : goal.returns-else-lt
+returns-else-lt c = kept _ _ _ c.in-Some.is _ c.lt.ensures c.if-lt.false

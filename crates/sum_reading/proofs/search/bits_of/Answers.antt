@@ -1,4 +1,4 @@
-use Rattle.std.proofs.Common.{◌≡◌, sym, ◌∙◌, List, ℕ, ◌+◌, ◌-◌, ◌<◌, ◌≤◌, arith, replicate, set}
+use Rattle.std.proofs.Common.{◌≡◌, sym, ◌∙◌, List, ℕ, ◌+◌, ◌-◌, ◌<◌, ◌≤◌, arith, rules, replicate, set}
 use Rattle.laws.specs.Digits.{bit, digits, digits-length}
 use Rattle.laws.specs.Front.{Filling, filling_start, filling_step}
 use Rattle.laws.specs.Over.{over, front-over}
@@ -13,14 +13,14 @@ module _ (n row k : ℕ) (bits : List ℕ) (f : Filling (digits n row) (replicat
   done e = f.so_far ∙ front-over (digits n row) (replicate 11 0) k (digits-length n row ∙ sym e) (rw (digits-length n row) h)
 
 pub loop-k-init : goal.loop-k-init
-loop-k-init c = (omega arith, filling_start (digits c.args.n c.args.row) (replicate 11 0))
+loop-k-init c = filling_start (digits c.args.n c.args.row) (replicate 11 0)
 
 pub loop-k-preserved : goal.loop-k-preserved
 loop-k-preserved c =
     let o = c.loop-k in
-    (omega arith, turn c.args.n c.args.row o.k o.bits o.invariant.1 c.requires c.digit.result c.digit.ensures (omega arith))
+    turn c.args.n c.args.row o.k o.bits o.invariant c.requires c.digit.result c.digit.ensures (search rules)
 
 pub returns : goal.returns
 returns c =
     let o = c.loop-k in
-    done c.args.n c.args.row o.k o.bits o.invariant.1 c.requires (omega arith)
+    done c.args.n c.args.row o.k o.bits o.invariant c.requires (search rules)

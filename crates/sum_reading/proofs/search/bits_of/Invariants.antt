@@ -1,11 +1,8 @@
-use Rattle.std.proofs.Common.{◌-◌, ◌≤◌, replicate}
+use Rattle.std.proofs.Common.{replicate}
 use Rattle.laws.specs.Digits.{digits}
 use Rattle.laws.specs.Front.{Filling}
 use Rattle.sum_reading.proofs.search.bits_of.Given as goal
 
 -- the first k places hold the first k digits
 abbrev pub invariant-loop-k : goal.invariant-loop-k
-invariant-loop-k l = (l.k ≤ l.n) × Filling (digits l.n l.row) (replicate 11 0) l.bits l.k
-
-abbrev pub decreases-loop-k : goal.decreases-loop-k
-decreases-loop-k l = l.n - l.k
+invariant-loop-k l = Filling (digits l.n l.row) (replicate 11 0) l.bits l.k

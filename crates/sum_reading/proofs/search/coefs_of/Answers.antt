@@ -1,4 +1,4 @@
-use Rattle.std.proofs.Common.{◌≡◌, refl, sym, ◌∙◌, List, ℕ, ◌+◌, ◌<◌, arith, ℤ, pos, length, get_or, take, set, length-set}
+use Rattle.std.proofs.Common.{◌≡◌, refl, sym, ◌∙◌, List, ℕ, ◌+◌, ◌<◌, arith, rules, ℤ, pos, length, get_or, take, set, length-set}
 use lib.ListN.{length-map, get_or-map}
 use Rattle.laws.specs.Front.{taken_step, taken-all}
 use Rattle.laws.specs.Integer.{read_back}
@@ -13,23 +13,22 @@ turn : (ts : List Term) (found : List ℤ) (k : ℕ) (x : ℤ) → k < length ts
 turn ts found k x h l e inv = taken_step (coefs ts) found k x (term (pos 0) 0).coef inv (e ∙ sym (get_or-map (λ (t : Term). t.coef) ts k (term (pos 0) 0))) (rw length-map h) l
 
 pub loop-k-init : goal.loop-k-init
-loop-k-init c = (omega arith, refl, refl)
+loop-k-init c = (refl, refl)
 
 pub coef_of-requires : goal.coef_of-requires
-coef_of-requires c = (c.requires.0, omega (arith, c.requires.2))
+coef_of-requires c = (c.requires.0, omega (arith, c.requires.2, c.loop-k-test.true))
 
 pub loop-k-preserved : goal.loop-k-preserved
 loop-k-preserved c =
     let o = c.loop-k in
     let ts = terms_of (node_of c.args.nodes.now c.args.i) in (
-      omega arith,
-      simp length-set o.invariant.1,
-      turn ts o.coefs o.k _ (omega (arith, c.requires.2)) (omega (arith, c.requires.1)) (read_back _ c.coef_of.type_inv ∙ c.coef_of.ensures) o.invariant.2,
+      simp length-set o.invariant.0,
+      turn ts o.coefs o.k _ (omega (arith, c.requires.2, c.loop-k-test.true)) (omega (arith, c.requires.1, o.invariant.0, c.loop-k-test.true)) (read_back _ c.coef_of.type_inv ∙ c.coef_of.ensures) o.invariant.1,
     )
 
 pub returns : goal.returns
 returns c =
     let o = c.loop-k in
     let ts = terms_of (node_of c.args.nodes.now c.args.i) in
-    let e : o.k ≡ c.args.n = omega arith in
-    rw e at (taken-all (coefs ts) o.coefs o.k o.invariant.2 (e ∙ c.requires.2 ∙ sym (length-map ts _)))
+    let e : o.k ≡ c.args.n = search rules in
+    rw e at (taken-all (coefs ts) o.coefs o.k o.invariant.1 (e ∙ c.requires.2 ∙ sym (length-map ts _)))

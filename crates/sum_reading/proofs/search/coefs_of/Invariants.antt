@@ -1,4 +1,4 @@
-use Rattle.std.proofs.Common.{◌≡◌, ◌-◌, ◌≤◌, length, take}
+use Rattle.std.proofs.Common.{◌≡◌, length, take}
 use Rattle.rules.specs.Store.{terms_of}
 use Rattle.theorems.specs.Terms.{coefs}
 use Rattle.nodes.specs.View.{node_of}
@@ -6,7 +6,4 @@ use Rattle.sum_reading.proofs.search.coefs_of.Given as goal
 
 -- the first k places hold the first k coefficients
 abbrev pub invariant-loop-k : goal.invariant-loop-k
-invariant-loop-k l = (l.k ≤ l.n) × (length l.coefs ≡ 11) × (take l.k l.coefs ≡ take l.k (coefs (terms_of (node_of l.nodes l.i))))
-
-abbrev pub decreases-loop-k : goal.decreases-loop-k
-decreases-loop-k l = l.n - l.k
+invariant-loop-k l = (length l.coefs ≡ 11) × (take l.k l.coefs ≡ take l.k (coefs (terms_of (node_of l.nodes l.i))))

@@ -1,12 +1,7 @@
-use Rattle.std.proofs.Common.{◌≡◌, ◌-◌, ◌≤◌, length}
 use Rattle.rules.specs.Writing.{nodes_text}
 use Rattle.lines.specs.Put.{Left}
 use Rattle.writer.specs.Live.{live_nodes, lines_left}
 use Rattle.writer.proofs.node_lines.put_nodes.Given as goal
 
 abbrev pub invariant-loop-i : goal.invariant-loop-i
-invariant-loop-i l =
-    (l.i ≤ l.count) × Left l.at (nodes_text (live_nodes l.live l.nodes l.count)) l.initial.out l.to (lines_left l.live l.nodes l.count l.i) l.out × (length l.out ≡ length l.initial.out)
-
-abbrev pub decreases-loop-i : goal.decreases-loop-i
-decreases-loop-i l = l.count - l.i
+invariant-loop-i l = Left l.at (nodes_text (live_nodes l.live l.nodes l.count)) l.initial.out l.to (lines_left l.live l.nodes l.count l.i) l.out

@@ -1,12 +1,14 @@
-use Rattle.std.proofs.Common.{◌≡◌, ◌-◌, ◌≤◌, length}
+use Rattle.std.proofs.Common.{◌≡◌, length}
+use Rattle.std.specs.Prelude.{map}
+use Rattle.forms.specs.Forms.{output_of}
 use Rattle.rules.specs.Writing.{outputs_text}
 use Rattle.lines.specs.Put.{Left}
 use Rattle.writer.specs.Outputs.{live_outputs, outputs_left}
 use Rattle.writer.proofs.outputs.put_outs.Given as goal
 
-abbrev pub invariant-loop-i : goal.invariant-loop-i
-invariant-loop-i l =
-    (l.i ≤ l.n) × Left l.at (outputs_text (live_outputs l.live l.s l.ports l.n)) l.initial.out l.to (outputs_left l.live l.s l.ports l.n l.i) l.out × (length l.out ≡ length l.initial.out)
-
-abbrev pub decreases-loop-i : goal.decreases-loop-i
-decreases-loop-i l = l.n - l.i
+abbrev pub invariant-loop-output : goal.invariant-loop-output
+invariant-loop-output l =
+    record {
+      left : Left l.at (outputs_text (live_outputs l.live (map output_of l.outputs))) l.initial.out l.to (outputs_left l.live l.outputs l.output-index) l.out;
+      long : length l.out ≡ length l.initial.out;
+    }

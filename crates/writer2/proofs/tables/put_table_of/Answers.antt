@@ -1,4 +1,4 @@
-use Rattle.std.proofs.Common.{sym, subst, ◌∙◌, List, ℕ, T}
+use Rattle.std.proofs.Common.{sym, subst, List, ℕ, T}
 use Rattle.rules.specs.Rotation.{rotatable}
 use Rattle.nodes.specs.View.{node_of}
 use Rattle.lines.specs.Put.{put_text, room_text}
@@ -18,9 +18,9 @@ pub put_table-requires : goal.put_table-requires
 put_table-requires c =
     let n = node_of c.args.nodes.now c.args.i in
     let e = c.table_of-table.ensures in
-    record { by_index = its_bits c.args.i n c.requires.node.0.fine c.requires.node.1.0 e; room = room_text (its_text c.args.p n e (c.wide-centre.ensures ∙ c.centre.ensures)) c.requires.room }
+    record { by_index = its_bits c.args.i n c.requires.node.0.fine c.requires.node.1.0 e; room = room_text (its_text c.args.p n e c.centre.ensures) c.requires.room }
 
 pub returns : goal.returns
 returns c =
     let n = node_of c.args.nodes.now c.args.i in
-    put_text (its_text c.args.p n c.table_of-table.ensures (c.wide-centre.ensures ∙ c.centre.ensures)) c.put_table.ensures
+    put_text (its_text c.args.p n c.table_of-table.ensures c.centre.ensures) c.put_table.ensures

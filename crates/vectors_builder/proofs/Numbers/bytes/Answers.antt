@@ -1,0 +1,7 @@
+use Rattle.std.proofs.Common.{rules, false}
+use Rattle.vectors_builder.specs.Shown.{byte_of}
+use Rattle.vectors_builder.specs.Mapped.{map_is}
+use Rattle.vectors_builder.proofs.Numbers.bytes.Goals as goal
+
+pub returns : goal.returns
+returns c = map_is byte_of _ _ c.args.self.now.list _ 64 (record { value = 0; negative = false }) (0) c.map.ensures.items (search rules) (λ x y p q k. search rules)

@@ -1,6 +1,0 @@
-use Rattle.std.proofs.Common.{◌-◌}
-use Rattle.vectors_cones.proofs.show_basis.Given as goal
-
--- `vectors_cones::show_basis` is safe and ends. The measure is what is left to show.
-abbrev pub decreases-loop-i : goal.decreases-loop-i
-decreases-loop-i g l = l.basis.n - l.i

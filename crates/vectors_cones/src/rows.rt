@@ -1,0 +1,155 @@
+// A cone by its rows, as the list has it, and whether it is one.
+ghost use Rattle.std.specs.Prelude.{◌≡◌, ℕ, ◌≤◌, ◌<◌, ◌^◌, length, get_or, take, OnSome, IfSome};
+ghost use Rattle.std.specs.Bool.{OnTrue};
+ghost use Rattle.std.proofs.Math.Option.{some};
+ghost use Rattle.rules.specs.Builder.{known_entries};
+ghost use Rattle.rules.specs.Cone.{linear_table};
+ghost use Rattle.rules.specs.NetworkText.{all_different};
+ghost use Rattle.rules.specs.Span.{span};
+ghost use Rattle.scale.specs.Limits.{Within};
+ghost use Rattle.cone.specs.View.{cone_of, IsCone};
+ghost use Rattle.vectors_cones.specs.Made.{rows_of, IsForm};
+
+use cone::Cone;
+use linear::linear_span;
+use vectors::{Token, Tokens};
+
+// The first n sources and coefficients, and a truth for each assignment of them.
+#[derive(Clone, Copy)]
+pub struct ConeRows {
+    pub n: usize,
+    pub support: [usize; 11],
+    pub coefs: [i64; 11],
+    pub truth: [u8; 2048],
+}
+
+#[tactic(auto, unfolding(rules::specs::NetworkText::all_different))]
+fn are_different(nodes: &[usize]) -> bool
+    ensures { result ≡ all_different nodes.now }
+{
+    let mut rest = nodes;
+    while let Some((first, others)) = rest.split_first() {
+        if others.contains(first) {
+            return false;
+        }
+        rest = others;
+    }
+    true
+}
+
+// They are nodes of a store.
+fn are_near(nodes: &[usize]) -> bool
+    ensures { OnTrue result ((i : ℕ) → get_or nodes.now i 0 < 672) }
+{
+    nodes.iter().all(|node| *node < 672)
+}
+
+fn are_small(coefs: &[i64]) -> bool
+    ensures { OnTrue result (Within 31 coefs.now) }
+{
+    coefs.iter().all(|coef| coef.unsigned_abs() <= 31)
+}
+
+fn is_narrow(coefs: &[i64]) -> bool
+    requires { length coefs.now ≤ 11 }
+    ensures { OnTrue result (span (linear_table coefs.now) ≤ 32) }
+{
+    are_small(coefs) && linear_span(coefs) <= 32
+}
+
+// The truth at each value, where each value has one truth.
+fn known_at(values: &[i32], truth: &[u8], size: usize) -> Option<[u8; 32]>
+    requires { (length values.now ≡ length truth.now) × ((0 < length values.now) × ((size ≡ span values.now) × (size ≤ 32))) }
+    ensures { IfSome result (λ known. known_entries values.now truth.now ≡ some (take size known)) }
+{
+    let bounds = rotation::bounds_of(values);
+    let mut known = [2; 32];
+    if !rotation::enter(values, truth, bounds.low, &mut known[..size]) {
+        return None;
+    }
+    Some(known)
+}
+
+// The same at the values of coefficients.
+#[tactic(auto, using(crate::specs::Made::few_rows, crate::specs::Made::taken_rows, crate::specs::Made::narrow_small, crate::specs::Made::values_first))]
+fn known_of(coefs: &[i64], truth: &[u8]) -> Option<[u8; 32]>
+    requires { (length coefs.now ≤ 11) × ((length truth.now ≡ 2 ^ length coefs.now) × (span (linear_table coefs.now) ≤ 32)) }
+    ensures { IfSome result (λ known. known_entries (linear_table coefs.now) truth.now ≡ some (take (span (linear_table coefs.now)) known)) }
+{
+    let mut values = [0; 2048];
+    linear::linear_table(coefs, &mut values);
+    known_at(&values[..truth.len()], truth, linear_span(coefs))
+}
+
+impl ConeRows {
+    pub fn read(input: &mut Tokens<'_>) -> Option<ConeRows>
+        ensures { OnSome result (length input.new.rest.now ≤ length input.old.rest.now) }
+    {
+        let n = input.next()?.value.min(11) as usize;
+        let mut numbers = [Token::default(); 11];
+        input.fill(&mut numbers[..n])?;
+        let support = numbers.map(|t| t.value as usize);
+        input.fill(&mut numbers[..n])?;
+        let coefs = numbers.map(|t| i64::from(t.signed()));
+        let mut truth = [0; 2048];
+        for (t, digit) in truth.iter_mut().zip(input.digits(1 << n)?) {
+            *t = digit % 2;
+        }
+        Some(ConeRows {
+            n,
+            support,
+            coefs,
+            truth,
+        })
+    }
+
+    // What has to hold of the sources and coefficients.
+    fn is_form(&self) -> bool
+        ensures { OnTrue result (IsForm self.now.n self.now.support self.now.coefs) }
+    {
+        if self.n > 11 {
+            return false;
+        }
+        let nodes = &self.support[..self.n];
+        are_different(nodes) && are_near(nodes) && is_narrow(&self.coefs[..self.n])
+    }
+
+    // The cone, where the rows are those of one.
+    #[tactic(auto, using(crate::specs::Made::few_rows))]
+    pub fn cone(&self) -> Option<Cone>
+        ensures { IfSome result (λ c. IsCone c × (cone_of c ≡ rows_of self.now)) }
+    {
+        if !self.is_form() {
+            return None;
+        }
+        let rows = linear::rows_of(self.n);
+        let known = known_of(&self.coefs[..self.n], &self.truth[..rows])?;
+        Some(Cone {
+            n: self.n,
+            support: self.support,
+            coefs: self.coefs,
+            known,
+        })
+    }
+
+    // The coefficients divided by their divisor, as the mapper's are before it simplifies; the truth at each row stays.
+    #[tactic(auto, using(cone::specs::View::rows_fit))]
+    pub fn normalised(cone: Cone) -> ConeRows
+        requires { IsCone cone }
+    {
+        let mut coefs = cone.coefs;
+        let mut values = [0; 2048];
+        let mut truth = [0; 2048];
+        cone::table::truths_of(cone, &mut values, &mut truth);
+        let d = scale::coefficient_normalization_divisor(cone.coefficients());
+        if d != 0 {
+            scale::divide_all(&mut coefs[..cone.n], d);
+        }
+        ConeRows {
+            n: cone.n,
+            support: cone.support,
+            coefs,
+            truth,
+        }
+    }
+}
