@@ -14,8 +14,6 @@ use rules::{Refusal, Stats};
 pub fn admit(text: &[u8]) -> Result<Stats, Refusal>
     ensures { admit_reply result ≡ admission text.now }
 {
-    let mut nodes = [0u8; 27552];
-    let w = edition::read(text, &mut nodes)?;
-    let outputs = w.outputs.len();
-    Ok(stats_of(&nodes, w.count, outputs))
+    let w = edition::read(text)?;
+    Ok(stats_of(&w.store, w.outputs.len()))
 }

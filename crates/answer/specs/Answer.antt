@@ -5,17 +5,12 @@ use Rattle.std.proofs.Common.{◌∙◌, length-append, ne_eqb}
 use native.Mathlib.Omega.{arith}
 use Rattle.std.proofs.Math.Seq.{take-append-le}
 use Rattle.mapped.proofs.Proved.{service-answer, later_kept}
-use Rattle.rules.specs.declared.Reason.{Reason}
 use Rattle.rules.specs.declared.Refusal.{Refusal}
 use Rattle.rules.specs.Mapper.{map_reply, mapper}
 use Rattle.rules.specs.Outcome.{Outcome, outcome, written}
-use Rattle.rules.specs.Refusal.{reason_number}
+use Rattle.rules.specs.Refusal.{reason_number, reason_positive}
 use Rattle.rules.specs.Service.{answer_text, end_line, mapper_answer, refusal_text}
 use Rattle.answer.specs.Front.{Front, front_text}
-
--- A refusal has a number.
-numbered : (r : Reason) → 0 < reason_number r
-numbered r = grind arith
 
 module _ (job buffer part : List ℕ) (r : Result ℕ Refusal) (size : length buffer ≡ 65536) (e : outcome (map_reply r) part ≡ mapper job buffer) where
   answered : answer_text (outcome (map_reply r) part) ≡ mapper_answer job
@@ -43,7 +38,7 @@ module _ (job buffer part : List ℕ) (r : Result ℕ Refusal) (size : length bu
   unfolding answer_text
   refused_is {q} w =
       let f = rw w at answered in
-      rw (ne_eqb (reason_number q.reason) 0 (λ z. let n = numbered q.reason in omega arith)) at f
+      rw (ne_eqb (reason_number q.reason) 0 (λ z. let n = reason_positive q.reason in omega arith)) at f
 
   pub front_refused : {q : Refusal} {m : ℕ} {last : List ℕ} → r ≡ Err q
       → Front (refusal_text (reason_number q.reason) q.line ++ end_line) m last → Front (mapper_answer job ++ end_line) m last

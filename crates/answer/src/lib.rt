@@ -34,19 +34,12 @@ fn put_end(out: &mut [u8], n: usize) -> usize
     put_all(out, n, b"(end)\n")
 }
 
-// In place of the call the 26 cases of the `as` would join in each proof.
-fn number_of(r: Reason) -> usize
-    ensures { result ≡ reason_number r }
-{
-    r as usize
-}
-
 // A refusal with its `(end)`.
 fn refuse(out: &mut [u8], r: Refusal) -> usize
     requires { 65542 ≤ length out.old }
     ensures { Front (refusal_text (reason_number r.reason) r.line ++ end_line) result out.new }
 {
-    let n = put_refusal(out, number_of(r.reason), r.line);
+    let n = put_refusal(out, r.reason.number(), r.line);
     put_end(out, n)
 }
 

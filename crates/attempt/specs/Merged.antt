@@ -40,11 +40,16 @@ merged_of basis best =
       known = best.known;
     }
 
+-- It is a cone within the limits, but for the lengths of its arrays.
 pub record Mergeable (basis : Basis) (best : Score) : Type 0 where
   pub few : basis.n ≤ 11
   pub rows : Rows (take basis.n basis.left) (take basis.n basis.right)
   pub scaling : Scaling best.rank.a best.rank.b
-  pub cone : IsCone (merged_of basis best)
+  pub different : all_different (cone_of (merged_of basis best)).support ≡ true
+  pub narrow : cone_span (cone_of (merged_of basis best)) ≤ 32
+  pub near : (i : ℕ) → get_or (cone_of (merged_of basis best)).support i 0 < 672
+  pub held : known_entries (values (cone_of (merged_of basis best))) (cone_of (merged_of basis best)).truth
+      ≡ some (take (cone_span (cone_of (merged_of basis best))) best.known)
 
 -- What is made of the pair, if there is one.
 unfoldable pub merged_by : Basis → P.Option Score → Option C.Cone
@@ -54,31 +59,13 @@ pub record MergedTo (basis : Basis) (best : Score) (c : Cone) : Type 0 where
   pub cone : IsCone c
   pub is : cone_of c ≡ simplify_cone (cone_of (merged_of basis best))
 
--- ---- the same cone in other arrays
-same_cone : (c d : Cone) → c.n ≡ d.n → c.known ≡ d.known → cone_of c ≡ cone_of d → IsCone d → IsCone c
-same_cone c d n k e h =
-    record {
-      few = rw n h.few;
-      different = rw e h.different;
-      narrow = rw e h.narrow;
-      near = λ i. rw e (h.near i);
-      held = rw (e, k) h.held;
-    }
-
+-- ---- its arrays
 module _ (basis : Basis) (best : Score) where
   abbrev L : List ℤ
   L = take basis.n basis.left
 
   abbrev R : List ℤ
   R = take basis.n basis.right
-
-  few_is : basis.n ≤ 11 → (merged_of basis best).n ≤ 11
-  unfolding merged_of
-  few_is h = h
-
-  known_is : best.known ≡ (merged_of basis best).known
-  unfolding merged_of
-  known_is = refl
 
   merged_long : Rows L R → length L ≡ basis.n → length (merged best.rank.a best.rank.b L R) ≡ basis.n
   unfolding merged
@@ -107,9 +94,18 @@ module _ (basis : Basis) (best : Score) where
         ap (λ k. take k coefs) long ∙ e ∙ sym (take_all basis.n (merged best.rank.a best.rank.b L R) (rw (merged_long m.rows (sym long)) (le_refl _))) in
         rw cs
 
-    pub made_cone : IsCone made
-    unfolding merged_of
-    made_cone = same_cone made (merged_of basis best) refl refl made_is m.cone
+    pub made_cone : length basis.support ≡ 11 → length coefs ≡ 11 → length best.known ≡ 32 → IsCone made
+    made_cone ns cs ks =
+        record {
+          support_long = ns;
+          coefs_long = cs;
+          entries_long = ks;
+          few = m.few;
+          different = rw made_is m.different;
+          narrow = rw made_is m.narrow;
+          near = λ i. rw made_is (m.near i);
+          held = rw made_is m.held;
+        }
 
 -- ---- what was found can be merged
 cone_of_lem : (c : C.Cone) (ns : List ℕ) (cs : List ℤ) (ts : List ℕ) → c.support ≡ ns → c.coefficients ≡ cs → c.truth ≡ ts → c ≡ cone_by ns cs ts
@@ -166,24 +162,11 @@ module _ (left right : C.Cone) (truth : List ℕ) (basis : Basis) (best : Score)
         few = is.few;
         rows = rows;
         scaling = found.scaling;
-        cone = record {
-          few = few_of;
-          different = rw support_is different;
-          narrow = rw merged_is (omega (arith, found.span_is, found.short));
-          near = λ i. rw support_is (near i);
-          held = held_of;
-        };
+        different = rw support_is different;
+        narrow = rw merged_is (omega (arith, found.span_is, found.short));
+        near = λ i. rw support_is (near i);
+        held = ap₂ known_entries values_are truths_are ∙ found.entries ∙ ap (λ k. some (take k best.known)) (found.span_is ∙ ap cone_span (sym merged_is));
       }
-    where
-      few_of : (merged_of basis best).n ≤ 11
-      few_of = few_is basis best is.few
-
-      held_of : known_entries (values (cone_of (merged_of basis best))) (cone_of (merged_of basis best)).truth ≡ some (take (cone_span (cone_of (merged_of basis best))) (merged_of basis best).known)
-      held_of =
-          ap₂ known_entries values_are truths_are
-          ∙ found.entries
-          ∙ ap (λ k. some (take k best.known)) (found.span_is ∙ ap cone_span (sym merged_is))
-          ∙ ap (λ l. some (take (cone_span (cone_of (merged_of basis best))) l)) (known_is basis best)
 
 -- it is the definition's
 module _ (s : Settings) (nodes : List LutNode) (left right : C.Cone) (truth : List ℕ) (basis : Basis) (best : P.Option Score) (is : IsBasis left right basis)

@@ -14,7 +14,8 @@ use Rattle.cone.specs.declared.Cone.{Cone}
 use Rattle.compose.specs.declared.Basis.{Basis}
 use Rattle.compose.specs.Basis.{IsBasis}
 use Rattle.cone.specs.View.{cone_of}
-use Rattle.nodes.specs.View.{IsStore}
+use Rattle.nodes.specs.declared.store.Store.{Store}
+use Rattle.nodes.specs.Store.{store_of}
 use Rattle.merged_rows.specs.declared.rows.Frame.{Frame}
 use Rattle.cone.specs.Sources.{Stands}
 
@@ -36,11 +37,10 @@ pub record Tabled (basis : Basis) (rows : ℕ) (xs ys : List ℤ) (ts : List ℕ
   pub bits : (i : ℕ) → i < rows → get_or ts i 0 ≤ 1
 
 -- Two cones beside the store, laid over their sources together.
-pub record Trial (s : Settings) (bytes : List ℕ) (count : ℕ) (left right : Cone) (basis : Basis) : Type 0 where
+pub record Trial (s : Settings) (store : Store) (left right : Cone) (basis : Basis) : Type 0 where
   pub limits : in_limits s ≡ true
-  pub store : IsStore bytes count
-  pub first : Stands count left
-  pub second : Stands count right
+  pub first : Stands (length (store_of store)) left
+  pub second : Stands (length (store_of store)) right
   pub over : IsBasis (cone_of left) (cone_of right) basis
 
 -- What a gate on two cones is where the sources are not too many.

@@ -35,15 +35,16 @@ use Rattle.merged_rows.specs.EnergyRows.{InRows, Small, moments_of, moments_comp
 use Rattle.scale_pair.specs.Pair.{Rows, left_small, right_small}
 use Rattle.search.specs.Candidates.{Found}
 use Rattle.search.specs.Policies.{Attempted, Finds}
-use Rattle.search.specs.Reuse.{Stored}
 use Rattle.merged_rows.specs.RowsCompacted.{sum_over, Compacted}
 use Rattle.merged_rows.specs.RowsFrame.{InFrame, Framed, Moved, tables_framed}
 use Rattle.search.specs.Search.{Ready}
 use Rattle.attempt.specs.Merged.{merged_of, Mergeable, merged_by, MergedTo, merged-support, merged-coefs_long, found_mergeable, merged_by_lem}
-use Rattle.cone.specs.Sources.{Near, Below, Stands}
+use Rattle.cone.specs.Sources.{AllBelow, Below, Stands}
+use Rattle.nodes.specs.declared.store.Store.{Store}
+use Rattle.nodes.specs.Store.{store_of, store_few}
 use Rattle.attempt.specs.Pair.{FrameOf, Tabled, Trial}
 use Rattle.theorems.specs.SettingLimits.{limits_m}
-use Rattle.attempt.specs.PairSources.{union_near, near_store, simplified_below}
+use Rattle.attempt.specs.PairSources.{union_below, below_store, simplified_below}
 
 -- ---- sums over rows, and the gate's answers
 sum-small : (f : ℤ → ℤ → ℤ) (k : ℕ) (X Y : List ℤ) → ((i : ℕ) → nat_abs (f (get_or X i (pos 0)) (get_or Y i (pos 0))) ≤ k) → nat_abs (sum_over f X Y) ≤ length X * k
@@ -59,7 +60,10 @@ gate-bit U left right gate b i =
     (over_rows-bits U (λ bit. get_or gate (2 * cone_bit bit left + cone_bit bit right) 0) (λ bit. bit_at gate (2 * cone_bit bit left + cone_bit bit right) (is_T (all_bits gate) b)))
 
 -- ---- two cones over their sources
-module _ (s : Settings) (bytes : List ℕ) (count : ℕ) (left right : Cone) (basis : Basis) (t : Trial s bytes count left right basis) where
+module _ (s : Settings) (store : Store) (left right : Cone) (basis : Basis) (t : Trial s store left right basis) where
+  abbrev count : ℕ
+  count = length (store_of store)
+
   abbrev U : List ℕ
   U = union_support (cone_of left).support (cone_of right).support
 
@@ -97,14 +101,14 @@ module _ (s : Settings) (bytes : List ℕ) (count : ℕ) (left right : Cone) (ba
   pub trial_frame : (basis.n ≤ 11) × (Within 1984 L × Within 1984 R)
   trial_frame = (t.over.few, (λ i. omega (arith, left_small L R trial_rows i), λ i. omega (arith, right_small L R trial_rows i)))
 
-  trial_sources : Near count U
-  trial_sources = union_near count (cone_of left).support (cone_of right).support t.first.below.at t.second.below.at
+  trial_sources : AllBelow count U
+  trial_sources = union_below count (cone_of left).support (cone_of right).support t.first.below.at t.second.below.at
 
   trial_near : (i : ℕ) → get_or U i 0 < 672
-  trial_near = near_store count U trial_sources t.store.most
+  trial_near = below_store count U trial_sources (store_few store)
 
-  pub trial_stored : Stored bytes count (take basis.n basis.support)
-  trial_stored = record { store = t.store; near = rw t.over.sources trial_sources }
+  pub trial_stored : AllBelow count (take basis.n basis.support)
+  trial_stored = rw t.over.sources trial_sources
 
   -- the tables
   module _ (rows : ℕ) (xs ys : List ℤ) (ts : List ℕ) (tab : Tabled basis rows xs ys ts) where

@@ -2,14 +2,14 @@
 // It leans on `compose`, `search` and `cone`.
 #![tactic(auto)]
 
-ghost use Rattle.std.specs.Prelude.{◌≡◌, true, false, ◌≤◌, take, IfSome};
+ghost use Rattle.std.specs.Prelude.{◌≡◌, true, false, ◌≤◌, length, take, IfSome};
 ghost use Rattle.rules.specs.CircuitText.{in_limits};
 ghost use Rattle.rules.specs.Cone.{linear_table};
 ghost use Rattle.rules.specs.Composition.{all_equal, compose, simplify_cone};
 ghost use Rattle.rules.specs.Runs.{all_bits};
 ghost use Rattle.scale.specs.Limits.{Within};
 ghost use Rattle.cone.specs.View.{cone_of, IsCone};
-ghost use Rattle.nodes.specs.View.{store_of, IsStore};
+ghost use Rattle.nodes.specs.Store.{store_of};
 ghost use Rattle.search.specs.Policies.{Finds};
 ghost use Rattle.attempt.specs.Merged.{merged_of, Mergeable};
 ghost use Rattle.attempt.specs.Pair.{FrameOf, Tabled, Trial, gated};
@@ -22,6 +22,7 @@ use cone::Cone;
 use linear::{linear_least, linear_span, rows_of};
 use merged_rows::energy::{Moments, energy_moments};
 use merged_rows::rows::{Frame, compact_rows};
+use nodes::store::Store;
 use rules::Settings;
 use scale_pair::pair::prepare_coefficients;
 use scale_pair::score::Score;
@@ -59,15 +60,14 @@ fn best_pair(
     left: Cone,
     right: Cone,
     basis: Basis,
-    nodes: &[u8; 27552],
-    count: usize,
+    store: &Store,
     rows: usize,
     xs: &mut [i32; 2048],
     ys: &mut [i32; 2048],
     truth: &mut [u8; 2048],
 ) -> Option<Score>
-    requires { Trial s nodes.now count left right basis × (Tabled basis rows xs.old ys.old truth.old × (all_equal (take rows truth.old) ≡ false)) }
-    ensures { Finds s (store_of nodes.now count) (cone_of left) (cone_of right) (take rows truth.old) result }
+    requires { Trial s store.now left right basis × (Tabled basis rows xs.old ys.old truth.old × (all_equal (take rows truth.old) ≡ false)) }
+    ensures { Finds s (store_of store.now) (cone_of left) (cone_of right) (take rows truth.old) result }
 {
     let mut counts = [0; 2048];
     let n = compact_rows(frame_of(basis), rows, xs, ys, truth, &mut counts);
@@ -75,18 +75,7 @@ fn best_pair(
     let xs = &xs[..n];
     let ys = &ys[..n];
     let truth = &truth[..n];
-    find_candidate(
-        s,
-        left.span(),
-        right.span(),
-        basis,
-        m,
-        nodes,
-        count,
-        xs,
-        ys,
-        truth,
-    )
+    find_candidate(s, left.span(), right.span(), basis, m, store, xs, ys, truth)
 }
 
 // merge_cones: the cone of a scale pair, without the sources that it cancels.
@@ -110,16 +99,15 @@ fn merged(basis: Basis, best: Score) -> Cone
 // The constant, the merged cone, or no composition, where the sources are not too many.
 fn composed(
     s: Settings,
-    nodes: &[u8; 27552],
-    count: usize,
+    store: &Store,
     left: Cone,
     right: Cone,
     basis: Basis,
     gate: [u8; 4],
 ) -> Option<Cone>
-    requires { Trial s nodes.now count left right basis × (all_bits gate ≡ true) }
-    ensures is { tried_of result ≡ gated s (store_of nodes.now count) (cone_of left) (cone_of right) gate }
-    ensures stands { IfSome result (Stands count) }
+    requires { Trial s store.now left right basis × (all_bits gate ≡ true) }
+    ensures is { tried_of result ≡ gated s (store_of store.now) (cone_of left) (cone_of right) gate }
+    ensures stands { IfSome result (Stands (length (store_of store.now))) }
 {
     let mut xs = [0; 2048];
     let mut ys = [0; 2048];
@@ -130,26 +118,19 @@ fn composed(
         return Some(Cone::constant(truth[0]));
     }
     let best = best_pair(
-        s, left, right, basis, nodes, count, rows, &mut xs, &mut ys, &mut truth,
+        s, left, right, basis, store, rows, &mut xs, &mut ys, &mut truth,
     )?;
     Some(merged(basis, best))
 }
 
 // One attempt: the constant, the merged cone, or no composition.
-pub fn attempt(
-    s: Settings,
-    nodes: &[u8; 27552],
-    count: usize,
-    left: Cone,
-    right: Cone,
-    gate: [u8; 4],
-) -> Option<Cone>
-    requires { (in_limits s ≡ true) × (IsStore nodes.now count × (Stands count left × (Stands count right × (all_bits gate ≡ true)))) }
-    ensures is { tried_of result ≡ compose s (store_of nodes.now count) (cone_of left) (cone_of right) gate }
-    ensures stands { IfSome result (Stands count) }
+pub fn attempt(s: Settings, store: &Store, left: Cone, right: Cone, gate: [u8; 4]) -> Option<Cone>
+    requires { (in_limits s ≡ true) × Stands (length (store_of store.now)) left × Stands (length (store_of store.now)) right × (all_bits gate ≡ true) }
+    ensures is { tried_of result ≡ compose s (store_of store.now) (cone_of left) (cone_of right) gate }
+    ensures stands { IfSome result (Stands (length (store_of store.now))) }
 {
     if s.t + 1 < union_support_size(left.sources(), right.sources()) {
         return None;
     }
-    composed(s, nodes, count, left, right, basis_of(left, right), gate)
+    composed(s, store, left, right, basis_of(left, right), gate)
 }

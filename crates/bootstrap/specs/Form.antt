@@ -15,7 +15,7 @@ use Rattle.rules.specs.declared.Settings.{Settings}
 use Rattle.rules.specs.Builder.{known_entries}
 use Rattle.rules.specs.Cone as C
 use Rattle.rules.specs.Cone.{Candidate, linear_table, values, cone_span, completed, encoding, is_lut_valid, within_norm, norm2, fits, better, best}
-use Rattle.rules.specs.Network.{Term, LutNode, Input, Linear, Bootstrap}
+use Rattle.rules.specs.Network.{Term, LutNode, Input, Linear, Bootstrap, node_at}
 use Rattle.rules.specs.Span.{least, span}
 use Rattle.rules.specs.Store.{terms_of, coefficient_of, same_sources, with_form, ranked}
 use Rattle.theorems.specs.KnownRows.{known-hit}
@@ -25,19 +25,19 @@ use Rattle.cone.specs.declared.Cone.{Cone}
 use Rattle.scale.specs.Limits.{Within}
 use Rattle.theorems.specs.ConeValues.{linear_table-length}
 use Rattle.cone.specs.View.{cone_of, IsCone, truth-length, truth_entry, view_rows}
-use Rattle.lut.specs.Forms.{form_terms, AlignedTo, FormOf, NodesTo}
-use Rattle.nodes.specs.View.{node_of, Fine, FineTerms}
+use Rattle.cone.specs.Sources.{Stands}
+use Rattle.lut.specs.Forms.{form_terms, AlignedTo, FormOf}
+use Rattle.nodes.specs.declared.node.LutNode as L
+use Rattle.nodes.specs.declared.node.LutNode.TheVariants as Code
+use Rattle.nodes.specs.declared.store.Store.{Store}
+use Rattle.nodes.specs.Store.{store_of, node_fine}
+use Rattle.nodes.specs.View.{lut_node, Fine, FineTerms, terms_fine}
 use Rattle.search.specs.Options.{option_by}
 
 -- ---- What the code holds.
 
 abbrev pub candidate_in : List LutNode → P.Option Cone → Option Candidate
 candidate_in nodes o = option_by (λ (d : Cone). ranked nodes (cone_of d)) o
-
--- A form of c: its sources are c's.
-pub record Reforms (c d : Cone) : Type 0 where
-  pub is : IsCone d
-  pub support : (cone_of d).support ≡ (cone_of c).support
 
 -- ---- A turn over the nodes.
 
@@ -71,7 +71,7 @@ module _ (d : Cone) (T : List ℕ) (rows : length (values (cone_of d)) ≡ lengt
       ∙ known-hit (values (cone_of d)) T rows _ f i l)
 
 -- the cone with other coefficients, whose entries are its truths at their values
-module _ (c : Cone) (is : IsCone c) (long : length c.coefs ≡ 11) (coefs : List ℤ) (size : length coefs ≡ 11) (known : List ℕ)
+module _ (c : Cone) (is : IsCone c) (coefs : List ℤ) (size : length coefs ≡ 11) (known : List ℕ)
     (h : span (linear_table (take c.n coefs)) ≤ 32)
     (f : known_entries (linear_table (take c.n coefs)) (cone_of c).truth ≡ some (take (span (linear_table (take c.n coefs))) known)) where
   abbrev formed : Cone
@@ -80,7 +80,7 @@ module _ (c : Cone) (is : IsCone c) (long : length c.coefs ≡ 11) (coefs : List
   rows_same : length (linear_table (take c.n coefs)) ≡ length (cone_of c).truth
   rows_same =
       let n : length (take c.n coefs) ≡ c.n = length-take-le c.n coefs (omega (arith, is.few)) in
-      linear_table-length (take c.n coefs) ∙ ap (λ k. 2 ^ k) n ∙ sym (view_rows c is long)
+      linear_table-length (take c.n coefs) ∙ ap (λ k. 2 ^ k) n ∙ sym (view_rows c is)
 
   formed_truth : (cone_of formed).truth ≡ (cone_of c).truth
   unfolding cone_of values cone_span
@@ -90,10 +90,13 @@ module _ (c : Cone) (is : IsCone c) (long : length c.coefs ≡ 11) (coefs : List
   unfolding cone_of reformed
   formed_is = ap {B = C.Cone} (λ (t : List ℕ). record { support = take c.n c.support; coefficients = take c.n coefs; truth = t }) formed_truth
 
-  pub formed_cone : IsCone formed
+  pub formed_cone : length known ≡ 32 → IsCone formed
   unfolding cone_of values cone_span
-  formed_cone =
+  formed_cone long =
       record {
+        support_long = is.support_long;
+        coefs_long = size;
+        entries_long = long;
         few = is.few;
         different = is.different;
         narrow = h;
@@ -130,9 +133,9 @@ module _ (s : Settings) (nodes : List LutNode) (v : C.Cone) where
   form_tested d e true f = form_so d e (sym f)
   form_tested d e false f = form_not (ap (fits s nodes) (sym e) ∙ sym f)
 
-pub kept_tested : (c : Cone) (t : Bool) (d : Cone) → Reforms c d → IfSome (then_some t d) (Reforms c)
-kept_tested c true d r = r
-kept_tested c false d r = tt
+pub stands_tested : (count : ℕ) (t : Bool) (d : Cone) → Stands count d → IfSome (then_some t d) (Stands count)
+stands_tested count true d h = h
+stands_tested count false d h = tt
 
 -- ---- laws: what a bootstrap takes, as a form
 
@@ -145,6 +148,13 @@ module _ (s : Settings) (nodes : List LutNode) (c : C.Cone) (d : Option Candidat
   form_skips none h = refl
   form_skips (some ts) h = rw h
 
+  -- a node that is no bootstrap gives none
+  pub form_none : (n : L.LutNode) (m : LutNode) → lut_node n ≡ m → ((j : ℕ) (table : _) → n ≡ Code.Bootstrap j table → ⊥) → d ≡ turned s nodes c d (form_terms nodes m)
+  unfolding turned form_terms lut_node
+  form_none (Code.Input name weight) m e h = rw (← e) refl
+  form_none (Code.Linear k ts) m e h = rw (← e) refl
+  form_none (Code.Bootstrap j table) m e h = absurd (h j table refl)
+
   pub form-taken : (o : Option (List Term)) (coefs : List ℤ) → FormOf c.support o (Some coefs)
       → better_of d (fitting s nodes (reformed c (take (length c.support) coefs))) ≡ turned s nodes c d o
   unfolding turned FormOf AlignedTo with_form reformed
@@ -152,12 +162,6 @@ module _ (s : Settings) (nodes : List LutNode) (c : C.Cone) (d : Option Candidat
   form-taken (some ts) coefs h =
       rw h.0
       (ap (λ (l : List ℤ). better_of d (fitting s nodes (record { support = c.support; coefficients = l; truth = c.truth }))) h.1)
-
-terms_fine : (j : ℕ) (n : LutNode) → Fine j n → FineTerms j (terms_of n)
-unfolding Fine FineTerms terms_of
-terms_fine j (Input name) h = tt
-terms_fine j (Linear c ts) h = h.2
-terms_fine j (Bootstrap i table) h = tt
 
 coefficient-small : (j : ℕ) (ts : List Term) (n : ℕ) → FineTerms j ts → nat_abs (coefficient_of ts n) ≤ 31
 unfolding FineTerms coefficient_of
@@ -169,15 +173,15 @@ within_map f h [] i = omega arith
 within_map f h (n ∷ l) zero = h n
 within_map f h (n ∷ l) (suc i) = within_map f h l i
 
-pub form_small : (support bytes : List ℕ) (i : ℕ) (coefs : List ℤ) → NodesTo bytes i → FormOf support (form_terms bytes (node_of bytes i)) (Some coefs)
-    → Within 31 (take (length support) coefs)
+pub form_small : (support : List ℕ) (store : Store) (i : ℕ) (coefs : List ℤ) → i < length (store_of store)
+    → FormOf support (form_terms (store_of store) (node_at (store_of store) i)) (Some coefs) → Within 31 (take (length support) coefs)
 unfolding Fine FormOf AlignedTo form_terms
-form_small support bytes i coefs all f = by (node_of bytes i) (all.at i (omega arith)).fine f
+form_small support store i coefs l f = by (node_at (store_of store) i) (node_fine store i l) f
   where
     taken : (ts : List Term) (j : ℕ) → FineTerms j ts → take (length support) coefs ≡ map (coefficient_of ts) support → Within 31 (take (length support) coefs)
     taken ts j h q = rw q (within_map (coefficient_of ts) (λ n. coefficient-small j ts n h) support)
 
-    by : (n : LutNode) → Fine i n → FormOf support (form_terms bytes n) (Some coefs) → Within 31 (take (length support) coefs)
+    by : (n : LutNode) → Fine i n → FormOf support (form_terms (store_of store) n) (Some coefs) → Within 31 (take (length support) coefs)
     by (Input name) h g = absurd (some_not_none g)
     by (Linear c ts) h g = absurd (some_not_none g)
-    by (Bootstrap j table) h g = taken (terms_of (node_of bytes j)) j (terms_fine j (node_of bytes j) (all.at j (omega (arith, h.0))).fine) g.1
+    by (Bootstrap j table) h g = taken (terms_of (node_at (store_of store) j)) j (terms_fine j (node_at (store_of store) j) (node_fine store j (omega (arith, h.0)))) g.1

@@ -1,8 +1,8 @@
 -- The walk over the nodes for the best form: the best so far, and what the nodes to come give.
 use Rattle.std.specs.Prelude as P
-use Rattle.std.specs.Prelude.{Some, None, IfSome, unwrap_or, ◌≡◌, Bool, ℕ, ◌+◌, ◌≤◌, ◌<◌, drop}
-use Rattle.std.proofs.Math.Path.{refl, ap, subst}
-use Rattle.std.proofs.Common.{sym, ◌∙◌, arith, drop_of_length-le}
+use Rattle.std.specs.Prelude.{Some, None, IfSome, unwrap_or, ◌≡◌, Bool, ℕ, ◌+◌, ◌≤◌, ◌<◌, length, drop}
+use Rattle.std.proofs.Math.Path.{refl, ap}
+use Rattle.std.proofs.Common.{sym, ◌∙◌, add-one, drop_of_length-le}
 use Rattle.std.proofs.Math.Bool.{true, false}
 use mathlib.Core.List.{List, ◌∷◌, map}
 use Rattle.std.proofs.Math.Option.{Option, none, some}
@@ -13,11 +13,15 @@ use Rattle.rules.specs.Cone as C
 use Rattle.rules.specs.Cone.{Candidate, fits, best_from, best}
 use Rattle.rules.specs.Network.{Term, LutNode, Input, Linear, Bootstrap, boot_sources, node_at}
 use Rattle.rules.specs.Store.{terms_of, same_sources, bootstrap_inputs, bootstrap_forms, with_form, ranked, cone_or, realigned}
+use Rattle.theorems.specs.NodesAt.{drop-node}
 use Rattle.cone.specs.declared.Cone.{Cone}
 use Rattle.cone.specs.View.{cone_of}
+use Rattle.cone.specs.Sources.{Stands}
 use Rattle.lut.specs.Forms.{form_terms}
-use Rattle.nodes.specs.View.{node_of, store_of, store_from, store_length, at_store, Fine, IsStore}
-use Rattle.bootstrap.specs.Form.{candidate_in, Reforms, fitting, better_of, turned}
+use Rattle.nodes.specs.declared.node.LutNode as L
+use Rattle.nodes.specs.declared.node.LutNode.TheVariants as Code
+use Rattle.nodes.specs.View.{lut_node}
+use Rattle.bootstrap.specs.Form.{candidate_in, fitting, better_of, turned, form_none}
 
 -- the candidates that some of the nodes give
 unfoldable pub candidates_from : Settings → List LutNode → C.Cone → List LutNode → List Candidate
@@ -25,7 +29,7 @@ candidates_from s nodes c l = map (ranked nodes) (select (fits s nodes) (map (wi
 
 -- the best so far and what the nodes from i on give is the best of all
 pub record Walked (s : Settings) (nodes : List LutNode) (c : Cone) (i : ℕ) (f : P.Option Cone) : Type 0 where
-  pub kept : IfSome f (Reforms c)
+  pub stands : IfSome f (Stands (length nodes))
   pub rest : best_from (candidate_in nodes f) (candidates_from s nodes (cone_of c) (drop i nodes)) ≡ best (candidates_from s nodes (cone_of c) nodes)
 
 -- ---- laws: a turn over the nodes
@@ -48,55 +52,52 @@ module _ (s : Settings) (nodes : List LutNode) (c : C.Cone) (d : Option Candidat
       by true = fit (fits s nodes (with_form c ts))
       by false = refl
 
-  node-turn : (bytes : List ℕ) (n : LutNode) (l : List LutNode) → ((j : ℕ) (table : List ℕ) → n ≡ Bootstrap j table → node_at nodes j ≡ node_of bytes j)
-      → best_from (turned s nodes c d (form_terms bytes n)) (candidates_from s nodes c l) ≡ best_from d (candidates_from s nodes c (n ∷ l))
+  node-turn : (n : LutNode) (l : List LutNode) → best_from (turned s nodes c d (form_terms nodes n)) (candidates_from s nodes c l) ≡ best_from d (candidates_from s nodes c (n ∷ l))
   unfolding candidates_from boot_sources form_terms turned
-  node-turn bytes (Input g) l h = refl
-  node-turn bytes (Linear k ts) l h = refl
-  node-turn bytes (Bootstrap j table) l h =
-      rw (sym (h j table refl)) (taken_in (terms_of (node_at nodes j)) (map terms_of (map (node_at nodes) (boot_sources l))))
+  node-turn (Input g) l = refl
+  node-turn (Linear k ts) l = refl
+  node-turn (Bootstrap j table) l = taken_in (terms_of (node_at nodes j)) (map terms_of (map (node_at nodes) (boot_sources l)))
 
-module _ (s : Settings) (bytes : List ℕ) (count : ℕ) (store : IsStore bytes count) (c : Cone) where
-  pub walk_start : Walked s (store_of bytes count) c 0 None
+module _ (s : Settings) (nodes : List LutNode) (c : Cone) where
+  pub walk_start : Walked s nodes c 0 None
   unfolding best
-  walk_start = record { kept = tt; rest = refl }
+  walk_start = record { stands = tt; rest = refl }
 
-  module _ (i : ℕ) (f : P.Option Cone) (w : Walked s (store_of bytes count) c i f) where
-    source_at : i < count → (j : ℕ) (table : List ℕ) → node_of bytes i ≡ Bootstrap j table → node_at (store_of bytes count) j ≡ node_of bytes j
-    unfolding Fine
-    source_at h j table e = let g = subst (Fine i) e (store.fine i h) in at_store bytes j count (omega (arith, g.0))
-
-    pub walk_on : i < count → (g : P.Option Cone)
-        → candidate_in (store_of bytes count) g ≡ turned s (store_of bytes count) (cone_of c) (candidate_in (store_of bytes count) f) (form_terms bytes (node_of bytes i)) → IfSome g (Reforms c)
-        → Walked s (store_of bytes count) c (i + 1) g
+  module _ (i : ℕ) (f : P.Option Cone) (w : Walked s nodes c i f) where
+    pub walk_on : i < length nodes → (g : P.Option Cone) → candidate_in nodes g ≡ turned s nodes (cone_of c) (candidate_in nodes f) (form_terms nodes (node_at nodes i))
+        → IfSome g (Stands (length nodes)) → Walked s nodes c (i + 1) g
     walk_on h g e k =
-        let nodes = store_of bytes count in
         record {
-          kept = k;
+          stands = k;
           rest = ap (λ (d : Option Candidate). best_from d (candidates_from s nodes (cone_of c) (drop (i + 1) nodes))) e
-              ∙ node-turn s nodes (cone_of c) (candidate_in nodes f) bytes (node_of bytes i) (drop (i + 1) nodes) (source_at h)
-              ∙ ap (λ (l : List LutNode). best_from (candidate_in nodes f) (candidates_from s nodes (cone_of c) l)) (sym (store_from bytes count i h))
+              ∙ node-turn s nodes (cone_of c) (candidate_in nodes f) (node_at nodes i) (drop (i + 1) nodes)
+              ∙ ap (λ (l : List LutNode). best_from (candidate_in nodes f) (candidates_from s nodes (cone_of c) l)) (rw add-one (sym (drop-node nodes i h)))
               ∙ w.rest;
         }
 
-    none_left : count ≤ i → candidate_in (store_of bytes count) f ≡ best (candidates_from s (store_of bytes count) (cone_of c) (store_of bytes count))
+    -- a node that is no bootstrap
+    pub walk_past : i < length nodes → (n : L.LutNode) → lut_node n ≡ node_at nodes i → ((j : ℕ) (table : _) → n ≡ Code.Bootstrap j table → ⊥) → Walked s nodes c (i + 1) f
+    walk_past h n e k = walk_on h f (form_none s nodes (cone_of c) (candidate_in nodes f) n (node_at nodes i) e k) w.stands
+
+    none_left : length nodes ≤ i → candidate_in nodes f ≡ best (candidates_from s nodes (cone_of c) nodes)
     unfolding candidates_from boot_sources select best_from
     none_left h =
-        ap (λ (l : List LutNode). best_from (candidate_in (store_of bytes count) f) (candidates_from s (store_of bytes count) (cone_of c) l)) (sym (drop_of_length-le (store_of bytes count) {i = i} (rw (store_length bytes count) h)))
-        ∙ w.rest
+        ap (λ (l : List LutNode). best_from (candidate_in nodes f) (candidates_from s nodes (cone_of c) l)) (sym (drop_of_length-le nodes {i = i} h)) ∙ w.rest
 
-    cone_is : cone_of (unwrap_or f c) ≡ cone_or (cone_of c) (candidate_in (store_of bytes count) f)
+    cone_is : cone_of (unwrap_or f c) ≡ cone_or (cone_of c) (candidate_in nodes f)
     unfolding cone_or ranked
     cone_is = by f
       where
-        by : (o : P.Option Cone) → cone_of (unwrap_or o c) ≡ cone_or (cone_of c) (candidate_in (store_of bytes count) o)
+        by : (o : P.Option Cone) → cone_of (unwrap_or o c) ≡ cone_or (cone_of c) (candidate_in nodes o)
         by None = refl
         by (Some d) = refl
 
-    pub walk_end : count ≤ i → s.many ≡ true → cone_of (unwrap_or f c) ≡ realigned s (store_of bytes count) (cone_of c)
+    pub walk_end : length nodes ≤ i → s.many ≡ true → cone_of (unwrap_or f c) ≡ realigned s nodes (cone_of c)
     unfolding realigned bootstrap_forms bootstrap_inputs candidates_from
     walk_end h e = cone_is ∙ ap (cone_or (cone_of c)) (none_left h) ∙ rw e
 
 pub not_realigned : (s : Settings) (nodes : List LutNode) (c : C.Cone) → s.many ≡ false → c ≡ realigned s nodes c
 unfolding realigned
 not_realigned s nodes c e = rw e
+
+pub ruleset walking = (walk_start, walk_end, not_realigned)

@@ -1,34 +1,33 @@
 -- What a bootstrap leaves of the store.
-use Rattle.std.specs.Prelude.{List, ℕ, ◌+◌, ◌≤◌}
+use Rattle.std.specs.Prelude.{ℕ, ◌+◌, ◌≤◌, length}
 use Rattle.rules.specs.Store.{Stored}
+use Rattle.cone.specs.declared.Cone.{Cone}
 use Rattle.cone.specs.View.{cone_of}
 use Rattle.cone.specs.Sources.{Stands}
-use Rattle.nodes.specs.Centre.{Centred}
-use Rattle.nodes.specs.View.{store_of, IsStore}
-use Rattle.bootstrap.specs.declared.boot.Booted.{Booted}
+use Rattle.nodes.specs.declared.store.Store.{Store}
+use Rattle.nodes.specs.Store.{store_of, Centred}
 
--- With this P: where each of the nodes before has its table's centre in its record, each of those after has too.
-pub record KeepsCentres (p : ℕ) (old : List ℕ) (before : ℕ) (bytes : List ℕ) (count : ℕ) : Type 0 where
-  pub on : Centred p old before → Centred p bytes count
+-- With this P: where each node had its table's centre beside it, each has.
+pub record KeepsCentres (p : ℕ) (old new : Store) : Type 0 where
+  pub on : Centred p old → Centred p new
 
-pub centres_same : {p : ℕ} {bytes : List ℕ} {count : ℕ} → KeepsCentres p bytes count bytes count
+pub centres_same : {p : ℕ} {store : Store} → KeepsCentres p store store
 centres_same = record { on = λ z. z }
 
-pub centres_then : {p : ℕ} {old mid new : List ℕ} {i j k : ℕ} → KeepsCentres p old i mid j → KeepsCentres p mid j new k → KeepsCentres p old i new k
+pub centres_then : {p : ℕ} {old mid new : Store} → KeepsCentres p old mid → KeepsCentres p mid new → KeepsCentres p old new
 centres_then a b = record { on = λ z. b.on (a.on z) }
 
--- The store has grown from `before` nodes by at most `more`.
-pub record Grown (p : ℕ) (old : List ℕ) (before more : ℕ) (bytes : List ℕ) (count : ℕ) : Type 0 where
-  pub store : IsStore bytes count
-  pub least : before ≤ count
-  pub most : count ≤ before + more
-  pub centred : KeepsCentres p old before bytes count
+-- The store has grown by at most `more` nodes.
+pub record Grown (p : ℕ) (old : Store) (more : ℕ) (new : Store) : Type 0 where
+  pub least : length (store_of old) ≤ length (store_of new)
+  pub most : length (store_of new) ≤ length (store_of old) + more
+  pub centred : KeepsCentres p old new
 
 -- ---- bootstrap_cone
 
-unfoldable pub booted_of : List ℕ → Booted → Stored
-booted_of bytes b = record { nodes = store_of bytes b.count; cone = cone_of b.cone }
+unfoldable pub booted_of : Store → Cone → Stored
+booted_of store c = record { nodes = store_of store; cone = cone_of c }
 
-pub record Boots (p : ℕ) (old : List ℕ) (before : ℕ) (bytes : List ℕ) (b : Booted) : Type 0 where
-  pub grown : Grown p old before 2 bytes b.count
-  pub stands : Stands b.count b.cone
+pub record Boots (p : ℕ) (old new : Store) (c : Cone) : Type 0 where
+  pub grown : Grown p old 2 new
+  pub stands : Stands (length (store_of new)) c

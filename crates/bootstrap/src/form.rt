@@ -1,24 +1,25 @@
 // A cone by the coefficients of a sum that is bootstrapped already.
-ghost use Rattle.std.specs.Prelude.{◌≡◌, ◌&&◌, true, ℕ, ◌≤◌, ◌<◌, length, take, IfSome};
+ghost use Rattle.std.specs.Prelude.{◌≡◌, ◌&&◌, true, ◌≤◌, ◌<◌, length, take, IfSome};
 ghost use Rattle.std.proofs.Math.Option.{some};
 ghost use Rattle.rules.specs.Builder.{known_entries};
 ghost use Rattle.rules.specs.Cone.{linear_table, fits, better};
 ghost use Rattle.rules.specs.Span.{span as span_of};
+ghost use Rattle.rules.specs.Network.{node_at};
 ghost use Rattle.rules.specs.Store.{realigned, ranked};
-ghost use Rattle.cone.specs.declared.Cone as d;
 ghost use Rattle.scale.specs.Limits.{Within};
 ghost use Rattle.cone.specs.View.{cone_of, IsCone};
-ghost use Rattle.lut.specs.Forms.{form_terms, NodesTo};
-ghost use Rattle.nodes.specs.View.{node_of, store_of, IsStore};
-ghost use Rattle.cone.specs.Sources.{Below, Stands, AreNodes};
+ghost use Rattle.lut.specs.Forms.{form_terms};
+ghost use Rattle.nodes.specs.Store.{store_of};
+ghost use Rattle.cone.specs.Sources.{Stands};
 ghost use Rattle.search.specs.Options.{option_by};
-ghost use Rattle.bootstrap.specs.Form.{candidate_in, fitting, reformed, turned, Reforms};
+ghost use Rattle.bootstrap.specs.Form.{candidate_in, fitting, reformed, turned};
 
 use cone::Cone;
 use cone::order::{cone_order_key, is_less};
 use cone::table::truths_of;
 use linear::{linear_span, rows_of, values_of};
-use nodes::node::{Kind, kind_of};
+use nodes::node::LutNode;
+use nodes::store::Store;
 use rules::Settings;
 
 // The truth at each value of some rows, the least first, where their span is given; none where one value has two truths.
@@ -45,18 +46,19 @@ fn enter_form(c: Cone, coefs: [i64; 11], span: usize) -> Option<[u8; 32]>
 }
 
 // Whether a cone may stand.
-fn is_fit(s: Settings, nodes: &[u8; 27552], c: Cone) -> bool
-    requires { IsCone c × AreNodes nodes.now (cone_of c).support }
-    ensures { (count : ℕ) → Below count (cone_of c) → result ≡ fits s (store_of nodes.now count) (cone_of c) }
+#[tactic(auto, unfolding(rules::specs::Cone::fits, rules::specs::Cone::within_norm))]
+fn is_fit(s: Settings, store: &Store, c: Cone) -> bool
+    requires { Stands (length (store_of store.now)) c }
+    ensures { result ≡ fits s (store_of store.now) (cone_of c) }
 {
-    !cone::valid::is_over(s.norm, c.norm2(nodes)) && cone::valid::is_lut_valid(s, c)
+    !cone::valid::is_over(s.norm, c.norm2(store)) && cone::valid::is_lut_valid(s, c)
 }
 
 // The cone with other coefficients over its sources, where that fits.
-fn form_cone(s: Settings, nodes: &[u8; 27552], c: Cone, coefs: [i64; 11]) -> Option<Cone>
-    requires { (s.m ≤ 32) × (IsCone c × (AreNodes nodes.now (cone_of c).support × Within 31 (take c.n coefs))) }
-    ensures is { (count : ℕ) → Below count (cone_of c) → candidate_in (store_of nodes.now count) result ≡ fitting s (store_of nodes.now count) (reformed (cone_of c) (take c.n coefs)) }
-    ensures kept { IfSome result (Reforms c) }
+fn form_cone(s: Settings, store: &Store, c: Cone, coefs: [i64; 11]) -> Option<Cone>
+    requires { (s.m ≤ 32) × Stands (length (store_of store.now)) c × Within 31 (take c.n coefs) }
+    ensures is { candidate_in (store_of store.now) result ≡ fitting s (store_of store.now) (reformed (cone_of c) (take c.n coefs)) }
+    ensures stands { IfSome result (Stands (length (store_of store.now))) }
 {
     let span = linear_span(&coefs[..c.n]);
     if s.m < span {
@@ -64,19 +66,20 @@ fn form_cone(s: Settings, nodes: &[u8; 27552], c: Cone, coefs: [i64; 11]) -> Opt
     }
     let known = enter_form(c, coefs, span)?;
     let form = Cone { coefs, known, ..c };
-    is_fit(s, nodes, form).then_some(form)
+    is_fit(s, store, form).then_some(form)
 }
 
 // The better of the best form so far and this one: span, then norm; the first of equals stays.
-fn better_form(nodes: &[u8; 27552], best: Option<Cone>, form: Cone) -> Cone
-    requires { IfSome best (λ b. IsCone b × AreNodes nodes.now (cone_of b).support) × (IsCone form × AreNodes nodes.now (cone_of form).support) }
-    ensures is { (count : ℕ) → IfSome best (λ b. Below count (cone_of b)) → Below count (cone_of form) → ranked (store_of nodes.now count) (cone_of result) ≡ better (candidate_in (store_of nodes.now count) best) (ranked (store_of nodes.now count) (cone_of form)) }
-    ensures kept { (c : d.Cone) → IfSome best (Reforms c) → Reforms c form → Reforms c result }
+#[tactic(auto, unfolding(rules::specs::Cone::better, rules::specs::Store::ranked))]
+fn better_form(store: &Store, best: Option<Cone>, form: Cone) -> Cone
+    requires { IfSome best (Stands (length (store_of store.now))) × Stands (length (store_of store.now)) form }
+    ensures is { ranked (store_of store.now) (cone_of result) ≡ better (candidate_in (store_of store.now) best) (ranked (store_of store.now) (cone_of form)) }
+    ensures stands { Stands (length (store_of store.now)) result }
 {
     match best {
         None => form,
         Some(best) => {
-            if is_less(cone_order_key(nodes, form), cone_order_key(nodes, best)) {
+            if is_less(cone_order_key(store, form), cone_order_key(store, best)) {
                 form
             } else {
                 best
@@ -85,35 +88,36 @@ fn better_form(nodes: &[u8; 27552], best: Option<Cone>, form: Cone) -> Cone
     }
 }
 
-// The best form so far, and what node i takes if it is a bootstrap. All nodes up to i stand in the store.
-fn consider(s: Settings, nodes: &[u8; 27552], i: usize, c: Cone, best: Option<Cone>) -> Option<Cone>
-    requires { (s.m ≤ 32) × (NodesTo nodes.now i × (IsCone c × (AreNodes nodes.now (cone_of c).support × IfSome best (Reforms c)))) }
-    ensures is { (count : ℕ) → Below count (cone_of c) → candidate_in (store_of nodes.now count) result ≡ turned s (store_of nodes.now count) (cone_of c) (candidate_in (store_of nodes.now count) best) (form_terms nodes.now (node_of nodes.now i)) }
-    ensures kept { IfSome result (Reforms c) }
+// The best form so far, and what node i takes if it is a bootstrap.
+fn consider(s: Settings, store: &Store, i: usize, c: Cone, best: Option<Cone>) -> Option<Cone>
+    requires { (s.m ≤ 32) × (i < length (store_of store.now)) × Stands (length (store_of store.now)) c × IfSome best (Stands (length (store_of store.now))) }
+    ensures is { candidate_in (store_of store.now) result ≡ turned s (store_of store.now) (cone_of c) (candidate_in (store_of store.now) best) (form_terms (store_of store.now) (node_at (store_of store.now) i)) }
+    ensures stands { IfSome result (Stands (length (store_of store.now))) }
 {
-    let Some(coefs) = lut::forms::form_at(nodes, i, c.sources()) else {
+    let Some(coefs) = lut::forms::form_at(store, i, c.sources()) else {
         return best;
     };
-    let Some(form) = form_cone(s, nodes, c, coefs) else {
+    let Some(form) = form_cone(s, store, c, coefs) else {
         return best;
     };
-    Some(better_form(nodes, best, form))
+    Some(better_form(store, best, form))
 }
 
 // reusable_cone_coefficients: with many tables a sum, the cone by the first form of the least span and norm that fits, if there is one.
-pub fn realign(s: Settings, nodes: &[u8; 27552], count: usize, c: Cone) -> Cone
-    requires { (s.m ≤ 32) × (IsStore nodes.now count × Stands count c) }
-    ensures is { cone_of result ≡ realigned s (store_of nodes.now count) (cone_of c) }
-    ensures stands { Stands count result }
+#[tactic(auto, using(crate::specs::FormWalk::walking))]
+pub fn realign(s: Settings, store: &Store, c: Cone) -> Cone
+    requires { (s.m ≤ 32) × Stands (length (store_of store.now)) c }
+    ensures is { cone_of result ≡ realigned s (store_of store.now) (cone_of c) }
+    ensures stands { Stands (length (store_of store.now)) result }
 {
     if !s.many {
         return c;
     }
     let mut best = None;
-    for i in 0..count {
+    for i in 0..store.len() {
         // Most nodes are no bootstraps: a cone is not copied for them.
-        if kind_of(nodes, i) == Kind::Bootstrap {
-            best = consider(s, nodes, i, c, best);
+        if let LutNode::Bootstrap { .. } = store.node(i) {
+            best = consider(s, store, i, c, best);
         }
     }
     best.unwrap_or(c)

@@ -6,7 +6,7 @@ use Rattle.rules.specs.declared.Reason.{Reason}
 use Rattle.rules.specs.Circuit as C
 use Rattle.rules.specs.CircuitText.{CircuitLine, FbsLine, InLine, GateLine, OutLine, Prefix, circuit_line, conditions, with_line, ended, nothing, read_circuit}
 use Rattle.rules.specs.Form.{Reading, Refused}
-use Rattle.rules.specs.Refusal.{reason_number}
+use Rattle.rules.specs.Refusal.{reason_number, reason_positive}
 use Rattle.text.specs.FirstLine.{first_line, after_line, after_shorter}
 use Rattle.text.specs.Judged.{Numbered, read_from, read_end, read_no_form, read_refused, read_next}
 use Rattle.circuit.specs.Took.{line_number, with_form}
@@ -21,9 +21,6 @@ numbered p (FbsLine s) = (omega arith, (omega arith, tt))
 numbered p (InLine g) = (omega arith, (omega arith, (omega arith, tt)))
 numbered p (GateLine b ws) = (omega arith, (omega arith, (omega arith, (omega arith, tt))))
 numbered p (OutLine o) = (omega arith, (omega arith, (omega arith, tt)))
-
-pub reason_positive : (r : Reason) → 0 < reason_number r
-reason_positive r = grind arith
 
 module _ (i : ℕ) (p : Prefix) (s : List ℕ) where
   pub at_end : length s ≡ 0 → circuit_from i p s ≡ ended i p

@@ -1,5 +1,5 @@
 -- A line taken: the first condition that it meets, or the lines so far with it.
-use Rattle.std.specs.Prelude.{◌≡◌, refl, Bool, true, false, not, ◌||◌, List, [], ◌∷◌, map, ℕ, suc, ◌<◌, ◌≤◌, leb, length, IsTrue, ◌↔◌}
+use Rattle.std.specs.Prelude.{◌≡◌, refl, Bool, true, false, not, ◌||◌, List, [], ◌∷◌, map, ℕ, ◌<◌, ◌≤◌, leb, IsTrue, ◌↔◌}
 use Rattle.std.specs.List.{Any, list_any}
 use Rattle.std.proofs.Common.{sym, ap, ◌∙◌, true≢false, ⊎_elim, arith, le-leb}
 use Rattle.std.proofs.Math.Option.{Option, none, some, some-injective, none-ne-some}
@@ -8,8 +8,9 @@ use Rattle.rules.specs.Circuit.{Name, given_names}
 use Rattle.std.proofs.lemmas.List.{length-map}
 use Rattle.std.proofs.lemmas.List.Folds.{Any-from_list_any, list_any-from_Any}
 use Rattle.rules.specs.CircuitText.{CircuitLine, Prefix, listed, same_name, node_count, conditions, with_line}
-use Rattle.rules.specs.Form.{Condition, ◌when◌, bits_from}
+use Rattle.rules.specs.Form.{Condition, ◌when◌}
 use Rattle.theorems.specs.Names.{name_self, name_is}
+use Rattle.theorems.specs.Pieces.{from_length}
 use Rattle.text.specs.Judged.{lowest}
 use Rattle.forms.specs.declared.Input.{Input}
 use Rattle.circuit_text.specs.Brief.{Brief, brief_conditions, brief_conditions_lem, told, brief_told}
@@ -27,11 +28,6 @@ with_form i p (some l) = with_line i p l
 
 -- ---- What the adding of a line goes by.
 
-pub length-bits : (b : List ℕ) → length (bits_from b) ≡ length b
-unfolding bits_from
-length-bits [] = refl
-length-bits (x ∷ b) = ap suc (length-bits b)
-
 -- m of a kind are as many as there may be
 pub full : (n m : ℕ) (ks : List Condition) → m ≤ n → lowest ((3 when leb m n) ∷ ks) ≡ 3
 unfolding lowest
@@ -45,7 +41,7 @@ unmatched false true c s e = omega arith
 unmatched false false true s e = omega arith
 unmatched false false false s e = rw e (omega arith)
 
-pub ruleset counts = (length-map, length-bits, full, unmatched)
+pub ruleset counts = (length-map, from_length, full, unmatched)
 
 -- ---- An input of this name is there.
 

@@ -45,7 +45,8 @@ pub struct Circuit<'a> {
     pub outputs: ArrayVec<Output<'a>, 32>,
 }
 
-// The circuit that a text describes.
+// The circuit that a text describes. Each line's form finds its end: lines cut by `split_inclusive` first would be gone over twice,
+// and `end` wants the last one's number all the same.
 #[tactic(auto, using(crate::specs::Reading::reads_start, crate::specs::Reading::reads_end, crate::specs::Reading::reads_refused, crate::specs::Reading::reads_next, text::specs::FirstLine::after_shorter))]
 pub fn read(text: &[u8]) -> Result<Circuit<'_>, Refusal>
     ensures { reading_of result ≡ read_circuit text.now }

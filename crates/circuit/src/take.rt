@@ -19,7 +19,7 @@ use circuit_conditions::{
 };
 use circuit_text::line::{Line, read_line};
 use forms::{Input, Output};
-use rules::{Reason, Refusal, Settings, Wire};
+use rules::{Reason, Refusal, Settings};
 
 // What the lines so far say.
 #[derive(Drop)]
@@ -30,6 +30,7 @@ pub struct Prefix<'a> {
     pub outputs: ArrayVec<Output<'a>, 32>,
 }
 
+// A bit by its byte; in place it would stand six times.
 fn bit_of(b: u8) -> u8
     ensures { result ≡ b - 48 }
 {

@@ -3,13 +3,11 @@ use Rattle.std.specs.Prelude.{◌≡◌, refl, Bool, false, ◌||◌, List, [], 
 use Rattle.std.proofs.Common.{sym, ◌∙◌, ⊎_elim, arith}
 use Rattle.std.proofs.Math.Bool.{or-false, or_assoc}
 use borrow.Author.Tests.{le-leb, lt-leb, ne_eqb}
-use Rattle.laws.specs.Test.{lt_or_le, neither_left, neither_right}
+use Rattle.laws.specs.Test.{lt_or_le}
 use Rattle.rules.specs.declared.Wire.{Wire}
 use Rattle.rules.specs.declared.Wire.TheVariants.{Const, Node}
 use Rattle.rules.specs.CircuitText.{no_node, any_no_node, matching}
 use Rattle.forms.specs.Wire.{cap_wire}
-use Rattle.theorems.specs.LineBits.{WireBit}
-use Rattle.theorems.specs.SoundCircuits.{WireBits}
 use Rattle.circuit_conditions.specs.declared.GateWires.{GateWires}
 use Rattle.circuit_conditions.specs.declared.Wires.{Wires}
 use Rattle.circuit_conditions.specs.declared.Wires.TheVariants as W
@@ -83,43 +81,3 @@ shape_is n b (u ∷ v ∷ []) = refl
 shape_is n b (u ∷ v ∷ w ∷ ws) =
     rw (more n (with_wire n (with_wire n (with_wire n no_wires (cap_wire u)) (cap_wire v)) (cap_wire w)) ws refl)
     (sym (long_unmatched b u v w ws))
-
--- ---- What is kept is read: constants are bits, and where no wire is astray those that are kept go to earlier nodes.
-
-abbrev pub Each : (Wire → Type 0) → Wires → Type 0
-Each P W.None = Unit {0}
-Each P (W.One u) = P u
-Each P (W.Two u v) = P u × P v
-Each P W.More = Unit {0}
-
-pub record FineWires (n : ℕ) (v : GateWires) : Type 0 where
-  pub bits : Each WireBit v.wires
-  pub nodes : v.astray ≡ false → Each (λ w. no_node n w ≡ false) v.wires
-
-each_more : (P : Wire → Type 0) (v : Wires) (w : Wire) → Each P v → P w → Each P (and_wire v w)
-each_more P W.None w h k = k
-each_more P (W.One u) w h k = (h, k)
-each_more P (W.Two u v) w h k = tt
-each_more P W.More w h k = tt
-
-fine_more : (n : ℕ) (v : GateWires) (w : Wire) → FineWires n v → WireBit w → FineWires n (with_wire n v w)
-unfolding with_wire
-fine_more n v w f h =
-    record {
-      bits = each_more WireBit v.wires w f.bits h;
-      nodes = λ e. each_more (λ u. no_node n u ≡ false) v.wires w (f.nodes (neither_left v.astray (no_node n w) e)) (neither_right v.astray (no_node n w) e);
-    }
-
-pub cap_bit : (w : Wire) → WireBit w → WireBit (cap_wire w)
-unfolding cap_wire WireBit
-cap_bit (Const b) h = h
-cap_bit (Node i) h = tt
-
-fine_added : (n : ℕ) (v : GateWires) (ws : List Wire) → FineWires n v → WireBits ws → FineWires n (with_wires n v ws)
-unfolding with_wires WireBits
-fine_added n v [] f h = f
-fine_added n v (w ∷ ws) f h = fine_added n (with_wire n v (cap_wire w)) ws (fine_more n v (cap_wire w) f (cap_bit w h.0)) h.1
-
-pub fine_wires : (n : ℕ) (ws : List Wire) → WireBits ws → FineWires n (with_wires n no_wires ws)
-unfolding no_wires
-fine_wires n ws h = fine_added n no_wires ws (record { bits = tt; nodes = λ e. tt }) h

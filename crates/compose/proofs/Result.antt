@@ -36,9 +36,9 @@ same_fields : (k : Cone) {s : List ℕ} {c : List ℤ} {t : List ℕ} → take k
 unfolding cone_of
 same_fields k e f g = cc
 
-module _ (k : Cone) (is : IsCone k) (ls : length k.support ≡ 11) (lc : length k.coefs ≡ 11) (r : Cone) (kept : IsRetained (used_of (cone_of k)) r) where
+module _ (k : Cone) (is : IsCone k) (r : Cone) (kept : IsRetained (used_of (cone_of k)) r) where
   long : length (cone_of k).coefficients ≡ length (cone_of k).support
-  long = view_coefs k is lc ∙ sym (view_sources k is ls)
+  long = view_coefs k is ∙ sym (view_sources k is)
 
   all : List Term
   all = terms_over (cone_of k).coefficients (cone_of k).support
@@ -56,7 +56,7 @@ module _ (k : Cone) (is : IsCone k) (ls : length k.support ≡ 11) (lc : length 
 
   pub few : r.n ≤ 11
   few =
-      omega (arith, kept.count, select_le is_used (terms_over (cone_of k).coefficients (cone_of k).support), terms-length (cone_of k).coefficients (cone_of k).support long, view_sources k is ls, is.few)
+      omega (arith, kept.count, select_le is_used (terms_over (cone_of k).coefficients (cone_of k).support), terms-length (cone_of k).coefficients (cone_of k).support long, view_sources k is, is.few)
 
   different : all_different (sources used) ≡ true
   unfolding used all
@@ -127,18 +127,18 @@ module _ (k : Cone) (is : IsCone k) (ls : length k.support ≡ 11) (lc : length 
       ∙ ap (λ l. any (is_at (least (linear_table (coefs used))) j) (linear_table l)) (sym coefs_are)
       ∙ sym (any_selected (is_at (least (linear_table (coefs used))) j) all) ∙ h
 
-  with_known : length k.known ≡ 32 → IsCone built × (cone_of built ≡ simplify_cone (cone_of k))
+  with_known : length r.support ≡ 11 → length r.coefs ≡ 11 → IsCone built × (cone_of built ≡ simplify_cone (cone_of k))
   unfolding rules.values used all
-  with_known lk = (
-    is_cone built seen view lk few different (omega (arith, same_total, narrow_total k is))
+  with_known rs rc = (
+    is_cone built seen view rs rc is.entries_long few different (omega (arith, same_total, narrow_total k is))
         (near_sources is_used 672 (omega arith) all (λ i. rw sources_are (is.near i)))
         (λ i h. truth-small i (rw (linear_table-length (coefs used), ← coefs_long used) at h))
         (λ j l h. unknown k is j (rw (← same_span) l) (unhit j h)),
     view ∙ sym (simplified (cone_of k)),
   )
 
-  pub rebuilt : r.known ≡ k.known → length k.known ≡ 32 → IsCone r × (cone_of r ≡ simplify_cone (cone_of k))
-  rebuilt e lk =
+  pub rebuilt : r.known ≡ k.known → length r.support ≡ 11 → length r.coefs ≡ 11 → IsCone r × (cone_of r ≡ simplify_cone (cone_of k))
+  rebuilt e rs rc =
       subst
       (λ ks. let c : Cone = record { n = r.n; support = r.support; coefs = r.coefs; known = ks } in IsCone c × (cone_of c ≡ simplify_cone (cone_of k)))
-      (sym e) (with_known lk)
+      (sym e) (with_known rs rc)

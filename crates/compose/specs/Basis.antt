@@ -1,7 +1,7 @@
 -- Two cones laid over their sources together, and the tables of their composition.
 use Rattle.std.specs.Prelude.{◌≡◌, refl, true, false, not, ℕ, zero, suc, ◌+◌, ◌≤◌, ◌^◌, eqb, ℤ, pos, nat_abs, length, take}
 use mathlib.Core.List.{List, [], ◌∷◌, map, zip_with}
-use Rattle.std.proofs.Common.{⊎_elim, zero-le, arith, eq-eqb, ne_eqb}
+use Rattle.std.proofs.Common.{⊎_elim, zero-le, arith, eq-eqb, ne_eqb, pow_mono}
 use Rattle.std.proofs.lemmas.Bool.{not-true}
 use Rattle.laws.specs.Over.{over}
 use Rattle.laws.specs.Test.{if◌then◌otherwise◌, if_both, eq-or-ne, neither_left, neither_right, both_left, both_right}
@@ -39,7 +39,14 @@ pub record Composed (left right : Cone) (gate : List ℕ) (xs ys : List ℤ) (tr
   pub y : ys' ≡ over (linear_table (coefficients_over (union_support left.support right.support) right)) ys
   pub t : truth' ≡ over (gate_truth (union_support left.support right.support) left right gate) truth
 
--- ---- laws: a coefficient over a support is one of the cone's, or 0
+-- ---- laws: at most 11 sources have at most 2,048 rows
+pub few_rows : (n : ℕ) → n ≤ 11 → 2 ^ n ≤ 2048
+few_rows n h = pow_mono {j = 11} h
+
+pub few_room : (n : ℕ) (xs ys : List ℤ) (truth : List ℕ) → n ≤ 11 → length xs ≡ 2048 → length ys ≡ 2048 → length truth ≡ 2048 → Room n xs ys truth
+few_room n xs ys truth h x y t = let f = few_rows n h in record { x = omega arith; y = omega arith; t = omega arith }
+
+-- ---- a coefficient over a support is one of the cone's, or 0
 coefficient_within : (k : ℕ) (cs : List ℤ) (ns : List ℕ) (n : ℕ) → Within k cs → nat_abs (coefficient_of (terms_over cs ns) n) ≤ k
 unfolding coefficient_of terms_over zip_with
 coefficient_within k [] ns n w = zero-le

@@ -1,11 +1,7 @@
 -- What is left to do when all outputs are mapped: Basic's last check, and the text.
 use Rattle.std.specs.Prelude as P
-use Rattle.std.specs.Prelude.{◌≡◌, Bool, true, false, ◌&&◌, not, ℕ, zero, suc, ◌+◌, ◌≤◌, ◌<◌, take, drop}
-use Rattle.std.proofs.Math.Path.{refl, ap, subst}
-use Rattle.std.proofs.Common.{sym, ◌∙◌, le_of_suc-le-suc, arith}
-use mathlib.Core.List.{List, [], ◌∷◌, ◌++◌}
-use borrow.Author.Tests.{lt-ltb, le-ltb}
-use Rattle.std.proofs.Math.ListN.{length, get_or}
+use Rattle.std.specs.Prelude.{◌≡◌, Bool, true, false, ◌&&◌, not, List, [], ◌∷◌, ◌++◌, ℕ, zero, suc, ◌+◌, ◌≤◌, ◌<◌, length, get_or, take, drop}
+use Rattle.std.proofs.Common.{refl, ap, sym, ◌∙◌, le_of_suc-le-suc, arith, lt-ltb, le-ltb}
 use Rattle.forms.specs.declared.Net.{Net}
 use Rattle.rules.specs.declared.Reason.TheVariants.{OverNorm, ShortBuffer}
 use Rattle.rules.specs.declared.Refusal.{Refusal}
@@ -19,12 +15,12 @@ use Rattle.rules.specs.Mapper.{is_basic, pruned, checked, answer_with, map_reply
 use Rattle.rules.specs.Network.{Network, member}
 use Rattle.rules.specs.NetworkText as limit
 use Rattle.rules.specs.Outcome.{Outcome, outcome}
-use Rattle.rules.specs.Store.{wire_needs, output_needs, wanted_below, live, kept_from}
+use Rattle.rules.specs.Store.{wire_needs, output_needs, live, kept_from}
 use Rattle.rules.specs.Writing.{network_text}
 use Rattle.theorems.specs.Members.{member_head, member-left, member_right, among_at}
 use Rattle.mapped.specs.PrunedLive.{live-outputs}
-use Rattle.nodes.specs.Centre.{Centred}
-use Rattle.nodes.specs.View.{store_of, store_length, IsStore}
+use Rattle.nodes.specs.declared.store.Store.{Store}
+use Rattle.nodes.specs.Store.{store_of, Centred, store_few}
 use Rattle.writer.specs.Kept.{Numbered, Closed, closed, kept_sourced}
 use Rattle.writer.specs.Live.{Sourced}
 use Rattle.writer.specs.Outputs.{AllLive, IsKept, AllKept, all_live}
@@ -37,15 +33,14 @@ use Rattle.conclude.specs.Live.{Keeps}
 use Rattle.conclude.specs.Norm.{largest_norm}
 
 -- The network that the nodes and the outputs say, pruned and checked.
-unfoldable pub concluded : Settings → List Output → List ℕ → ℕ → Reading Network
-concluded s os nodes count = checked s (pruned s (record { nodes = store_of nodes count; outputs = os }))
+unfoldable pub concluded : Settings → List Output → Store → Reading Network
+concluded s os store = checked s (pruned s (record { nodes = store_of store; outputs = os }))
 
--- What is asked for that: each table's centre in its record, outputs of nodes that there are, and a text that is short.
-pub record Finishable (s : Settings) (os : List Output) (nodes : List ℕ) (count : ℕ) : Type 0 where
-  pub store : IsStore nodes count
-  pub centred : Centred s.p nodes count
-  pub wires : AllIn count os
-  pub short : (w : Network) → concluded s os nodes count ≡ Good w → length (network_text w) < 65536
+-- What is asked for that: each table's centre beside it, outputs of nodes that there are, and a text that is short.
+pub record Finishable (s : Settings) (os : List Output) (store : Store) : Type 0 where
+  pub centred : Centred s.p store
+  pub wires : AllIn (length (store_of store)) os
+  pub short : (w : Network) → concluded s os store ≡ Good w → length (network_text w) < 65536
 
 -- ---- laws: the text in the buffer
 
@@ -81,55 +76,55 @@ output-needs j [] i d h m = absurd (omega arith)
 output-needs j (o ∷ os) zero d h m = member-left j (wire_needs o.wire) (output_needs os) m
 output-needs j (o ∷ os) (suc i) d h m = member_right j (wire_needs o.wire) (output_needs os) (output-needs j os i d (le_of_suc-le-suc h) m)
 
-module _ (os : List Output) (nodes : List ℕ) (count : ℕ) where
+module _ (os : List Output) (store : Store) where
   abbrev kept : List ℕ
-  kept = live (store_of nodes count) os
+  kept = live (store_of store) os
 
-  wire_kept : (w : Wire) → WireIn count w → ((j : ℕ) → member j (wire_needs w) ≡ true → member j kept ≡ true) → IsKept kept count w
+  wire_kept : (w : Wire) → WireIn (length (store_of store)) w → ((j : ℕ) → member j (wire_needs w) ≡ true → member j kept ≡ true) → IsKept kept (length (store_of store)) w
   unfolding wire_needs
   wire_kept (Const b) h m = tt
   wire_kept (Node i) h m = (h, m i (member_head i []))
 
-  outputs_kept : AllIn count os → AllKept kept count os
+  outputs_kept : AllIn (length (store_of store)) os → AllKept kept (length (store_of store)) os
   outputs_kept a = λ k d h.
-      wire_kept (get_or os k d).wire (a k d h) (λ j m. among_at (output_needs os) kept (live-outputs (store_of nodes count) os) j (output-needs j os k d h m))
+      wire_kept (get_or os k d).wire (a k d h) (λ j m. among_at (output_needs os) kept (live-outputs (store_of store) os) j (output-needs j os k d h m))
 
-  pub kept-closed : IsStore nodes count → Closed kept nodes count
+  pub kept_closed : Closed kept store
   unfolding live
-  kept-closed s =
-      subst (λ k. Closed (wanted_below k (store_of nodes count) (output_needs os)) nodes count) (sym (store_length nodes count)) (closed nodes count (output_needs os) s)
+  kept_closed = closed store (output_needs os)
 
 -- ---- laws: the whole
 
-module _ (s : Settings) (os : List Output) (nodes : List ℕ) (count : ℕ) (r : Bool)
-    (e : r ≡ (is_basic s.policy && not (within_norm s (largest_norm (kept_from (live (store_of nodes count) os) 0 (store_of nodes count)))))) where
+module _ (s : Settings) (os : List Output) (store : Store) (r : Bool)
+    (e : r ≡ (is_basic s.policy && not (within_norm s (largest_norm (kept_from (live (store_of store) os) 0 (store_of store)))))) where
   pub over_refused : r ≡ true → (f : Refusal) → f ≡ record { reason = OverNorm; line = 0 } → (out : List ℕ)
-      → outcome (map_reply (P.Err f)) out ≡ answer_with out (concluded s os nodes count)
+      → outcome (map_reply (P.Err f)) out ≡ answer_with out (concluded s os store)
   unfolding concluded checked pruned answer_with largest_norm
   over_refused t f q out = rw (q, sym e ∙ t) refl
 
-  module _ (t : r ≡ false) (numbers : List ℕ) (f : Finishable s os nodes count) (k : Keeps (live (store_of nodes count) os) count numbers) where
+  module _ (t : r ≡ false) (numbers : List ℕ) (f : Finishable s os store) (k : Keeps (live (store_of store) os) (length (store_of store)) numbers) where
     abbrev whole : Net
     whole = record { p = s.p; m = s.m; norm = s.norm }
 
-    numbered : Numbered (kept os nodes count) numbers count
+    numbered : Numbered (kept os store) numbers (length (store_of store))
     unfolding Numbered
     numbered = k.at
 
-    written_is : network_of whole os nodes count numbers ≡ pruned s (record { nodes = store_of nodes count; outputs = os })
+    written_is : network_of whole os store numbers ≡ pruned s (record { nodes = store_of store; outputs = os })
     unfolding pruned
-    written_is =
-        kept_network whole os nodes count numbers (kept os nodes count) f.store numbered (kept-closed os nodes count f.store) (outputs_kept os nodes count f.wires)
+    written_is = kept_network whole os store numbers (kept os store) numbered (kept_closed os store) (outputs_kept os store f.wires)
 
-    is_good : concluded s os nodes count ≡ Good (network_of whole os nodes count numbers)
+    is_good : concluded s os store ≡ Good (network_of whole os store numbers)
     unfolding concluded checked pruned largest_norm
     is_good = rw (sym e ∙ t) (ap Good (sym written_is))
 
-    pub answer_is : (o : Outcome) (out : List ℕ) → o ≡ answer_with out (Good (network_of whole os nodes count numbers)) → o ≡ answer_with out (concluded s os nodes count)
+    pub answer_is : (o : Outcome) (out : List ℕ) → o ≡ answer_with out (Good (network_of whole os store numbers)) → o ≡ answer_with out (concluded s os store)
     answer_is o out q = q ∙ ap (answer_with out) (sym is_good)
 
-    pub answer_asks : Sourced numbers nodes count × (AllLive numbers os × Room 0 (network_text (network_of whole os nodes count numbers)))
+    pub answer_asks : Sourced numbers store × (AllLive numbers os × Room 0 (network_text (network_of whole os store numbers)))
     answer_asks = (
-      kept_sourced (kept os nodes count) numbers nodes count f.store numbered (kept-closed os nodes count f.store) k.long,
-      (all_live (kept os nodes count) numbers count numbered k.long f.store.most os (outputs_kept os nodes count f.wires), record { fits = omega (arith, f.short (network_of whole os nodes count numbers) is_good) }),
+      kept_sourced (kept os store) numbers store numbered (kept_closed os store) k.long,
+      (all_live (kept os store) numbers (length (store_of store)) numbered k.long (store_few store) os (outputs_kept os store f.wires), record { fits = omega (arith, f.short (network_of whole os store numbers) is_good) }),
     )
+
+pub ruleset concludes = (kept_closed, over_refused, answer_is)

@@ -12,7 +12,7 @@ ghost use Rattle.rules.specs.Outcome.{outcome};
 ghost use Rattle.rules.specs.Store.{kept_from};
 ghost use Rattle.rules.specs.Writing.{network_text};
 ghost use Rattle.forms.specs.Forms.{output_of};
-ghost use Rattle.nodes.specs.View.{store_of, IsStore};
+ghost use Rattle.nodes.specs.Store.{store_of};
 ghost use Rattle.writer.specs.Kept.{Closed};
 ghost use Rattle.writer.specs.Live.{Sourced};
 ghost use Rattle.writer.specs.Outputs.{AllLive};
@@ -28,6 +28,7 @@ use crate::norm::largest_norm;
 use cone::valid::is_over;
 use forms::{Net, Output};
 use gates::is_basic;
+use nodes::store::Store;
 use rules::{Reason, Refusal, Settings};
 use writer::write;
 
@@ -43,44 +44,43 @@ fn answer(
     out: &mut [u8],
     net: Net,
     outputs: &[Output<'_>],
-    nodes: &[u8; 27552],
-    count: usize,
+    store: &Store,
     live: &[u16; 672],
 ) -> Result<usize, Refusal>
-    requires { Sourced live.now nodes.now count × (AllLive live.now (map output_of outputs.now) × Room 0 (network_text (network_of net (map output_of outputs.now) nodes.now count live.now))) }
-    ensures { outcome (map_reply result) out.new ≡ answer_with out.old (Good (network_of net (map output_of outputs.now) nodes.now count live.now)) }
+    requires { Sourced live.now store.now × (AllLive live.now (map output_of outputs.now) × Room 0 (network_text (network_of net (map output_of outputs.now) store.now live.now))) }
+    ensures { outcome (map_reply result) out.new ≡ answer_with out.old (Good (network_of net (map output_of outputs.now) store.now live.now)) }
 {
-    let bytes = write(&mut out[..0], net, outputs, nodes, count, live);
+    let bytes = write(&mut out[..0], net, outputs, store, live);
     if out.len() < bytes {
         return Err(whole_text(Reason::ShortBuffer));
     }
-    write(&mut out[..bytes], net, outputs, nodes, count, live);
+    write(&mut out[..bytes], net, outputs, store, live);
     Ok(bytes)
 }
 
 // Basic's last check is on the largest norm.
-fn is_over_norm(s: Settings, nodes: &[u8; 27552], live: &[u16; 672], count: usize) -> bool
-    requires { IsStore nodes.now count × (length live.now ≡ 672) }
-    ensures { (kept : List ℕ) → Keeps kept count live.now → Closed kept nodes.now count → result ≡ (is_basic s.policy && not (within_norm s (largest_norm (kept_from kept 0 (store_of nodes.now count))))) }
+#[tactic(auto, using(crate::specs::Conclude::basic_over))]
+fn is_over_norm(s: Settings, store: &Store, live: &[u16; 672]) -> bool
+    ensures { (kept : List ℕ) → Keeps kept (length (store_of store.now)) live.now → Closed kept store.now → result ≡ (is_basic s.policy && not (within_norm s (largest_norm (kept_from kept 0 (store_of store.now))))) }
 {
-    is_basic(s.policy) && is_over(s.norm, largest_norm(nodes, live, count))
+    is_basic(s.policy) && is_over(s.norm, largest_norm(store, live))
 }
 
-// Asks that the outputs' wires are nodes or constants, and that the text is short. Depth and centre in each kept node's record are what the text
-// recounts.
+// Asks that the outputs' wires are nodes or constants, and that the text is short. Depth and centre that each kept node has in the store are what the
+// text recounts.
+#[tactic(auto, using(crate::specs::Conclude::concludes, crate::specs::Recorded::recorded))]
 pub fn conclude(
     out: &mut [u8],
     settings: Settings,
     outputs: &[Output<'_>],
-    nodes: &[u8; 27552],
-    count: usize,
+    store: &Store,
 ) -> Result<usize, Refusal>
-    requires { Finishable settings (map output_of outputs.now) nodes.now count }
-    ensures is { outcome (map_reply result) out.new ≡ answer_with out.old (concluded settings (map output_of outputs.now) nodes.now count) }
-    ensures recorded { Recorded settings (map output_of outputs.now) nodes.now count }
+    requires { Finishable settings (map output_of outputs.now) store.now }
+    ensures is { outcome (map_reply result) out.new ≡ answer_with out.old (concluded settings (map output_of outputs.now) store.now) }
+    ensures recorded { Recorded settings (map output_of outputs.now) store.now }
 {
-    let live = keep(nodes, count, outputs);
-    if is_over_norm(settings, nodes, &live, count) {
+    let live = keep(store, outputs);
+    if is_over_norm(settings, store, &live) {
         return Err(whole_text(Reason::OverNorm));
     }
     let net = Net {
@@ -88,5 +88,5 @@ pub fn conclude(
         m: settings.m,
         norm: settings.norm,
     };
-    answer(out, net, outputs, nodes, count, &live)
+    answer(out, net, outputs, store, &live)
 }

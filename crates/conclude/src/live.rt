@@ -4,17 +4,19 @@ ghost use Rattle.rules.specs.Store as rules;
 ghost use Rattle.rules.specs.Store.{wire_needs, output_needs};
 ghost use Rattle.forms.specs.Forms.{output_of};
 ghost use Rattle.prune.specs.Prune.{Marking, adding};
-ghost use Rattle.nodes.specs.View.{store_of, IsStore};
+ghost use Rattle.nodes.specs.Store.{store_of};
 ghost use Rattle.gates.specs.Wired.{WireIn};
 ghost use Rattle.outputs.specs.Outputs.{AllIn};
 ghost use Rattle.conclude.specs.Live.{Keeps};
 
 use forms::Output;
+use nodes::store::Store;
 use rules::Wire;
 
 // An output's node is marked; a constant has none.
+#[tactic(auto, using(prune::specs::Prune::adding_none, prune::specs::Prune::adding_one), unfolding(rules::specs::Store::wire_needs))]
 fn mark_output(wire: Wire, live: &mut [u16; 672])
-    requires { WireIn 672 wire × (length live.old ≡ 672) }
+    requires { WireIn 672 wire }
     ensures { Marking (adding (wire_needs wire)) live.old live.new }
 {
     if let Wire::Node(node) = wire {
@@ -23,8 +25,9 @@ fn mark_output(wire: Wire, live: &mut [u16; 672])
 }
 
 // Those of all outputs.
+#[tactic(auto, using(crate::specs::Live::marked_all))]
 fn mark_outputs(outputs: &[Output<'_>], live: &mut [u16; 672])
-    requires { AllIn 672 (map output_of outputs.now) × (length live.old ≡ 672) }
+    requires { AllIn 672 (map output_of outputs.now) }
     ensures { Marking (adding (output_needs (map output_of outputs.now))) live.old live.new }
 {
     for output in outputs {
@@ -33,12 +36,13 @@ fn mark_outputs(outputs: &[Output<'_>], live: &mut [u16; 672])
 }
 
 // The new numbers, counted from 1, of the nodes that are kept; 0 for the others.
-pub fn keep(nodes: &[u8; 27552], count: usize, outputs: &[Output<'_>]) -> [u16; 672]
-    requires { IsStore nodes.now count × AllIn count (map output_of outputs.now) }
-    ensures { Keeps (rules.live (store_of nodes.now count) (map output_of outputs.now)) count result }
+#[tactic(auto, using(nodes::specs::Store::store_few, crate::specs::Live::wires_more))]
+pub fn keep(store: &Store, outputs: &[Output<'_>]) -> [u16; 672]
+    requires { AllIn (length (store_of store.now)) (map output_of outputs.now) }
+    ensures { Keeps (rules.live (store_of store.now) (map output_of outputs.now)) (length (store_of store.now)) result }
 {
     let mut live = [0; 672];
     mark_outputs(outputs, &mut live);
-    prune::prune(nodes, count, &mut live);
+    prune::prune(store, &mut live);
     live
 }

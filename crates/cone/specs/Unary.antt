@@ -41,13 +41,13 @@ unfolding answered
 answered-unknown a b x e = rw (eq-eqb x 2 e) e
 
 -- the cone whose entries are answered
-module _ (c : Cone) (is : IsCone c) (a b : ℕ) (ha : a ≤ 1) (hb : b ≤ 1) (known : List ℕ) (long : length c.known ≡ 32)
+module _ (c : Cone) (is : IsCone c) (a b : ℕ) (ha : a ≤ 1) (hb : b ≤ 1) (known : List ℕ)
     (made : known ≡ map (answered a b) c.known) where
   each : (j : ℕ) → j < 32 → get_or known j 0 ≡ answered a b (get_or c.known j 0)
-  each j h = ap (λ l. get_or l j 0) made ∙ map_at (answered a b) c.known j 0 0 (omega arith)
+  each j h = ap (λ l. get_or l j 0) made ∙ map_at (answered a b) c.known j 0 0 (omega (arith, is.entries_long))
 
   as_long : length known ≡ 32
-  as_long = ap length made ∙ length-map c.known (answered a b) ∙ long
+  as_long = ap length made ∙ length-map c.known (answered a b) ∙ is.entries_long
 
   abbrev built : Cone
   built = record { n = c.n; support = c.support; coefs = c.coefs; known = known }
@@ -81,7 +81,7 @@ module _ (c : Cone) (is : IsCone c) (a b : ℕ) (ha : a ≤ 1) (hb : b ≤ 1) (k
   fine : IsCone built
   unfolding cone_of rules.values
   fine =
-      is_cone built (cone_of built) refl as_long is.few is.different (narrow_total c is) is.near
+      is_cone built (cone_of built) refl is.support_long is.coefs_long as_long is.few is.different (narrow_total c is) is.near
       (λ i h. let k : i < length (rules.values (cone_of c)) = rw same_values at h in rw (entry i k) (answered-small a b (get_or (cone_of c).truth i 0) ha hb (row_bit c is i k)))
       (λ j l h. each j (in_entries c is j l) ∙ answered-unknown a b (get_or c.known j 0) (unknown c is j l h))
 
@@ -125,11 +125,11 @@ module _ (c : Cone) (is : IsCone c) (first : ℕ) (is-first : first ≡ get_or (
       (decide (hits (least (rules.values (cone_of c))) (rules.values (cone_of c)) j))
 
   -- what `all` over the entries of the span finds
-  pub all_found : (n : ℕ) (r : Bool) → n ≡ rules.cone_span (cone_of c) → length c.known ≡ 32
+  pub all_found : (n : ℕ) (r : Bool) → n ≡ rules.cone_span (cone_of c)
       → MatchBool r (AllWithin (λ x. x ≢ 2 → x ≡ first) (take n c.known) 0 (length (take n c.known)))
       ((k : ℕ) × (k < length (take n c.known)) × HoldsAt (λ x. (x ≢ 2) × (x ≢ first)) (take n c.known) k)
       → r ≡ all_equal (cone_of c).truth
-  all_found n r e long m = by r m
+  all_found n r e m = by r m
     where
       by : (r : Bool) → MatchBool r (AllWithin (λ x. x ≢ 2 → x ≡ first) (take n c.known) 0 (length (take n c.known)))
           ((k : ℕ) × (k < length (take n c.known)) × HoldsAt (λ x. (x ≢ 2) × (x ≢ first)) (take n c.known) k)
@@ -137,8 +137,8 @@ module _ (c : Cone) (is : IsCone c) (first : ℕ) (is-first : first ≡ get_or (
       by true a =
           all_are
           (λ j h u. let k : j < n = omega arith in let s = get_or-take n c.known j 0 k in
-          rw s at (a j 0 (omega arith) (omega (arith, is.narrow, length-take-le n c.known)) (rw s u)))
+          rw s at (a j 0 (omega arith) (omega (arith, is.narrow, is.entries_long, length-take-le n c.known)) (rw s u)))
       by false (k, h, d) =
-          let l : k < n = omega (arith, is.narrow, length-take-le n c.known) in
+          let l : k < n = omega (arith, is.narrow, is.entries_long, length-take-le n c.known) in
           let s = get_or-take n c.known k 0 l in
           one_differs k (omega arith) (rw s at (d 0).0) (rw s at (d 0).1)

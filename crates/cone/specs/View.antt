@@ -40,9 +40,12 @@ cone_of c =
 unfoldable pub constant_of : rules.Cone → Option ℕ
 constant_of c = if is_constant c then Some (constant_value c) otherwise None
 
--- What holds of every cone within the limits: at most 11 sources, all different nodes of a store; a span of at most 32;
+-- What holds of every cone within the limits: its arrays' lengths; at most 11 sources, all different nodes of a store; a span of at most 32;
 -- and the entries within the span are those that its rows make known: 0 or 1 at the value of a row, 2 elsewhere.
 pub record IsCone (c : Cone) : Type 0 where
+  pub support_long : length c.support ≡ 11
+  pub coefs_long : length c.coefs ≡ 11
+  pub entries_long : length c.known ≡ 32
   pub few : c.n ≤ 11
   pub different : all_different (cone_of c).support ≡ true
   pub narrow : rules.cone_span (cone_of c) ≤ 32
@@ -71,15 +74,18 @@ module _ (c : Cone) where
   rows_are = linear_table-length (cone_of c).coefficients
 
   -- how a cone is made, which is seen as v
-  pub is_cone : (v : rules.Cone) → cone_of c ≡ v → length c.known ≡ 32 → c.n ≤ 11 → all_different v.support ≡ true → total v.coefficients ≤ 31
+  pub is_cone : (v : rules.Cone) → cone_of c ≡ v → length c.support ≡ 11 → length c.coefs ≡ 11 → length c.known ≡ 32 → c.n ≤ 11 → all_different v.support ≡ true → total v.coefficients ≤ 31
       → ((i : ℕ) → get_or v.support i 0 < 672)
       → ((i : ℕ) → i < length (rules.values v) → get_or v.truth i 0 ≤ 1)
       → ((j : ℕ) → j < span (rules.values v) → hits (least (rules.values v)) (rules.values v) j ≡ false → get_or c.known j 0 ≡ 2)
       → IsCone c
   unfolding rules.cone_span
-  is_cone v e long few d t near bits rest =
+  is_cone v e sources coefs long few d t near bits rest =
       let narrow : span (rules.values (cone_of c)) ≤ 32 = rw e (omega (arith, span-total v)) in
       record {
+        support_long = sources;
+        coefs_long = coefs;
+        entries_long = long;
         few = few;
         different = rw e d;
         narrow = narrow;
@@ -96,19 +102,19 @@ module _ (c : Cone) (is : IsCone c) where
   pub small : Within 31 (cone_of c).coefficients
   small i = omega (arith, narrow_total, within_total (cone_of c).coefficients i)
 
-  pub view_sources : length c.support ≡ 11 → length (cone_of c).support ≡ c.n
+  pub view_sources : length (cone_of c).support ≡ c.n
   unfolding cone_of
-  view_sources e = length-take-le c.n c.support (omega (arith, is.few))
+  view_sources = length-take-le c.n c.support (omega (arith, is.few, is.support_long))
 
-  pub view_coefs : length c.coefs ≡ 11 → length (cone_of c).coefficients ≡ c.n
+  pub view_coefs : length (cone_of c).coefficients ≡ c.n
   unfolding cone_of
-  view_coefs e = length-take-le c.n c.coefs (omega (arith, is.few))
+  view_coefs = length-take-le c.n c.coefs (omega (arith, is.few, is.coefs_long))
 
   pub rows_fit : 2 ^ c.n ≤ 2048
   rows_fit = pow_mono {j = 11} is.few
 
-  pub view_rows : length c.coefs ≡ 11 → length (cone_of c).truth ≡ 2 ^ c.n
-  view_rows e = sym (truth-length c) ∙ rows_are c ∙ ap (λ k. 2 ^ k) (view_coefs e)
+  pub view_rows : length (cone_of c).truth ≡ 2 ^ c.n
+  view_rows = sym (truth-length c) ∙ rows_are c ∙ ap (λ k. 2 ^ k) view_coefs
 
   -- each truth is a bit, and the entries of the span are known ones, 2 where no row is
   pub row_bit : (i : ℕ) → i < length (rules.values (cone_of c)) → get_or (cone_of c).truth i 0 ≤ 1
@@ -149,8 +155,3 @@ module _ (c : Cone) (is : IsCone c) where
 
   pub low_small : nat_abs (least (rules.values (cone_of c))) ≤ 31
   low_small = omega (arith, abs_parts (least (rules.values (cone_of c))), low_parts.0, low_parts.1)
-
-  -- the first n coefficients, as functions of slices take them
-  pub coefs_fit : length c.coefs ≡ 11 → (length (take c.n c.coefs) ≤ 11) × Within 1984 (take c.n c.coefs)
-  unfolding cone_of
-  coefs_fit e = (omega (arith, view_coefs e, is.few), λ i. omega (arith, small i))

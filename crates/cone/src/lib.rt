@@ -1,5 +1,5 @@
 // Cones: sources, a coefficient each, a bit for each assignment (first source the highest bit). A cone alone: its values, its order, a gate of one
-// input behind it, and whether it may be bootstrapped. It leans on `linear`, `scale`, `rotation` and the store's records (`nodes`).
+// input behind it, and whether it may be bootstrapped. It leans on `linear`, `scale`, `rotation` and the node store (`nodes`).
 #![tactic(auto)]
 
 pub mod order;
@@ -12,16 +12,18 @@ ghost use Rattle.std.specs.Prelude.{◌≡◌, ℕ, ◌≤◌, ◌<◌, length};
 ghost use Rattle.rules.specs.Cone as rules;
 ghost use Rattle.rules.specs.Span.{least};
 ghost use Rattle.scale.specs.Limits.{Within};
-ghost use Rattle.nodes.specs.View.{store_of};
+ghost use Rattle.nodes.specs.Store.{store_of};
 ghost use Rattle.cone.specs.View.{cone_of, IsCone, constant_of};
-ghost use Rattle.cone.specs.Sources.{Below, AreNodes};
+ghost use Rattle.cone.specs.Sources.{Below};
 
 use crate::weights::weights_of;
 use linear::{linear_least, linear_span};
+use nodes::store::Store;
 
 // The first n sources and coefficients, and the truth of the rows at each value, the least value first: 0, 1, or 2 where no row has it.
 // What stands past the sources and past the span does not matter.
-#[derive(Clone, Copy)]
+// It is read out of its place and handed on by value, and its coefficients are handed on as one slice: an `ArrayVec` is not `Copy`.
+#[derive(Clone, Copy, Default)]
 pub struct Cone {
     pub n: usize,
     pub support: [usize; 11],
@@ -111,11 +113,11 @@ impl Cone {
     }
 
     // Each squared coefficient times its source's weight, added.
-    pub fn norm2(self, nodes: &[u8; 27552]) -> u64
-        requires { IsCone self × AreNodes nodes.now (cone_of self).support }
-        ensures { (count : ℕ) → Below count (cone_of self) → result ≡ rules.norm2 (store_of nodes.now count) (cone_of self) }
+    pub fn norm2(self, store: &Store) -> u64
+        requires { IsCone self × Below (length (store_of store.now)) (cone_of self) }
+        ensures { result ≡ rules.norm2 (store_of store.now) (cone_of self) }
     {
-        let weights = weights_of(nodes, self.sources());
+        let weights = weights_of(store, self.sources());
         scale::coefficients_norm2(self.coefficients(), &weights)
     }
 }

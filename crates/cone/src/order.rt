@@ -1,14 +1,15 @@
 // Which of two cones comes first, and the two sides of a gate.
-ghost use Rattle.std.specs.Prelude.{◌≡◌, List, ℕ};
+ghost use Rattle.std.specs.Prelude.{◌≡◌, List, length};
 ghost use Rattle.rules.specs.Network.{LutNode};
 ghost use Rattle.rules.specs.Cone.{less, cone_order_key};
 ghost use Rattle.rules.specs.Mapper.{switch_inputs};
-ghost use Rattle.nodes.specs.View.{store_of};
+ghost use Rattle.nodes.specs.Store.{store_of};
 ghost use Rattle.cone.specs.View.{cone_of, IsCone};
-ghost use Rattle.cone.specs.Sources.{Below, AreNodes};
+ghost use Rattle.cone.specs.Sources.{Below};
 ghost use Rattle.cone.specs.Order.{key_of, sides_of};
 
 use crate::Cone;
+use nodes::store::Store;
 
 // Span, then norm.
 #[derive(Clone, Copy, PartialEq, Eq, PartialOrd, Ord)]
@@ -18,13 +19,13 @@ pub struct OrderKey {
 }
 
 #[tactic(auto, unfolding(crate::specs::Order::key_of, rules::specs::Cone::cone_order_key))]
-pub fn cone_order_key(nodes: &[u8; 27552], cone: Cone) -> OrderKey
-    requires { IsCone cone × AreNodes nodes.now (cone_of cone).support }
-    ensures { (count : ℕ) → Below count (cone_of cone) → key_of result ≡ cone_order_key (store_of nodes.now count) (cone_of cone) }
+pub fn cone_order_key(store: &Store, cone: Cone) -> OrderKey
+    requires { IsCone cone × Below (length (store_of store.now)) (cone_of cone) }
+    ensures { key_of result ≡ cone_order_key (store_of store.now) (cone_of cone) }
 {
     OrderKey {
         span: cone.span(),
-        norm: cone.norm2(nodes),
+        norm: cone.norm2(store),
     }
 }
 

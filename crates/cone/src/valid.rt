@@ -1,13 +1,14 @@
 // Whether a cone's rows fit a table that a rotation gives, and its norm the limit.
-ghost use Rattle.std.specs.Prelude.{◌≡◌, ℕ};
+ghost use Rattle.std.specs.Prelude.{◌≡◌, length};
 ghost use Rattle.rules.specs.NetworkText.{over as over_limit};
 ghost use Rattle.rules.specs.Cone.{is_lut_valid, validate_cone};
-ghost use Rattle.nodes.specs.View.{store_of};
+ghost use Rattle.nodes.specs.Store.{store_of};
 ghost use Rattle.cone.specs.View.{cone_of, IsCone};
-ghost use Rattle.cone.specs.Sources.{Below, AreNodes};
+ghost use Rattle.cone.specs.Sources.{Below};
 ghost use Rattle.cone.specs.Valid.{validity_of};
 
 use crate::Cone;
+use nodes::store::Store;
 use rules::{Limit, Reason, Settings};
 
 // Whether a norm is over its limit.
@@ -33,11 +34,11 @@ pub fn is_lut_valid(s: Settings, cone: Cone) -> bool
 
 // validate_cone without its encoding check, which no cone of a mapping fails (`never_ten`).
 #[tactic(auto, unfolding(crate::specs::Valid::validity_of, rules::specs::Cone::validate_cone, rules::specs::Cone::within_norm))]
-pub fn validate_cone(s: Settings, nodes: &[u8; 27552], cone: Cone) -> Result<(), Reason>
-    requires { IsCone cone × AreNodes nodes.now (cone_of cone).support }
-    ensures { (count : ℕ) → Below count (cone_of cone) → validity_of (cone_of cone) result ≡ validate_cone s (store_of nodes.now count) (cone_of cone) }
+pub fn validate_cone(s: Settings, store: &Store, cone: Cone) -> Result<(), Reason>
+    requires { IsCone cone × Below (length (store_of store.now)) (cone_of cone) }
+    ensures { validity_of (cone_of cone) result ≡ validate_cone s (store_of store.now) (cone_of cone) }
 {
-    if is_over(s.norm, cone.norm2(nodes)) {
+    if is_over(s.norm, cone.norm2(store)) {
         return Err(Reason::OverNorm);
     }
     Ok(())

@@ -1,7 +1,7 @@
 -- Both ways: what is written is the definition's text, and it is short.
-use Rattle.std.specs.Prelude.{◌≡◌, refl, false, ℕ, zero, suc, ◌<◌, ◌≤◌, eqb, take, All, None}
+use Rattle.std.specs.Prelude.{◌≡◌, refl, true, false, ℕ, zero, suc, ◌+◌, ◌<◌, ◌≤◌, eqb, All, None}
 use Rattle.std.proofs.Math.Path.{sym, ap, ap₂, subst}
-use Rattle.std.proofs.Common.{◌∙◌, not-suc-le-zero, le_of_suc-le-suc, length-take-le, get_or-take}
+use Rattle.std.proofs.Common.{◌∙◌, not-suc-le-zero, le_of_suc-le-suc}
 use mathlib.Core.List.{List, [], ◌∷◌, ◌++◌, map, append_assoc}
 use native.Mathlib.Omega.{arith}
 use Rattle.std.proofs.Math.ListN.{length, get_or, length-append, length-map}
@@ -15,7 +15,7 @@ use Rattle.rules.specs.Converter.{node_lines, lines_of, line2_text, lines2_text,
 use Rattle.rules.specs.Edition2.{Line2, Plain}
 use Rattle.rules.specs.Form.{bytes}
 use Rattle.rules.specs.Network as R
-use Rattle.rules.specs.Network.{LutNode, Input, Linear, Bootstrap, node_at}
+use Rattle.rules.specs.Network.{LutNode, Input, Linear, Bootstrap, member, node_at}
 use Rattle.rules.specs.NetworkText.{Net, NetLine, NodeLine, OutLine}
 use Rattle.rules.specs.Regroup.{order, place_in, moved_node, moved_output, regrouped, reordered}
 use Rattle.rules.specs.Writing.{digits, limit_text, nodes_text, output_text, outputs_text, network_text}
@@ -27,33 +27,35 @@ use Rattle.theorems.specs.LineBits.{WireBit}
 use Rattle.forms.specs.declared.Net as F
 use Rattle.forms.specs.declared.Output as O
 use Rattle.forms.specs.Forms.{output_of}
-use Rattle.nodes.specs.Nodes.{kind_of, bytes_in}
-use Rattle.nodes.specs.View.{node_of, store_of, Fine, at_store, store_length}
+use Rattle.nodes.specs.declared.store.Store.{Store}
+use Rattle.nodes.specs.Store.{store_of, store_few, node_fine}
+use Rattle.nodes.specs.View.{Fine}
 use Rattle.lines.specs.Lines.{net_text}
 use Rattle.lines.specs.Lines2.{net2_text}
 use Rattle.lines.specs.Put.{Room}
 use Rattle.writer.specs.Live.{new_node, live_nodes}
 use Rattle.writer.specs.Outputs.{new_wire, new_output, live_outputs}
 use Rattle.writer.specs.Whole as written
-use Rattle.regroup.specs.Numbers.{Regrouped}
+use Rattle.regroup.specs.Numbers.{Numbers}
+use Rattle.regroup.specs.Order.{Below, all-ordered, ordered-below, is_ordered}
 use Rattle.writer2.specs.Node2.{Turns, Ordered, ordered}
 use Rattle.writer2.specs.Stream.{stream, lines-stream}
 use Rattle.writer2.specs.Whole2.{text2}
 use Rattle.network.specs.declared.Network.{Network}
 use Rattle.network.specs.View.{network_of, GoodOutput, Holds}
-use Rattle.convert.specs.Length.{LimitFits, Small, small-new, Centred, Fit, each_tabulate, each_map, nodes-length, stream-length, SmallWire, SmallOutput, outputs-length, net-length, net2_length}
+use Rattle.convert.specs.Length.{LimitFits, Small, small-new, Centred, Fit, each_node, each_map, nodes-length, stream-length, SmallWire, SmallOutput, outputs-length, net-length, net2_length}
 use Rattle.convert.specs.Moved.{Renames, new-number, near_node, moved_node_lem, moved_outputs, stays, stay_nodes, stay_same, stay_outputs}
 
 -- ---- How long the outputs are.
 
-module _ {live : List ℕ} {to : ℕ → ℕ} {nodes : List ℕ} {net : F.Net} {count inputs : ℕ} {outs : List O.Output} (r : Renames live to count) (o : Holds nodes net count inputs outs) where
-  small_wire : (w : Wire) → no_node count w ≡ false → WireBit w → SmallWire (new_wire live w)
+module _ {live : List ℕ} {to : ℕ → ℕ} {net : F.Net} {store : Store} {inputs : ℕ} {outs : List O.Output} (r : Renames live to (length (store_of store))) (o : Holds net store inputs outs) where
+  small_wire : (w : Wire) → no_node (length (store_of store)) w ≡ false → WireBit w → SmallWire (new_wire live w)
   unfolding SmallWire WireBit
   small_wire (Const b) s k = omega arith
   small_wire (Node i) s k =
-      let l = near_node r i s in let q = r.near i l in let m = o.store.most in rw (new-number r i l) (omega arith)
+      let l = near_node r i s in let q = r.near i l in rw (new-number r i l) (omega arith)
 
-  small-outputs : (os : List O.Output) → All (GoodOutput count) os → Each SmallOutput (live_outputs live (map output_of os))
+  small-outputs : (os : List O.Output) → All (GoodOutput (length (store_of store))) os → Each SmallOutput (live_outputs live (map output_of os))
   unfolding live_outputs
   small-outputs [] a = tt
   small-outputs (x ∷ os) a =
@@ -71,41 +73,39 @@ module _ {live : List ℕ} {to : ℕ → ℕ} {nodes : List ℕ} {net : F.Net} {
         length-map outs output_of,
       )
 
-  small-node : (i : ℕ) → i < count → Small (new_node live (node_of nodes i))
+  small-node : (i : ℕ) → i < length (store_of store) → Small (new_node live (node_at (store_of store) i))
   small-node i l =
-      small-new live i (λ j k. let q = r.near j (omega arith) in rw (new-number r j (omega arith)) (omega arith)) (node_of nodes i) (o.store.fine i l)
+      small-new live i (λ j k. let q = r.near j (omega arith) in rw (new-number r j (omega arith)) (omega arith)) (node_at (store_of store) i) (node_fine store i l)
 
 -- ---- Back to the plain text: the numbers stay.
 
-module _ {live nodes : List ℕ} (w : Network) (r : Renames live stays w.count) (d : Holds nodes w.net w.count w.inputs w.outputs.items) where
-  pub plain_same : written.network_of w.net (map output_of w.outputs.items) nodes w.count live ≡ network_of nodes w
+module _ {live : List ℕ} (w : Network) (r : Renames live stays (length (store_of w.store))) (d : Holds w.net w.store w.inputs w.outputs.items) where
+  pub plain_same : written.network_of w.net (map output_of w.outputs.items) w.store live ≡ network_of w
   unfolding written.network_of
   plain_same =
       ap₂ {C = R.Network} (λ (ns : List LutNode) (os : List Output). record { p = w.net.p; m = w.net.m; norm = w.net.norm; nodes = ns; outputs = os })
-      (stay_nodes r d.store)
+      (stay_nodes live w.store r)
       (moved_outputs r w.outputs.items d.outputs ∙ stay_outputs (map output_of w.outputs.items))
 
-  plain-nodes : length (nodes_text (live_nodes live nodes w.count)) ≤ 134400
-  unfolding store_of
+  plain-nodes : length (nodes_text (live_nodes live w.store)) ≤ 134400
   plain-nodes =
-      let m = d.store.most in
-      rw (stay_nodes r d.store)
+      let m = store_few w.store in
+      rw (stay_nodes live w.store r)
       (omega (
         arith,
-        store_length nodes w.count,
-        nodes-length (store_of nodes w.count)
-            (each_tabulate Small w.count (node_of nodes) (λ i l. subst Small (stay_same r d.store i l) (small-node r d i l))),
+        nodes-length (store_of w.store)
+            (each_node Small (store_of w.store) (λ i l. subst Small (stay_same live w.store r i l) (small-node r d i l))),
       ))
 
-  pub plain-room : LimitFits w.net.norm → Room 0 (network_text (written.network_of w.net (map output_of w.outputs.items) nodes w.count live))
+  pub plain-room : LimitFits w.net.norm → Room 0 (network_text (written.network_of w.net (map output_of w.outputs.items) w.store live))
   plain-room f =
       record {
         fits =
             omega (
               arith,
-              ap length (written.whole_text w.net (map output_of w.outputs.items) nodes w.count live),
-              length-append (net_text w.net.p w.net.m w.net.norm ++ nodes_text (live_nodes live nodes w.count)) (outputs_text (live_outputs live (map output_of w.outputs.items))),
-              length-append (net_text w.net.p w.net.m w.net.norm) (nodes_text (live_nodes live nodes w.count)),
+              ap length (written.whole_text w.net (map output_of w.outputs.items) w.store live),
+              length-append (net_text w.net.p w.net.m w.net.norm ++ nodes_text (live_nodes live w.store)) (outputs_text (live_outputs live (map output_of w.outputs.items))),
+              length-append (net_text w.net.p w.net.m w.net.norm) (nodes_text (live_nodes live w.store)),
               net-length w.net.p w.net.m w.net.norm (limits_period w.net.p w.net.m d.limits) (limits_most w.net.p w.net.m d.limits) f,
               plain-nodes,
               outs-length r d,
@@ -149,80 +149,86 @@ whole-lines n ns os =
     ∙ sym (append_assoc (net2_text n.p n.m n.norm) (stream n.p None ns) (outputs_text os))
 
 centred_new : (P i : ℕ) (live : List ℕ) (n : LutNode) → Fine i n → Turns P n → Centred P (new_node live n)
-unfolding Fine Turns kind_of bytes_in new_node Centred
+unfolding Fine Turns new_node Centred
 centred_new P i live (Input g) f t = tt
 centred_new P i live (Linear c ts) f t = tt
-centred_new P i live (Bootstrap j table) f t = centre_most P table (all-bits_of table (λ k l. f.2 k)) (t refl)
+centred_new P i live (Bootstrap j table) f t = centre_most P table (all-bits_of table (λ k l. f.2 k)) t
 
-module _ {live o nodes : List ℕ} (w : Network) (g : Regrouped nodes w.count o live) (d : Holds nodes w.net w.count w.inputs w.outputs.items)
-    (t : (i : ℕ) → i < w.count → Turns w.net.p (node_of nodes i)) where
+-- every table of these turns
+abbrev pub AllTurn : ℕ → List LutNode → Type 0
+AllTurn P nodes = (i : ℕ) → i < length nodes → Turns P (node_at nodes i)
+
+-- what the numbering asks of an order
+pub order_fits : (store : Store) (o : List ℕ) → o ≡ order (store_of store) → (length o ≤ 672) × Below 672 o
+order_fits store o e =
+    let m = store_few store in
+    let b = ordered-below (store_of store) in
+    rw e (omega (arith, all-ordered (store_of store)), record { at = λ i h. let q = b.at i h in omega arith })
+
+module _ {live o : List ℕ} (w : Network) (e : o ≡ order (store_of w.store)) (n : Numbers o live) (d : Holds w.net w.store w.inputs w.outputs.items) (t : AllTurn w.net.p (store_of w.store)) where
   abbrev to : ℕ → ℕ
-  to = place_in (order (store_of nodes w.count))
+  to = place_in (order (store_of w.store))
 
-  taken-length : length (take w.count o) ≡ w.count
-  taken-length = length-take-le w.count o (let m = d.store.most in omega (arith, g.below.long))
+  all-placed : length o ≡ length (store_of w.store)
+  all-placed = ap length e ∙ all-ordered (store_of w.store)
 
-  places : (j : ℕ) → to j ≤ w.count
-  places j = omega (arith, place_most (order (store_of nodes w.count)) j, taken-length, ap length g.is)
+  places : (j : ℕ) → to j ≤ length (store_of w.store)
+  places j = omega (arith, place_most (order (store_of w.store)) j, all-ordered (store_of w.store))
 
-  pub renames : Renames live to w.count
-  renames = record { long = g.long; at = g.numbers; near = λ j l. let m = d.store.most in omega (arith, places j) }
-
-  -- the number at place k
-  within : (k : ℕ) → k < length (take w.count o) → get_or (take w.count o) k 0 < w.count
-  within k l =
-      let q : k < w.count = omega (arith, taken-length) in
-      subst (λ i. i < w.count) (sym (get_or-take w.count o k 0 q)) (g.below.below k q)
-
-  pub second-ordered : Ordered w.net.p live nodes o w.count
-  second-ordered =
+  pub renames : Renames live to (length (store_of w.store))
+  renames =
       record {
-        store = d.store;
-        below = g.below;
-        long = g.long;
-        near = λ j l. let e = g.numbers j l in let m = d.store.most in (omega arith, omega (arith, places j));
-        turns = t;
+        long = n.long;
+        at = λ j l. subst (λ (x : List ℕ). get_or live j 0 ≡ place_in x j + 1) e (n.at j (subst (λ (x : List ℕ). member j x ≡ true) (sym e) (is_ordered (store_of w.store) j l)));
+        near = λ j l. let m = store_few w.store in omega (arith, places j);
       }
 
-  second-nodes : ordered live nodes (take w.count o) ≡ map (λ i. moved_node to (node_at (store_of nodes w.count) i)) (order (store_of nodes w.count))
+  -- the number at place k
+  within : (k : ℕ) → k < length o → get_or o k 0 < length (store_of w.store)
+  within k l = (subst (λ (x : List ℕ). Below (length (store_of w.store)) x) (sym e) (ordered-below (store_of w.store))).at k l
+
+  pub second-ordered : Ordered w.net.p live w.store o
+  second-ordered = record { below = within; long = n.long; numbered = λ j l. let q = renames.at j l in omega arith; turns = t }
+
+  second-nodes : ordered live (store_of w.store) o ≡ map (λ i. moved_node to (node_at (store_of w.store) i)) (order (store_of w.store))
   unfolding ordered
   second-nodes =
-      map_at (λ i. new_node live (node_of nodes i)) (λ i. moved_node to (node_at (store_of nodes w.count) i)) (take w.count o) (λ k l. moved (get_or (take w.count o) k 0) (within k l))
-      ∙ ap (map (λ i. moved_node to (node_at (store_of nodes w.count) i))) g.is
+      map_at (λ i. new_node live (node_at (store_of w.store) i)) (λ i. moved_node to (node_at (store_of w.store) i)) o (λ k l. moved (get_or o k 0) (within k l))
+      ∙ ap (map (λ i. moved_node to (node_at (store_of w.store) i))) e
     where
-      moved : (i : ℕ) → i < w.count → new_node live (node_of nodes i) ≡ moved_node to (node_at (store_of nodes w.count) i)
-      moved i l = moved_node_lem renames i (omega arith) (node_of nodes i) (d.store.fine i l) ∙ ap (moved_node to) (sym (at_store nodes i w.count l))
+      moved : (i : ℕ) → i < length (store_of w.store) → new_node live (node_at (store_of w.store) i) ≡ moved_node to (node_at (store_of w.store) i)
+      moved i l = moved_node_lem renames i (omega arith) (node_at (store_of w.store) i) (node_fine w.store i l)
 
-  pub second_same : text2 w.net (map output_of w.outputs.items) nodes w.count live o ≡ network_text2 (regrouped (network_of nodes w))
+  pub second_same : text2 w.net (map output_of w.outputs.items) w.store live o ≡ network_text2 (regrouped (network_of w))
   unfolding text2 network_text2 lines_of regrouped reordered
   second_same =
       ap₂ {C = List ℕ} (λ (ns : List LutNode) (os : List Output). net2_text w.net.p w.net.m w.net.norm ++ stream w.net.p None ns ++ outputs_text os) second-nodes (moved_outputs renames w.outputs.items d.outputs)
-      ∙ sym (whole-lines (record { p = w.net.p; m = w.net.m; norm = w.net.norm }) (map (λ i. moved_node to (node_at (store_of nodes w.count) i)) (order (store_of nodes w.count))) (map (moved_output to) (map output_of w.outputs.items)))
+      ∙ sym (whole-lines (record { p = w.net.p; m = w.net.m; norm = w.net.norm }) (map (λ i. moved_node to (node_at (store_of w.store) i)) (order (store_of w.store))) (map (moved_output to) (map output_of w.outputs.items)))
 
-  second-stream : length (stream w.net.p None (ordered live nodes (take w.count o))) ≤ 135746
+  second-stream : length (stream w.net.p None (ordered live (store_of w.store) o)) ≤ 135746
   unfolding ordered
   second-stream =
-      let m = d.store.most in
+      let m = store_few w.store in
       omega (
         arith,
-        taken-length,
-        length-map (take w.count o) (λ i. new_node live (node_of nodes i)),
-        stream-length w.net.p None (map (λ i. new_node live (node_of nodes i)) (take w.count o))
-            (each_map (Fit w.net.p) (λ i. new_node live (node_of nodes i)) (take w.count o) (λ k l. fit (get_or (take w.count o) k 0) (within k l))),
+        all-placed,
+        length-map o (λ i. new_node live (node_at (store_of w.store) i)),
+        stream-length w.net.p None (map (λ i. new_node live (node_at (store_of w.store) i)) o)
+            (each_map (Fit w.net.p) (λ i. new_node live (node_at (store_of w.store) i)) o (λ k l. fit (get_or o k 0) (within k l))),
       )
     where
-      fit : (i : ℕ) → i < w.count → Fit w.net.p (new_node live (node_of nodes i))
-      fit i l = record { small = small-node renames d i l; centred = centred_new w.net.p i live (node_of nodes i) (d.store.fine i l) (t i l) }
+      fit : (i : ℕ) → i < length (store_of w.store) → Fit w.net.p (new_node live (node_at (store_of w.store) i))
+      fit i l = record { small = small-node renames d i l; centred = centred_new w.net.p i live (node_at (store_of w.store) i) (node_fine w.store i l) (t i l) }
 
-  pub second-room : LimitFits w.net.norm → Room 0 (text2 w.net (map output_of w.outputs.items) nodes w.count live o)
+  pub second-room : LimitFits w.net.norm → Room 0 (text2 w.net (map output_of w.outputs.items) w.store live o)
   unfolding text2
   second-room f =
       record {
         fits =
             omega (
               arith,
-              length-append (net2_text w.net.p w.net.m w.net.norm ++ stream w.net.p None (ordered live nodes (take w.count o))) (outputs_text (live_outputs live (map output_of w.outputs.items))),
-              length-append (net2_text w.net.p w.net.m w.net.norm) (stream w.net.p None (ordered live nodes (take w.count o))),
+              length-append (net2_text w.net.p w.net.m w.net.norm ++ stream w.net.p None (ordered live (store_of w.store) o)) (outputs_text (live_outputs live (map output_of w.outputs.items))),
+              length-append (net2_text w.net.p w.net.m w.net.norm) (stream w.net.p None (ordered live (store_of w.store) o)),
               net2_length w.net.p w.net.m w.net.norm (limits_period w.net.p w.net.m d.limits) (limits_most w.net.p w.net.m d.limits) f,
               second-stream,
               outs-length renames d,
@@ -232,19 +238,17 @@ module _ {live o nodes : List ℕ} (w : Network) (g : Regrouped nodes w.count o 
 -- ---- The tables of an admitted network turn.
 
 turn_one : (n : Net) (before : List LutNode) (x : LutNode) → Passes n before [] (NodeLine x) → Turns n.p x
-unfolding Turns kind_of bytes_in
-turn_one n before (Input g) p e = cc
-turn_one n before (Linear c ts) p e = cc
-turn_one n before (Bootstrap j table) p e = (boot_passes n before j table p).turns
+unfolding Turns
+turn_one n before (Input g) p = tt
+turn_one n before (Linear c ts) p = tt
+turn_one n before (Bootstrap j table) p = (boot_passes n before j table p).turns
 
-pass_turns : (n : Net) (before xs : List LutNode) → NodesPass n before xs → (k : ℕ) → k < length xs → Turns n.p (node_at xs k)
+pass_turns : (n : Net) (before xs : List LutNode) → NodesPass n before xs → AllTurn n.p xs
 unfolding NodesPass node_at
 pass_turns n before [] p k l = absurd (not-suc-le-zero l)
 pass_turns n before (x ∷ xs) p zero l = turn_one n before x p.0
 pass_turns n before (x ∷ xs) p (suc k) l = pass_turns n (before ++ (x ∷ [])) xs p.1 k (le_of_suc-le-suc l)
 
-pub all-turn : (nodes : List ℕ) (w : Network) → Admissible (network_of nodes w) → (i : ℕ) → i < w.count → Turns w.net.p (node_of nodes i)
+pub all-turn : (w : Network) → Admissible (network_of w) → AllTurn w.net.p (store_of w.store)
 unfolding net_of
-all-turn nodes w a i l =
-    subst (Turns w.net.p) (at_store nodes i w.count l)
-    (pass_turns (record { p = w.net.p; m = w.net.m; norm = w.net.norm }) [] (store_of nodes w.count) a.nodes i (rw (store_length nodes w.count) l))
+all-turn w a = pass_turns (record { p = w.net.p; m = w.net.m; norm = w.net.norm }) [] (store_of w.store) a.nodes

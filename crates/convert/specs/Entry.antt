@@ -1,6 +1,6 @@
 -- The whole: what was read, written in the other edition.
 use Rattle.std.specs.Prelude as P
-use Rattle.std.specs.Prelude.{◌≡◌, Bool, true, false, List, ℕ, ◌<◌}
+use Rattle.std.specs.Prelude.{◌≡◌, Bool, true, false, List, ℕ}
 use Rattle.std.proofs.Common.{sym, ◌∙◌}
 use Rattle.std.proofs.Math.Path.{ap}
 use Rattle.rules.specs.Converter.{network_text2, other_edition, convert, answer_text, converter}
@@ -15,11 +15,10 @@ use Rattle.rules.specs.Refusal.{reason_number}
 use Rattle.rules.specs.Regroup.{regrouped}
 use Rattle.rules.specs.Writing.{network_text}
 use Rattle.theorems.specs.Admissible.{admitted_admissible}
-use Rattle.nodes.specs.View.{node_of}
+use Rattle.nodes.specs.Store.{store_of}
 use Rattle.network.specs.declared.Network.{Network}
 use Rattle.network.specs.View.{network_of}
-use Rattle.writer2.specs.Node2.{Turns}
-use Rattle.convert.specs.Both.{all-turn}
+use Rattle.convert.specs.Both.{AllTurn, all-turn}
 
 pub refused_is : (text out : List ℕ) (x : Refusal) (r : P.Result ℕ Refusal) → r ≡ P.Err x → Refused (reason_number x.reason) x.line ≡ read_either text → outcome (map_reply r) out ≡ converter text out
 unfolding converter convert and_then answer_text
@@ -42,10 +41,9 @@ module _ (text : List ℕ) (w : R.Network) (e : Good w ≡ read_either text) {b 
   second_is t q = other_is (q ∙ ap (λ (c : Bool). answer_text out (Good (other_edition c w))) (sym t))
 
 -- A plain text that was read is admitted.
-pub plain-turns : (text nodes : List ℕ) (w : Network) → Good (network_of nodes w) ≡ read_either text → {b : Bool} → b ≡ is_edition2 text → b ≡ false
-    → (i : ℕ) → i < w.count → Turns w.net.p (node_of nodes i)
+pub plain-turns : (text : List ℕ) (w : Network) → Good (network_of w) ≡ read_either text → {b : Bool} → b ≡ is_edition2 text → b ≡ false → AllTurn w.net.p (store_of w.store)
 unfolding read_either
-plain-turns text nodes w e {b} f t =
+plain-turns text w e {b} f t =
     let z : is_edition2 text ≡ false = sym f ∙ t in
-    let q : read_admitted text ≡ Good (network_of nodes w) = sym (rw z at e) in
-    all-turn nodes w (admitted_admissible text (network_of nodes w) q)
+    let q : read_admitted text ≡ Good (network_of w) = sym (rw z at e) in
+    all-turn w (admitted_admissible text (network_of w) q)

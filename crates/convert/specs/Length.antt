@@ -1,11 +1,10 @@
 -- How long a network's text can be: numbers below 1000, at most 200 bytes a node, 50 an output.
 use mathlib.Core.List.{List, [], ◌∷◌, ◌++◌, map}
-use Rattle.std.specs.Prelude.{ℕ, zero, suc, ◌+◌, ◌*◌, ◌<◌, ◌≤◌, ◌^◌, ℤ, pos, negsuc, nat_abs, length, get_or, Option, Some, None}
+use Rattle.std.specs.Prelude.{ℕ, suc, ◌+◌, ◌*◌, ◌<◌, ◌≤◌, ◌^◌, ℤ, pos, negsuc, nat_abs, length, get_or, Option, Some, None}
 use native.Mathlib.Omega.{arith}
 use Rattle.std.proofs.Math.ListN.{length-append}
 use Rattle.std.proofs.lemmas.List.{length-map}
 use Rattle.laws.specs.Lists.{Each}
-use Rattle.laws.specs.Tabulate.{tabulate}
 use Rattle.laws.specs.Test.{if_both}
 use Rattle.rules.specs.declared.Limit.{Limit}
 use Rattle.rules.specs.declared.Limit.TheVariants.{Unlimited, AtMost}
@@ -13,7 +12,7 @@ use Rattle.rules.specs.declared.Wire.{Wire}
 use Rattle.rules.specs.declared.Wire.TheVariants.{Const, Node}
 use Rattle.rules.specs.Circuit.{Output}
 use Rattle.rules.specs.Form.{bytes}
-use Rattle.rules.specs.Network.{Term, LutNode, Input, Linear, Bootstrap}
+use Rattle.rules.specs.Network.{Term, LutNode, Input, Linear, Bootstrap, node_at}
 use Rattle.rules.specs.Rotation.{centre_of}
 use Rattle.rules.specs.Writing.{digits, signed_text, bits_text, limit_text, wire_text, weight_text, terms_text, node_text, nodes_text, output_text, outputs_text}
 use Rattle.theorems.specs.Decimals.{two_digits, three_digits, digits_within_lem}
@@ -101,10 +100,10 @@ node-length (Bootstrap j table) s =
 
 -- ---- Lines.
 
-pub each_tabulate : {A : Type 0} (Q : A → Type 0) (n : ℕ) (f : ℕ → A) → ((i : ℕ) → i < n → Q (f i)) → Each Q (tabulate n f)
-unfolding tabulate
-each_tabulate Q zero f h = tt
-each_tabulate Q (suc n) f h = (h 0 (omega arith), each_tabulate Q n (λ k. f (suc k)) (λ i l. h (suc i) (omega arith)))
+pub each_node : (Q : LutNode → Type 0) (ns : List LutNode) → ((i : ℕ) → i < length ns → Q (node_at ns i)) → Each Q ns
+unfolding node_at
+each_node Q [] h = tt
+each_node Q (n ∷ ns) h = (h 0 (omega arith), each_node Q ns (λ k l. h (suc k) (omega arith)))
 
 pub each_map : {A : Type 0} (Q : A → Type 0) (f : ℕ → A) (l : List ℕ) → ((k : ℕ) → k < length l → Q (f (get_or l k 0))) → Each Q (map f l)
 each_map Q f [] h = tt

@@ -12,12 +12,12 @@ use Rattle.rules.specs.Circuit.{Output}
 use Rattle.rules.specs.CircuitText.{no_node}
 use Rattle.rules.specs.Network.{Term, LutNode, Input, Linear, Bootstrap, node_at}
 use Rattle.rules.specs.Regroup.{moved_term, moved_node, moved_wire, moved_output}
-use Rattle.rules.specs.Store.{needs}
 use Rattle.forms.specs.declared.Output as O
 use Rattle.forms.specs.Forms.{output_of}
-use Rattle.nodes.specs.Nodes.{source_before}
-use Rattle.nodes.specs.View.{node_of, store_of, Fine, FineTerms, IsStore, at_store, store_length}
-use Rattle.writer.specs.Live.{new_number, new_term, new_node, live_from, live_nodes, Ready, Sourced}
+use Rattle.nodes.specs.declared.store.Store.{Store}
+use Rattle.nodes.specs.Store.{store_of, node_fine, store_ordered}
+use Rattle.nodes.specs.View.{Fine, FineTerms}
+use Rattle.writer.specs.Live.{new_number, new_term, new_node, live_from, live_nodes, Sourced}
 use Rattle.writer.specs.Outputs.{new_wire, live_outputs, IsLive, AllLive}
 use Rattle.network.specs.View.{GoodOutput}
 
@@ -63,19 +63,6 @@ module _ {live : List ℕ} {to : ℕ → ℕ} {count : ℕ} (r : Renames live to
   live_wire : count ≤ 672 → (w : Wire) → no_node count w ≡ false → IsLive live w
   live_wire m (Const b) s = tt
   live_wire m (Node i) s = let l = near_node i s in let e = r.at i l in (r.long, omega arith, omega arith)
-
-  pub sourced : {bytes : List ℕ} → IsStore bytes count → Sourced live bytes count
-  unfolding Ready
-  sourced {bytes} s =
-      record {
-        store = s;
-        long = r.long;
-        ready = λ i h p k q.
-            let j = get_or (needs (node_of bytes i)) k 0 in
-            let b = source_before i (node_of bytes i) (s.fine i h) k q in
-            let e = r.at j (omega arith) in
-            omega arith;
-      }
 
   -- ---- The outputs.
 
@@ -133,14 +120,20 @@ all_live live i (x ∷ xs) p q =
 pub counted_stays : {live : List ℕ} {count : ℕ} → count ≤ 672 → Counted 672 live → Renames live stays count
 counted_stays h c = record { long = c.long; at = λ j l. c.at j (omega arith); near = λ j l. omega arith }
 
-pub stay_same : {live bytes : List ℕ} {count : ℕ} → Renames live stays count → IsStore bytes count → (i : ℕ) → i < count → new_node live (node_of bytes i) ≡ node_of bytes i
-stay_same {live} {bytes} {count} r s i h = moved_node_lem r i (omega arith) (node_of bytes i) (s.fine i h) ∙ stay_node (node_of bytes i)
+module _ (live : List ℕ) (store : Store) (r : Renames live stays (length (store_of store))) where
+  pub stay_same : (i : ℕ) → i < length (store_of store) → new_node live (node_at (store_of store) i) ≡ node_at (store_of store) i
+  stay_same i h = moved_node_lem r i (omega arith) (node_at (store_of store) i) (node_fine store i h) ∙ stay_node (node_at (store_of store) i)
 
-pub stay_nodes : {live bytes : List ℕ} {count : ℕ} → Renames live stays count → IsStore bytes count → live_nodes live bytes count ≡ store_of bytes count
-unfolding live_nodes
-stay_nodes {live} {bytes} {count} r s =
-    all_live live 0 (store_of bytes count)
-    (λ k h. let g : k < count = rw (store_length bytes count) at h in let e = r.at k g in rw zero-add (omega arith))
-    (λ k h.
-    let g : k < count = rw (store_length bytes count) at h in
-    rw (at_store bytes k count g) (stay_same r s k g))
+  pub stay_nodes : live_nodes live store ≡ store_of store
+  unfolding live_nodes
+  stay_nodes = all_live live 0 (store_of store) (λ k h. let e = r.at k h in rw zero-add (omega arith)) stay_same
+
+  pub stay_sourced : Sourced live store
+  stay_sourced =
+      record {
+        long = r.long;
+        needed = λ i h p j m.
+            let b = store_ordered store i h j m in
+            let e = r.at j (omega arith) in
+            omega arith;
+      }

@@ -15,11 +15,10 @@ use rules::Refusal;
 pub fn convert(text: &[u8], out: &mut [u8]) -> Result<usize, Refusal>
     ensures { outcome (map_reply result) out.new ≡ converter text.now out.old }
 {
-    let mut nodes = [0u8; 27552];
-    let w = edition::read(text, &mut nodes)?;
+    let w = edition::read(text)?;
     if edition::is_edition_2(text) {
-        texts::to_plain(out, &w, &nodes)
+        texts::to_plain(out, &w)
     } else {
-        texts::to_second(out, &w, &nodes)
+        texts::to_second(out, &w)
     }
 }

@@ -1,17 +1,17 @@
 // Both texts.
-ghost use Rattle.std.specs.Prelude.{◌≡◌, List, ℕ, ◌<◌, length};
+ghost use Rattle.std.specs.Prelude.{◌≡◌, List, ℕ};
 ghost use Rattle.rules.specs.Converter.{network_text2, answer_text};
 ghost use Rattle.rules.specs.Form.{Good};
 ghost use Rattle.rules.specs.Mapper.{map_reply};
 ghost use Rattle.rules.specs.Outcome.{outcome};
 ghost use Rattle.rules.specs.Regroup.{regrouped};
 ghost use Rattle.rules.specs.Writing.{network_text};
-ghost use Rattle.nodes.specs.View.{node_of};
+ghost use Rattle.nodes.specs.Store.{store_of};
 ghost use Rattle.lines.specs.Put.{Put};
-ghost use Rattle.writer2.specs.Node2.{Turns};
 ghost use Rattle.network.specs.View.{network_of, Holds};
 ghost use Rattle.convert.specs.Length.{LimitFits};
 ghost use Rattle.convert.specs.Moved.{Counted};
+ghost use Rattle.convert.specs.Both.{AllTurn};
 
 use network::Network;
 use rules::{Limit, Reason, Refusal};
@@ -43,40 +43,39 @@ fn limit_fits(norm: Limit)
 }
 
 // Each number and one more.
-fn keep_numbers(live: &mut [u16; 672])
-    requires { length live.old ≡ 672 }
-    ensures { Counted 672 live.new }
+fn keep_numbers() -> [u16; 672]
+    ensures { Counted 672 result }
 {
+    let mut live = [0; 672];
     for (i, n) in live.iter_mut().enumerate() {
         *n = i as u16 + 1;
     }
+    live
 }
 
 // The plain text: the nodes as they stand.
-pub fn to_plain(out: &mut [u8], w: &Network<'_>, nodes: &[u8; 27552]) -> Result<usize, Refusal>
-    requires { Holds nodes.now w.now.net w.now.count w.now.inputs w.now.outputs.items }
-    ensures { outcome (map_reply result) out.new ≡ answer_text out.old (Good (network_text (network_of nodes.now w.now))) }
+pub fn to_plain(out: &mut [u8], w: &Network<'_>) -> Result<usize, Refusal>
+    requires { Holds w.now.net w.now.store w.now.inputs w.now.outputs.items }
+    ensures { outcome (map_reply result) out.new ≡ answer_text out.old (Good (network_text (network_of w.now))) }
 {
-    let mut live = [0u16; 672];
-    keep_numbers(&mut live);
+    let live = keep_numbers();
     limit_fits(w.net.norm);
     answer(
         out,
-        |b| writer::write(b, w.net, &w.outputs, nodes, w.count, &live),
+        |b| writer::write(b, w.net, &w.outputs, &w.store, &live),
     )
 }
 
 // Edition 2: the nodes regrouped. Asks that the tables turn.
-pub fn to_second(out: &mut [u8], w: &Network<'_>, nodes: &[u8; 27552]) -> Result<usize, Refusal>
-    requires holds { Holds nodes.now w.now.net w.now.count w.now.inputs w.now.outputs.items }
-    requires turn { (i : ℕ) → i < w.now.count → Turns w.now.net.p (node_of nodes.now i) }
-    ensures { outcome (map_reply result) out.new ≡ answer_text out.old (Good (network_text2 (regrouped (network_of nodes.now w.now)))) }
+pub fn to_second(out: &mut [u8], w: &Network<'_>) -> Result<usize, Refusal>
+    requires holds { Holds w.now.net w.now.store w.now.inputs w.now.outputs.items }
+    requires turn { AllTurn w.now.net.p (store_of w.now.store) }
+    ensures { outcome (map_reply result) out.new ≡ answer_text out.old (Good (network_text2 (regrouped (network_of w.now)))) }
 {
-    let mut live = [0u16; 672];
-    let mut order = [0u16; 672];
-    regroup::regroup(nodes, w.count, &mut order, &mut live);
+    let order = regroup::arrange(&w.store);
+    let live = regroup::number(&order);
     limit_fits(w.net.norm);
     answer(out, |b| {
-        writer2::write(b, w.net, &w.outputs, nodes, w.count, &live, &order)
+        writer2::write(b, w.net, &w.outputs, &w.store, &live, &order)
     })
 }

@@ -1,18 +1,18 @@
 -- A text of edition 2 read line by line.
-use Rattle.std.specs.Prelude.{◌≡◌, refl, List, [], ℕ, ◌+◌, ◌<◌, ◌≤◌, true, length}
+use Rattle.std.specs.Prelude.{◌≡◌, refl, List, ℕ, ◌+◌, ◌<◌, ◌≤◌, true, length}
 use Rattle.std.proofs.Common.{sym, ap, ◌∙◌, arith}
 use Rattle.std.proofs.Math.Option.{Option, none, some}
-use Rattle.laws.specs.Tabulate.{tabulate}
 use Rattle.rules.specs.declared.Reason.{Reason}
 use Rattle.rules.specs.Edition2.{Line2, Plain, Many, line2, text_conditions2, safety_conditions2, conditions2, with_line2, read_admitted2}
 use Rattle.rules.specs.Form.{Reading, Refused}
 use Rattle.rules.specs.Network.{Network}
-use Rattle.rules.specs.NetworkText.{NetPrefix, admission_conditions, no_network, network_ended}
-use Rattle.rules.specs.Refusal.{reason_number}
+use Rattle.rules.specs.NetworkText.{NetPrefix, admission_conditions, network_ended}
+use Rattle.rules.specs.Refusal.{reason_number, reason_positive}
 use Rattle.text.specs.FirstLine.{first_line, after_line, after_shorter}
 use Rattle.text.specs.Judged.{Numbered, read_from, read_end, read_no_form, read_refused, read_next}
-use Rattle.nodes.specs.View.{store_of}
 use Rattle.many_text.specs.Lines.{refusal2}
+use Rattle.network_judge.specs.View.{prefix_of, Empty, empty_prefix}
+use Rattle.network_judge.specs.declared.Prefix.{Prefix}
 use Rattle.network.specs.Verdict.{conditions_of, numbered}
 
 abbrev pub with_form2 : ℕ → NetPrefix → Option Line2 → NetPrefix
@@ -27,9 +27,6 @@ numbered2 w (Many i ts) = (omega arith, (omega arith, (omega arith, (omega arith
 -- What line i and those after it, the bytes s, say behind the lines w.
 unfoldable pub network_from2 : ℕ → NetPrefix → List ℕ → Reading Network
 network_from2 i w s = read_from line2 21 conditions2 with_line2 network_ended i w s
-
-reason_positive : (r : Reason) → 0 < reason_number r
-reason_positive r = grind arith
 
 module _ (i : ℕ) (w : NetPrefix) (s : List ℕ) where
   at_end : length s ≡ 0 → network_from2 i w s ≡ network_ended i w
@@ -62,9 +59,9 @@ pub record Reads (text : List ℕ) (i : ℕ) (w : NetPrefix) (s : List ℕ) : Ty
   pub same : read_admitted2 text ≡ network_from2 i w s
   pub room : i + length s ≤ length text + 1
 
-pub reads_start : (text nodes : List ℕ) → Reads text 1 (record { net = none; nodes = store_of nodes 0; outputs = [] }) text
-unfolding read_admitted2 network_from2 read_from no_network store_of tabulate
-reads_start text nodes = record { same = refl; room = omega arith }
+pub reads_start : (text : List ℕ) (w : Prefix) → Empty w → Reads text 1 (prefix_of w) text
+unfolding read_admitted2 network_from2 read_from
+reads_start text w e = rw (empty_prefix w e) (record { same = refl; room = omega arith })
 
 module _ {text : List ℕ} {i : ℕ} {w : NetPrefix} {s : List ℕ} (r : Reads text i w s) where
   pub reads_end : length s ≡ 0 → network_ended i w ≡ read_admitted2 text

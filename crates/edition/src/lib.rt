@@ -2,7 +2,7 @@
 // reader (`network`), on one line of edition 2 (`many_text`) and on the conditions of its `many` lines (`many_judge`).
 #![tactic(auto)]
 
-ghost use Rattle.std.specs.Prelude.{◌≡◌, true, List, ℕ, OnOk, length};
+ghost use Rattle.std.specs.Prelude.{◌≡◌, true, ℕ, OnOk, length};
 ghost use Rattle.std.proofs.Math.Option.{some};
 ghost use Rattle.rules.specs.Builder.{table_limits};
 ghost use Rattle.rules.specs.NetworkText.{NetLine};
@@ -36,25 +36,24 @@ pub fn is_edition_2(text: &[u8]) -> bool
 }
 
 // The tables at the front of some bytes, each a boot on this node.
-fn put_tables(w: &mut Prefix, nodes: &mut [u8; 27552], source: usize, tables: &[u8])
-    requires { TablesReady nodes.old w.old source tables.now }
-    ensures { TablesPut nodes.old w.old source (tables_in tables.now) nodes.new w.new }
+fn put_tables(w: &mut Prefix, source: usize, tables: &[u8])
+    requires { TablesReady w.old source tables.now }
+    ensures { TablesPut w.old source (tables_in tables.now) w.new }
 {
     let p = w.net.map_or(0, |net| net.p);
     let mut rest = tables;
     while let Some((table, after)) = read_table(rest) {
-        put_boot(nodes, p, w.count, source, table.bits);
-        w.count += 1;
+        put_boot(&mut w.store, p, source, table.bits);
         rest = after;
     }
 }
 
 // `net2`, with P and M within their limits.
-#[tactic(auto, using(crate::specs::Put::net_met, crate::specs::Put::net_free, crate::specs::Put::net_put), unfolding(rules::specs::NetworkText::started))]
+#[tactic(auto, using(crate::specs::Put::net_met, crate::specs::Put::net_free), unfolding(rules::specs::NetworkText::started))]
 fn take_net(w: &mut Prefix, net: Net) -> Result<(), Reason>
-    requires { table_limits net.p net.m ≡ true }
-    ensures number { (nodes : List ℕ) → number_met result ≡ refusal2 (prefix_of nodes w.old) (some (Plain (NetLine (net_of net)))) }
-    ensures added { (nodes : List ℕ) → HoldsSoFar nodes w.old → OnOk result (Added nodes w.old (NetLine (net_of net)) nodes w.new) }
+    requires { (table_limits net.p net.m ≡ true) × HoldsSoFar w.old }
+    ensures number { number_met result ≡ refusal2 (prefix_of w.old) (some (Plain (NetLine (net_of net)))) }
+    ensures added { OnOk result (Added w.old (NetLine (net_of net)) w.new) }
 {
     if w.net.is_some() {
         return Err(Reason::BadLine);
@@ -64,52 +63,45 @@ fn take_net(w: &mut Prefix, net: Net) -> Result<(), Reason>
 }
 
 // `many`: the n tables at the front of some bytes.
-fn take_many(
-    w: &mut Prefix,
-    nodes: &mut [u8; 27552],
-    source: usize,
-    tables: &[u8],
-    n: usize,
-) -> Result<(), Reason>
-    requires { HoldsSoFar nodes.old w.old × GoodTables tables.now × (length (tables_in tables.now) ≡ n) }
-    ensures number { number_met result ≡ lowest (many_conditions (prefix_of nodes.old w.old) source (tables_in tables.now)) }
-    ensures long { length nodes.new ≡ 27552 }
-    ensures put { OnOk result (TablesPut nodes.old w.old source (tables_in tables.now) nodes.new w.new) }
+#[tactic(auto, using(crate::specs::Put::tables_ready))]
+fn take_many(w: &mut Prefix, source: usize, tables: &[u8], n: usize) -> Result<(), Reason>
+    requires { HoldsSoFar w.old × GoodTables tables.now × (length (tables_in tables.now) ≡ n) }
+    ensures number { number_met result ≡ lowest (many_conditions (prefix_of w.old) source (tables_in tables.now)) }
+    ensures put { OnOk result (TablesPut w.old source (tables_in tables.now) w.new) }
 {
-    check_many(w, nodes, source, tables, n)?;
-    put_tables(w, nodes, source, tables);
+    check_many(w, source, tables, n)?;
+    put_tables(w, source, tables);
     Ok(())
 }
 
 // A line judged by those before it, and put behind them.
-fn take_line<'a>(w: &mut Prefix<'a>, l: &'a [u8], nodes: &mut [u8; 27552]) -> Result<(), Reason>
-    requires { HoldsSoFar nodes.old w.old }
-    ensures number { number_met result ≡ refusal2 (prefix_of nodes.old w.old) (line2 l.now) }
-    ensures long { length nodes.new ≡ 27552 }
-    ensures holds { OnOk result (HoldsSoFar nodes.new w.new) }
-    ensures added { (i : ℕ) → OnOk result (prefix_of nodes.new w.new ≡ with_form2 i (prefix_of nodes.old w.old) (line2 l.now)) }
+#[tactic(auto, using(crate::specs::Put::taking))]
+fn take_line<'a>(w: &mut Prefix<'a>, l: &'a [u8]) -> Result<(), Reason>
+    requires { HoldsSoFar w.old }
+    ensures number { number_met result ≡ refusal2 (prefix_of w.old) (line2 l.now) }
+    ensures holds { OnOk result (HoldsSoFar w.new) }
+    ensures added { (i : ℕ) → OnOk result (prefix_of w.new ≡ with_form2 i (prefix_of w.old) (line2 l.now)) }
 {
     match read_line(l) {
         None => Err(Reason::BadLine),
         Some(Line::Net(net)) => take_net(w, net),
-        Some(Line::Many(source, tables, n)) => take_many(w, nodes, source, tables, n),
-        Some(Line::Plain) => network::take_line(w, true, l, nodes),
+        Some(Line::Many(source, tables, n)) => take_many(w, source, tables, n),
+        Some(Line::Plain) => network::take_line(w, true, l),
     }
 }
 
 // As `network::read`, of edition 2.
-#[tactic(auto, using(crate::specs::Reading::reads_start, crate::specs::Reading::reads_end, crate::specs::Reading::reads_refused, crate::specs::Reading::reads_next, text::specs::FirstLine::after_shorter))]
-fn read_edition_2<'a>(text: &'a [u8], nodes: &mut [u8; 27552]) -> Result<Network<'a>, Refusal>
-    requires { length nodes.old ≡ 27552 }
-    ensures is { reading_of nodes.new result ≡ read_admitted2 text.now }
-    ensures held { Held nodes.new result }
+#[tactic(auto, using(crate::specs::Reading::reads_start, network::specs::View::empty_holds, crate::specs::Reading::reads_end, crate::specs::Reading::reads_refused, crate::specs::Reading::reads_next, text::specs::FirstLine::after_shorter))]
+fn read_edition_2(text: &[u8]) -> Result<Network<'_>, Refusal>
+    ensures is { reading_of result ≡ read_admitted2 text.now }
+    ensures held { Held result }
 {
     let mut prefix = Prefix::new();
     let mut rest = text;
     let mut line = 1;
     while !rest.is_empty() {
         let (l, next) = split_line(rest);
-        if let Err(reason) = take_line(&mut prefix, l, nodes) {
+        if let Err(reason) = take_line(&mut prefix, l) {
             return Err(Refusal { reason, line });
         }
         rest = next;
@@ -118,15 +110,14 @@ fn read_edition_2<'a>(text: &'a [u8], nodes: &mut [u8; 27552]) -> Result<Network
     end(prefix, line)
 }
 
-// The network that a text describes, its nodes in the store; every number of admission is judged. A refusal leaves anything in the store.
+// The network that a text describes; every number of admission is judged.
 #[tactic(auto, unfolding(rules::specs::Edition2::read_either))]
-pub fn read<'a>(text: &'a [u8], nodes: &mut [u8; 27552]) -> Result<Network<'a>, Refusal>
-    requires { length nodes.old ≡ 27552 }
-    ensures is { reading_of nodes.new result ≡ read_either text.now }
-    ensures held { Held nodes.new result }
+pub fn read(text: &[u8]) -> Result<Network<'_>, Refusal>
+    ensures is { reading_of result ≡ read_either text.now }
+    ensures held { Held result }
 {
     if is_edition_2(text) {
-        return read_edition_2(text, nodes);
+        return read_edition_2(text);
     }
-    network::read(text, true, nodes)
+    network::read(text, true)
 }

@@ -1,4 +1,5 @@
-// The entries for an evaluator in C, C++ or Rust: include/wonkpecan.h says how to call them. A reply is numbers in a struct, by value.
+// The entries for an evaluator in C, C++ or Rust: include/wonkpecan.h says how to call them. A reply is numbers in a struct, by value:
+// C reads it, so it has a number for the reason, a place for each part, and its own names, also where two have the same shape.
 // It leans on the entries and on nothing below them.
 #![tactic(auto)]
 

@@ -4,7 +4,6 @@ ghost use Rattle.rules.specs.Builder.{builder_reply};
 ghost use Rattle.rules.specs.Mapper.{map_reply};
 ghost use Rattle.rules.specs.Admission.{admit_reply};
 ghost use Rattle.rules.specs.Phase.{slot_reply};
-ghost use Rattle.rules.specs.Refusal.{reason_number};
 ghost use Rattle.rules.specs.Runs.{run_reply};
 ghost use Rattle.rules.specs.SumReading.{sum_reply};
 ghost use Rattle.rules.specs.Outcome.{written, refused};
@@ -13,28 +12,6 @@ ghost use Rattle.sum_reading.specs.Reply.{FewShown};
 
 use crate::{FbsAdmission, FbsReply, FbsSlot, FbsSum, FbsTable};
 use rules::{Reason, Refusal, RunError, Shown, Stats, Table};
-
-// The statistics' places where there are none.
-const NO_STATS: Stats = Stats {
-    inputs: 0,
-    sums: 0,
-    boots: 0,
-    sources: 0,
-    longest: 0,
-    norm: 0,
-    outputs: 0,
-    depth: 0,
-    centre0: 0,
-    centre1: 0,
-    centre2: 0,
-};
-
-// In place of the call the 26 cases of the `as` would join in each proof.
-fn number_of(r: Reason) -> usize
-    ensures { result ≡ reason_number r }
-{
-    r as usize
-}
 
 fn accepted(count: usize) -> FbsReply
     ensures { answer result ≡ written count }
@@ -61,7 +38,7 @@ pub fn map_numbers(reply: Result<usize, Refusal>) -> FbsReply
 {
     match reply {
         Ok(written) => accepted(written),
-        Err(r) => turned_away(number_of(r.reason), r.line),
+        Err(r) => turned_away(r.reason.number(), r.line),
     }
 }
 
@@ -76,7 +53,7 @@ pub fn builder_numbers(reply: Result<Table, Reason>) -> FbsTable
             centre: table.centre,
         },
         Err(reason) => FbsTable {
-            number: number_of(reason),
+            number: reason.number(),
             line: 0,
             count: 0,
             centre: 0,
@@ -91,7 +68,7 @@ pub fn run_numbers(reply: Result<usize, RunError>) -> FbsReply
 {
     match reply {
         Ok(count) => accepted(count),
-        Err(RunError::Unreadable(r)) => turned_away(number_of(r.reason), r.line),
+        Err(RunError::Unreadable(r)) => turned_away(r.reason.number(), r.line),
         Err(RunError::BadBits) => turned_away(100, 0),
         Err(RunError::ShortBuffer) => turned_away(101, 0),
         Err(RunError::BrokenOff) => turned_away(102, 0),
@@ -121,7 +98,7 @@ pub fn sum_numbers(reply: Result<Option<Shown>, Refusal>) -> FbsSum
             bits: [0; 11],
         },
         Err(r) => FbsSum {
-            number: number_of(r.reason),
+            number: r.reason.number(),
             line: r.line,
             count: 0,
             bits: [0; 11],
@@ -139,7 +116,7 @@ pub fn slot_numbers(reply: Result<usize, Reason>) -> FbsSlot
             slot,
         },
         Err(reason) => FbsSlot {
-            number: number_of(reason),
+            number: reason.number(),
             line: 0,
             slot: 0,
         },
@@ -152,7 +129,7 @@ pub fn admission_numbers(reply: Result<Stats, Refusal>) -> FbsAdmission
 {
     let (number, line, stats) = match reply {
         Ok(stats) => (0, 0, stats),
-        Err(r) => (number_of(r.reason), r.line, NO_STATS),
+        Err(r) => (r.reason.number(), r.line, Stats::default()),
     };
     FbsAdmission {
         number,

@@ -21,12 +21,12 @@ use Rattle.cone.specs.declared.Cone.{Cone}
 use Rattle.cone.specs.declared.order.Sides.{Sides}
 use Rattle.cone.specs.Order.{side_of, sides_of}
 use Rattle.cone.specs.View.{cone_of, IsCone, constant_of}
-use Rattle.nodes.specs.View.{store_of, IsStore}
-use Rattle.gate.specs.declared.map.Limited.{Limited}
+use Rattle.nodes.specs.declared.store.Store.{Store}
+use Rattle.nodes.specs.Store.{store_of}
 use Rattle.gate.specs.declared.map.Mapped.{Mapped}
 use Rattle.cone.specs.Sources.{Stands, below_same}
-use Rattle.bootstrap.specs.View.{KeepsCentres, Grown, centres_same, centres_then}
-use Rattle.gate.specs.View.{StandsBoth, Maps, limited_of, mapped_of}
+use Rattle.bootstrap.specs.View.{Grown, centres_same, centres_then}
+use Rattle.gate.specs.View.{StandsBoth, Maps, mapped_of}
 use Rattle.attempt.specs.Tried.{tried_of}
 use Rattle.gate.specs.Gate.{room, room_of, room_of_most, Ready, Steps, Same}
 
@@ -45,10 +45,9 @@ module _ (s : Settings) (w : M.Sides) where
   unfolding M.limit_sources
   sources_not e = rw e
 
-  pub sources_on : (bytes : List ℕ) (l : Limited) → M.over_limit s w ≡ true → limited_of bytes l ≡ M.bootstrap_left s w
-      → M.limit_second s (M.switch_inputs (sides_of (store_of bytes l.count) l.sides)) ≡ M.limit_sources s w
-  unfolding limited_of M.limit_sources
-  sources_on bytes l o e = ap (λ v. M.limit_second s (M.switch_inputs v)) e ∙ rw o refl
+  pub sources_on : (v : M.Sides) → M.over_limit s w ≡ true → v ≡ M.bootstrap_left s w → M.limit_second s (M.switch_inputs v) ≡ M.limit_sources s w
+  unfolding M.limit_sources
+  sources_on v o e = ap (λ x. M.limit_second s (M.switch_inputs x)) e ∙ rw o refl
 
 -- ---- an attempt, and what comes next
 
@@ -71,13 +70,9 @@ pub binary_is : (s : Settings) (nodes : List LutNode) (w : M.Sides) (left right 
 unfolding attempts M.map_binary_gate
 binary_is s nodes w left right gate e = ap (λ v. attempts s (M.second_attempt s) (M.limit_sources s v)) e
 
-module _ (s : Settings) (next : M.Sides → Result M.Mapped) (q : M.Sides) (bytes : List ℕ) (b : Limited) (e : limited_of bytes b ≡ q)
-    (t : P.Option Cone) (a : tried_of t ≡ M.attempt s (sides_of (store_of bytes b.count) b.sides)) where
-  abbrev v : M.Sides
-  v = sides_of (store_of bytes b.count) b.sides
-
+module _ (s : Settings) (next : M.Sides → Result M.Mapped) (q v : M.Sides) (e : v ≡ q) (t : P.Option Cone) (a : tried_of t ≡ M.attempt s v) where
   step : M.or_else v (tried_of t) (next v) ≡ attempts s next q
-  unfolding attempts limited_of
+  unfolding attempts
   step = ap (λ o. M.or_else v o (next v)) a ∙ ap (attempts s next) e
 
   pub step_goes : (c : Cone) → t ≡ Some c → ok (M.mapped v (cone_of c)) ≡ attempts s next q
@@ -90,29 +85,24 @@ module _ (s : Settings) (next : M.Sides → Result M.Mapped) (q : M.Sides) (byte
 
 -- ---- the store grows by no more than the sides ask for
 
-pub grows : {p : ℕ} {old : List ℕ} {count : ℕ} {w : Sides} {bytes : List ℕ} {l : Limited} → Steps p old count w bytes l → Grown p old count (room_of w) bytes l.count
-grows st =
-    let m = st.most in
-    record { store = st.ready.store; least = st.least; most = omega arith; centred = st.centred }
+module _ {p : ℕ} {old mid : Store} {w v : Sides} (more : ℕ) (h : room_of w ≤ more) (st : Steps p old w mid v) where
+  pub grows : Grown p old more mid
+  grows = let m = st.most in record { least = st.least; most = omega arith; centred = st.centred }
 
-pub maps_wider : {q before count : ℕ} {old mid : List ℕ} (more less : ℕ) (bytes : List ℕ) (r : P.Result Mapped Reason) → before ≤ count → count + less ≤ before + more → KeepsCentres q old before mid count
-    → IfOk r (Maps q mid count less bytes) → IfOk r (Maps q old before more bytes)
-maps_wider more less bytes (Err r) h k c p = tt
-maps_wider more less bytes (Ok m) h k c p =
-    let l = p.grown.least in let u = p.grown.most in
-    record {
-      grown = record { store = p.grown.store; least = omega arith; most = omega arith; centred = centres_then c p.grown.centred };
-      stands = p.stands;
-      first = p.first;
-      second = p.second;
-    }
-
-pub grown_wider : {q before more less : ℕ} {old bytes : List ℕ} {count : ℕ} → less ≤ more → Grown q old before less bytes count → Grown q old before more bytes count
-grown_wider h p = let u = p.most in record { store = p.store; least = p.least; most = omega arith; centred = p.centred }
+  pub maps_wider : (new : Store) (r : P.Result Mapped Reason) → IfOk r (Maps p mid (room_of v) new) → IfOk r (Maps p old more new)
+  maps_wider new (Err r) k = tt
+  maps_wider new (Ok m) k =
+      let a = st.least in let b = st.most in let l = k.grown.least in let u = k.grown.most in
+      record {
+        grown = record { least = omega arith; most = omega arith; centred = centres_then st.centred k.grown.centred };
+        stands = k.stands;
+        first = k.first;
+        second = k.second;
+      }
 
 -- ---- steps of both sides
 
-pub steps_none : {p : ℕ} {bytes : List ℕ} {count : ℕ} {w : Sides} → Ready bytes count w → Steps p bytes count w bytes (record { count = count; sides = w })
+pub steps_none : {p : ℕ} {store : Store} {w : Sides} → Ready store w → Steps p store w store w
 steps_none r = record { ready = r; least = omega arith; most = omega arith; centred = centres_same }
 
 switched-bits : (gate : List ℕ) → all_bits gate ≡ true → all_bits (get_or gate 0 0 ∷ get_or gate 2 0 ∷ get_or gate 1 0 ∷ get_or gate 3 0 ∷ []) ≡ true
@@ -141,20 +131,14 @@ module _ (w v : Sides) (is : (nodes : List LutNode) → sides_of nodes v ≡ M.s
       let r = ap (λ x. room (cone_of x.cone)) places.1 in
       omega arith
 
-  pub switched_ready : (bytes : List ℕ) (count : ℕ) → Ready bytes count w → Ready bytes count v
-  switched_ready bytes count r =
-      record { store = r.store; both = switched_both count r.both; bits = switched-gate r.bits; fits = rw switched-room r.fits }
+  pub switched_ready : (store : Store) → Ready store w → Ready store v
+  switched_ready store r = record { both = switched_both (length (store_of store)) r.both; bits = switched-gate r.bits; fits = rw switched-room r.fits }
 
   -- a step behind another one
-  pub steps_on : {p : ℕ} {old mid : List ℕ} (count more : ℕ) (first : Sides) (bytes : List ℕ) (l : Limited) → count ≤ more → more + room_of w ≤ count + room_of first
-      → KeepsCentres p old count mid more → Steps p mid more v bytes l → Steps p old count first bytes l
-  steps_on count more first bytes l h k c st =
-      record {
-        ready = st.ready;
-        least = let a = st.least in omega arith;
-        most = let a = st.most in let e = switched-room in omega arith;
-        centred = centres_then c st.centred;
-      }
+  pub steps_on : {p : ℕ} {old mid new : Store} {first last : Sides} → Steps p old first mid w → Steps p mid v new last → Steps p old first new last
+  steps_on a b =
+      let e = switched-room in let k = a.least in let l = b.least in let m = a.most in let n = b.most in
+      record { ready = b.ready; least = omega arith; most = omega arith; centred = centres_then a.centred b.centred }
 
 -- ---- both sides of a gate at first
 
@@ -184,14 +168,12 @@ module _ (left right : Cone) (gate : List ℕ) where
 -- ---- what a gate gives
 
 -- an attempt's cone
-module _ (bytes : List ℕ) (count : ℕ) (w : Sides) (c : Cone) where
-  pub mapped_switched : w.switched ≡ true
-      → mapped_of bytes (Ok (record { count = count; cone = c; first = w.right; second = w.left })) ≡ ok (M.mapped (sides_of (store_of bytes count) w) (cone_of c))
+module _ (store : Store) (w : Sides) (c : Cone) where
+  pub mapped_switched : w.switched ≡ true → mapped_of store (Ok (record { cone = c; first = w.right; second = w.left })) ≡ ok (M.mapped (sides_of (store_of store) w) (cone_of c))
   unfolding mapped_of M.mapped sides_of
   mapped_switched e = rw e
 
-  pub mapped_kept : w.switched ≡ false
-      → mapped_of bytes (Ok (record { count = count; cone = c; first = w.left; second = w.right })) ≡ ok (M.mapped (sides_of (store_of bytes count) w) (cone_of c))
+  pub mapped_kept : w.switched ≡ false → mapped_of store (Ok (record { cone = c; first = w.left; second = w.right })) ≡ ok (M.mapped (sides_of (store_of store) w) (cone_of c))
   unfolding mapped_of M.mapped sides_of
   mapped_kept e = rw e
 
@@ -217,10 +199,9 @@ unfolding through_gate
 through_stands count c d gate is e st =
     record { cone = is; below = below_same count (cone_of d) (cone_of c) (ap (λ (x : C.Cone). x.support) e) st.below }
 
-pub first_ready : (bytes : List ℕ) (count : ℕ) (left right : Cone) (gate : List ℕ) (w : Sides) → Same left right gate w → IsStore bytes count → count + 4 ≤ 672 → Stands count left
-    → Stands count right → all_bits gate ≡ true → Ready bytes count w
-first_ready bytes count left right gate w same store h l r b =
-    record { store = store; both = same.stands count l r; bits = same.bits b; fits = omega (arith, room_of_most w) }
+pub first_ready : (store : Store) (left right : Cone) (gate : List ℕ) (w : Sides) → Same left right gate w → length (store_of store) + 4 ≤ 672 → Stands (length (store_of store)) left
+    → Stands (length (store_of store)) right → all_bits gate ≡ true → Ready store w
+first_ready store left right gate w same h l r b = record { both = same.stands (length (store_of store)) l r; bits = same.bits b; fits = omega (arith, room_of_most w) }
 
 -- ---- a constant side
 

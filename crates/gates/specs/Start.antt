@@ -1,32 +1,28 @@
--- The start of map_once: what the inputs leave in the store and in the slots.
-use Rattle.std.specs.Prelude.{◌≡◌, refl, ℕ, zero, suc, ◌+◌, ◌≤◌, ◌<◌, length, get_or, take, All}
+-- The start of map_once: what the inputs leave in the store and among the cones.
+use Rattle.std.specs.Prelude.{◌≡◌, refl, ℕ, ◌+◌, ◌≤◌, ◌<◌, length, get_or, take, All}
 use Rattle.std.proofs.Math.Path.{sym, ap, ap₂}
-use Rattle.std.proofs.Common.{subst, ◌∙◌, not-suc-le-zero, add-one, arith}
+use Rattle.std.proofs.Common.{subst, ◌∙◌, add-one, arith, length-append, length-take-le}
 use mathlib.Core.List.{List, [], ◌∷◌, ◌++◌, map, map-append}
-use Rattle.std.proofs.Math.Arith.{lt_of_le-ne}
 use Rattle.std.proofs.Math.Seq.{take-suc}
-use Rattle.std.proofs.lemmas.List.{length-map, get_or-map, take_all}
+use Rattle.std.proofs.lemmas.List.{length-map, get_or-map}
 use Rattle.laws.specs.Tabulate.{tabulate, tabulate_snoc}
 use Rattle.rules.specs.Circuit.{Given, Circuit}
-use Rattle.rules.specs.declared.Wire.{Wire}
-use Rattle.rules.specs.declared.Wire.TheVariants.{Const, Node}
 use Rattle.rules.specs.Cone as C
-use Rattle.rules.specs.Cone.{constant, identity}
+use Rattle.rules.specs.Cone.{identity}
 use Rattle.rules.specs.Mapper.{State, start}
-use Rattle.rules.specs.Network.{Input}
+use Rattle.rules.specs.Network.{LutNode, Input, node_centre}
 use Rattle.theorems.specs.Weights.{GoodWeight}
 use Rattle.forms.specs.declared.Input as I
 use Rattle.forms.specs.Forms.{given_of}
 use Rattle.cone.specs.declared.Cone.{Cone}
 use Rattle.cone.specs.View.{cone_of, IsCone}
-use Rattle.cone_wires.specs.Wires.{cone_in, IsPut}
-use Rattle.nodes.specs.Centre.{Centred, none_centred}
-use Rattle.nodes.specs.View.{store_of, IsStore, no-nodes}
-use Rattle.cone.specs.Sources.{Stands, constant_stands, identity_stands}
-use Rattle.gates.specs.View.{place, cones_in}
-use Rattle.gates.specs.Wired.{WireIn, Wired, state_of, wired_more, wired_put, cones_own, ConstantsIn}
+use Rattle.cone.specs.Sources.{identity_stands}
+use Rattle.nodes.specs.declared.store.Store.{Store}
+use Rattle.nodes.specs.Store.{store_of, Centred, Adds}
+use Rattle.nodes.specs.View.{Fine}
+use Rattle.gates.specs.Wired.{Wired, state_of, wired_more, wired_push}
 
--- The inputs' names and weights fit a node's record.
+-- The inputs' names and weights fit a node.
 abbrev pub GoodInput : Given → Type 0
 GoodInput g = (length g.name ≤ 16) × GoodWeight g.weight
 
@@ -34,91 +30,80 @@ pub record GoodInputs (inputs : List Given) : Type 0 where
   pub few : length inputs ≤ 32
   pub each : All GoodInput inputs
 
--- The slots of the constants hold their cones.
-pub record Constants (wires : List ℕ) : Type 0 where
-  pub long : length wires ≡ 8580
-  pub is : (b : ℕ) → b ≤ 1 → IsCone (cone_in wires (128 + b))
-  pub seen : ConstantsIn wires
+-- These inputs are the nodes, and each is its own cone.
+pub record Started (inputs : List Given) (store : Store) (wires : List Cone) : Type 0 where
+  pub wired : Wired store wires (length inputs)
+  pub centred : (p : ℕ) → Centred p store
+  pub state : state_of store wires ≡ record { nodes = map Input inputs; cones = tabulate (length inputs) identity }
 
--- The first n inputs are the first nodes, and each is its own cone.
-pub record Started (inputs : List Given) (n : ℕ) (nodes wires : List ℕ) : Type 0 where
-  pub wired : Wired nodes n wires n
-  pub centred : (p : ℕ) → Centred p nodes n
-  pub state : state_of nodes n wires n ≡ record { nodes = map Input (take n inputs); cones = tabulate n identity }
+-- ---- laws
 
--- ---- laws: the constants
+pub started_count : (inputs : List Given) (store : Store) (wires : List Cone) → Started inputs store wires → length (store_of store) ≡ length inputs
+unfolding state_of
+started_count inputs store wires h = ap (λ st. length st.nodes) h.state ∙ length-map inputs Input
 
-module _ (wires between after : List ℕ) (off on : Cone) (p : IsPut wires 128 off between) (q : IsPut between 129 on after) where
-  constant_is : (b : ℕ) → b ≤ 1 → IsCone (cone_in after (128 + b))
-  constant_is zero h = subst IsCone (sym (q.others 128 (omega arith) (λ e. omega arith))) p.is
-  constant_is (suc zero) h = q.is
-  constant_is (suc (suc b)) h = absurd (omega arith)
+pub started_is : (c : Circuit) (store : Store) (wires : List Cone) → Started c.inputs store wires → state_of store wires ≡ start c
+unfolding start
+started_is c store wires h = h.state
 
-  constant_seen : cone_of off ≡ constant 0 → cone_of on ≡ constant 1 → (b : ℕ) → b ≤ 1 → cone_of (cone_in after (128 + b)) ≡ constant b
-  constant_seen e f zero h = ap cone_of (q.others 128 (omega arith) (λ e. omega arith)) ∙ p.seen ∙ e
-  constant_seen e f (suc zero) h = q.seen ∙ f
-  constant_seen e f (suc (suc b)) h = absurd (omega arith)
+pub started_none : (store : Store) (wires : List Cone) → store_of store ≡ [] → wires ≡ [] → Started [] store wires
+unfolding state_of tabulate
+started_none store wires e f =
+    let none : length (store_of store) ≡ 0 = ap length e in
+    let no_wire : length wires ≡ 0 = ap length f in
+    record {
+      wired = record { count = no_wire; stands = λ i d l. absurd (omega arith) };
+      centred = λ p. record { at = λ i l. absurd (omega arith) };
+      state = ap₂ {C = State} (λ ns cs. record { nodes = ns; cones = cs }) e (ap (map cone_of) f);
+    }
 
-  pub constants_put : length wires ≡ 8580 → cone_of off ≡ constant 0 → cone_of on ≡ constant 1 → Constants after
-  constants_put long e f = record { long = q.long ∙ p.long ∙ long; is = constant_is; seen = constant_seen e f }
+-- one more
+module _ (inputs : List Given) (store : Store) (wires : List Cone) (h : Started inputs store wires) (g : Given) (last : Store) (a : Adds 0 (Input g) store last)
+    (slots : List Cone) (c : Cone) (is : IsCone c) (own : cone_of c ≡ identity (length inputs)) (t : slots ≡ wires ++ (c ∷ [])) where
+  one_more : length (store_of last) ≡ length inputs + 1
+  one_more = ap length a.store ∙ length-append (store_of store) (Input g ∷ []) ∙ ap (λ k. k + 1) (started_count inputs store wires h)
 
--- ---- laws: the inputs
+  next_cones : map cone_of slots ≡ tabulate (length inputs + 1) identity
+  unfolding state_of
+  next_cones =
+      ap (map cone_of) t ∙ map-append cone_of wires (c ∷ []) ∙ ap₂ {C = List C.Cone} (λ l x. l ++ (x ∷ [])) (ap (λ st. st.cones) h.state) own
+      ∙ sym (rw (add-one (length inputs)) (tabulate_snoc (length inputs) identity))
 
-pub started_none : (inputs : List Given) (nodes wires : List ℕ) → length nodes ≡ 27552 → Constants wires → Started inputs 0 nodes wires
-unfolding state_of store_of cones_in tabulate
-started_none inputs nodes wires long c =
-    record { wired = record { store = no-nodes nodes long; long = c.long; at = at; constants = c.seen }; centred = λ p. none_centred p nodes; state = refl }
-  where
-    at : (w : Wire) → WireIn 0 w → Stands 0 (cone_in wires (place w))
-    at (Node i) h = absurd (not-suc-le-zero h)
-    at (Const b) h = constant_stands 0 (cone_in wires (128 + b)) b (c.is b h) (c.seen b h)
+  pub started_more : Started (inputs ++ (g ∷ [])) last slots
+  unfolding state_of node_centre
+  started_more =
+      let long = length-append inputs (g ∷ []) in
+      record {
+        wired = rw long
+            (wired_push last wires c slots (length inputs) t (identity_stands (length (store_of last)) (length inputs) c (omega (arith, one_more)) is own)
+            (wired_more store last wires (length inputs) h.wired (omega (arith, one_more, started_count inputs store wires h))));
+        centred = λ p. a.centred p refl (h.centred p);
+        state = ap₂ {C = State} (λ ns cs. record { nodes = ns; cones = cs })
+            (a.store ∙ ap (λ l. l ++ (Input g ∷ [])) (ap (λ st. st.nodes) h.state) ∙ sym (map-append Input inputs (g ∷ [])))
+            (next_cones ∙ ap (λ n. tabulate n identity) (sym long));
+      }
+
+-- what the store asks of an input
+pub input_fine : (i : ℕ) (n : LutNode) (g : Given) → n ≡ Input g → GoodInput g → ((k : ℕ) → get_or g.name k 0 < 256) → Fine i n
+unfolding Fine
+input_fine i n g e good bytes = subst (Fine i) (sym e) (good.0, bytes, good.1)
 
 -- input i as the code has it, in a slice that is these inputs
-pub good_at : (os items : List I.Input) → items ≡ os → (i : ℕ) (d : I.Input) → i < length items → GoodInputs (map given_of os) → (i < 32) × GoodInput (given_of (get_or items i d))
-good_at os items q i d h g =
-    let f = g.few in
-    let l : i < length os = rw q at h in
-    let m : i < length (map given_of os) = simp length-map l in (
-      omega arith,
-      rw q (subst GoodInput (get_or-map given_of os i d (given_of d) l) (g.each i (given_of d) m)),
-    )
+module _ (os items : List I.Input) (q : items ≡ os) (i : ℕ) (d : I.Input) (h : i < length items) where
+  pub good_at : GoodInputs (map given_of os) → (i < 32) × GoodInput (given_of (get_or items i d))
+  good_at g =
+      let f = g.few in
+      let l : i < length os = rw q at h in
+      let m : i < length (map given_of os) = simp length-map l in (
+        omega arith,
+        rw q (subst GoodInput (get_or-map given_of os i d (given_of d) l) (g.each i (given_of d) m)),
+      )
 
-module _ (os : List I.Input) (nodes wires : List ℕ) (i : ℕ) (h : Started (map given_of os) i nodes wires) (few : i < 32)
-    (store slots : List ℕ) (c : Cone) (is : IsStore store (i + 1)) (put : IsPut wires i c slots) (cone : IsCone c) (own : cone_of c ≡ identity i) where
-  next_wired : Wired store (i + 1) slots (i + 1)
-  next_wired =
-      wired_put wires i c slots put store (i + 1) i (i + 1) (wired_more nodes store i (i + 1) wires i h.wired is (omega arith)) (identity_stands (i + 1) i c (omega arith) cone own)
-      (omega arith) (omega arith) (λ j l e. lt_of_le-ne (omega arith) e)
+  -- the inputs with this one, and how many come before
+  pub input_next : take (i + 1) (map given_of os) ≡ take i (map given_of os) ++ (given_of (get_or items i d) ∷ [])
+  input_next =
+      let l : i < length os = rw q at h in
+      rw (add-one i, take-suc (map given_of os) i (given_of d) (simp length-map l), get_or-map given_of os i d (given_of d) l, q) refl
 
-  module _ (items : List I.Input) (q : items ≡ os) (d : I.Input) (inside : i < length items) where
-    input-next : take (suc i) (map given_of os) ≡ take i (map given_of os) ++ (given_of (get_or items i d) ∷ [])
-    input-next =
-        let l : i < length os = rw q at inside in
-        take-suc (map given_of os) i (given_of d) (simp length-map l)
-        ∙ ap (λ g. take i (map given_of os) ++ (g ∷ [])) (get_or-map given_of os i d (given_of d) l ∙ ap (λ l. given_of (get_or l i d)) (sym q))
-
-    next_nodes : store_of store (i + 1) ≡ store_of nodes i ++ (Input (given_of (get_or items i d)) ∷ []) → store_of store (i + 1) ≡ map Input (take (i + 1) (map given_of os))
-    unfolding state_of
-    next_nodes e =
-        e ∙ ap (λ l. l ++ (Input (given_of (get_or items i d)) ∷ [])) (ap (λ st. st.nodes) h.state)
-        ∙ sym (rw (add-one i, input-next) (map-append Input (take i (map given_of os)) (given_of (get_or items i d) ∷ [])))
-
-    next_cones : cones_in slots (i + 1) ≡ tabulate (i + 1) identity
-    unfolding state_of
-    next_cones =
-        cones_own wires i c slots put (omega arith) ∙ ap₂ {C = List C.Cone} (λ l x. l ++ (x ∷ [])) (ap (λ st. st.cones) h.state) own
-        ∙ sym (rw (add-one i) (tabulate_snoc i identity))
-
-    pub started_next : ((p : ℕ) → Centred p store (i + 1)) → store_of store (i + 1) ≡ store_of nodes i ++ (Input (given_of (get_or items i d)) ∷ []) → Started (map given_of os) (i + 1) store slots
-    unfolding state_of
-    started_next z e = record { wired = next_wired; centred = z; state = ap₂ {C = State} (λ ns cs. record { nodes = ns; cones = cs }) (next_nodes e) next_cones }
-
--- all of them
-pub started_all : (os items : List I.Input) → items ≡ os → (nodes wires : List ℕ) (i : ℕ) → i ≡ length items → Started (map given_of os) i nodes wires
-    → Started (map given_of os) (length os) nodes wires
-started_all os items q nodes wires i e h = subst (λ n. Started (map given_of os) n nodes wires) (e ∙ ap length q) h
-
-pub started_is : (c : Circuit) (n : ℕ) (nodes wires : List ℕ) → n ≡ length c.inputs → Started c.inputs n nodes wires → state_of nodes n wires n ≡ start c
-unfolding start
-started_is c n nodes wires e h =
-    h.state ∙ ap₂ {C = State} (λ l k. record { nodes = map Input l; cones = tabulate k identity }) (take_all n c.inputs (omega arith)) e
+  pub inputs_before : length (take i (map given_of os)) ≡ i
+  inputs_before = let l : i < length os = rw q at h in let m : i < length (map given_of os) = simp length-map l in length-take-le i (map given_of os) (omega arith)

@@ -1,28 +1,31 @@
-// The start of map_once: the inputs are the first nodes, and each is its own cone; the constants have their places.
-ghost use Rattle.std.specs.Prelude.{◌≡◌, length, map};
+// The start of map_once: the inputs are the first nodes, and each is its own cone.
+ghost use Rattle.std.specs.Prelude.{◌≡◌, [], ◌<◌, length, map};
+ghost use Rattle.rules.specs.Network.{Input};
 ghost use Rattle.forms.specs.Forms.{given_of};
-ghost use Rattle.gates.specs.Start.{GoodInputs, Started, Constants};
+ghost use Rattle.nodes.specs.Store.{store_of, Adds};
+ghost use Rattle.nodes.specs.View.{given};
+ghost use Rattle.gates.specs.Start.{GoodInput, GoodInputs, Started};
 
+use arrayvec::ArrayVec;
 use circuit::Circuit;
 use cone::Cone;
-use cone_wires::put_cone;
-use lut::store::put_input;
+use nodes::node::LutNode;
+use nodes::store::Store;
 
-fn put_constants(wires: &mut [u8; 8580])
-    requires { length wires.old ≡ 8580 }
-    ensures { Constants wires.new }
+// An input is a node.
+fn put_input(store: &mut Store, name: &[u8], weight: u8)
+    requires { (length (store_of store.old) < 672) × GoodInput (given name.now weight) }
+    ensures { Adds 0 (Input (given name.now weight)) store.old store.new }
 {
-    put_cone(wires, 128, Cone::constant(0));
-    put_cone(wires, 129, Cone::constant(1));
+    store.push(LutNode::of_input(name, weight), 0);
 }
 
-pub fn start(c: &Circuit<'_>, nodes: &mut [u8; 27552], wires: &mut [u8; 8580])
-    requires { (length nodes.old ≡ 27552) × ((length wires.old ≡ 8580) × GoodInputs (map given_of c.now.inputs.items)) }
-    ensures { Started (map given_of c.now.inputs.items) (length c.now.inputs.items) nodes.new wires.new }
+pub fn start(c: &Circuit<'_>, store: &mut Store, wires: &mut ArrayVec<Cone, 128>)
+    requires { (store_of store.old ≡ []) × ((wires.old.items ≡ []) × GoodInputs (map given_of c.now.inputs.items)) }
+    ensures { Started (map given_of c.now.inputs.items) store.new wires.new.items }
 {
-    put_constants(wires);
     for (i, input) in c.inputs.iter().enumerate() {
-        put_input(nodes, i, input.name, input.weight as usize);
-        put_cone(wires, i, Cone::identity(i));
+        put_input(store, input.name, input.weight);
+        wires.push(Cone::identity(i));
     }
 }

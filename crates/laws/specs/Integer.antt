@@ -259,10 +259,3 @@ quot_exact (pos a) (pos b) h k = ap pos (N.div-mul_cancel b k)
 quot_exact (pos a) (negsuc b) h k = neg-mul (a / suc b) (negsuc b) ∙ neg_ℤ-neg_ℤ _ ∙ ap pos (N.div-mul_cancel (suc b) k)
 quot_exact (negsuc a) (pos b) h k = neg-mul (suc a / b) (pos b) ∙ ap (λ i. neg_ℤ (pos i)) (N.div-mul_cancel b k)
 quot_exact (negsuc a) (negsuc b) h k = ap (λ i. neg_ℤ (pos i)) (N.div-mul_cancel (suc b) k)
-
-pub square_non_neg : (x : ℤ) → T (non_neg (x *ℤ x))
-square_non_neg (pos a) = tt
-square_non_neg (negsuc a) = tt
-
-pub square_fits : (x : ℤ) → nat_abs x < 2 ^ 31 → SFits w64 (x *ℤ x)
-square_fits x h = fits_abs (x *ℤ x) (omega (arith, abs_mul_le x x {a = 2 ^ 31} {b = 2 ^ 31} (omega arith) (omega arith)))

@@ -1,7 +1,7 @@
 -- A list written over the front of another, whose later elements stay.
 use Rattle.std.specs.Prelude.{◌≡◌, take}
 use Rattle.std.proofs.Math.Path.{refl, ap}
-use mathlib.Core.List.{List, [], ◌∷◌, ◌++◌, append_assoc}
+use mathlib.Core.List.{List, [], ◌∷◌, ◌++◌}
 use Prim.Native.Nat.{ℕ, zero, suc, ◌+◌, ◌-◌, ◌≤◌}
 use Rattle.std.proofs.Common.{not-suc-le-zero, le_of_suc-le-suc, arith, length-drop, drop-drop}
 use Rattle.std.proofs.Math.ListN.{length, drop, length-append}
@@ -15,10 +15,6 @@ module _ {ℓ} {A : Type ℓ} where
   pub over-length : (s d : List A) → length s ≤ length d → length (over s d) ≡ length d
   unfolding over
   over-length s d h = simp (length-append, length-drop) (omega arith)
-
-  pub over-append : (s t d : List A) → over (s ++ t) d ≡ s ++ over t (drop (length s) d)
-  unfolding over
-  over-append s t d = simp (append_assoc, length-append, drop-drop)
 
   -- what is behind stays
   pub drop-over : (s d : List A) (n : ℕ) → length s ≤ n → drop n (over s d) ≡ drop n d

@@ -1,6 +1,6 @@
 -- Tests that compute, and what they say.
-use Rattle.std.specs.Prelude.{◌≡◌, refl, Bool, true, false, not, ◌&&◌, ◌||◌, List, [], ◌∷◌, ◌⊎◌, ℕ, zero, suc, ◌+◌, ◌<◌, ◌≤◌, T, eqb, ltb, length, get_or}
-use Rattle.std.proofs.Common.{sym, subst, ◌∙◌, true≢false, inl, inr, ⊎_elim, not-suc-le-zero, le_of_suc-le-suc, eq-or-lt_of_le, arith, add-one, eq-eqb, ne_eqb, ltb→lt, nltb→le}
+use Rattle.std.specs.Prelude.{◌≡◌, refl, Bool, true, false, not, ◌&&◌, ◌||◌, List, [], ◌∷◌, ◌⊎◌, ℕ, zero, suc, ◌<◌, ◌≤◌, T, eqb, ltb, length, get_or}
+use Rattle.std.proofs.Common.{sym, subst, ◌∙◌, true≢false, inl, inr, ⊎_elim, not-suc-le-zero, le_of_suc-le-suc, eq-or-lt_of_le, arith, eq-eqb, ne_eqb, ltb→lt, nltb→le}
 use Rattle.std.proofs.Math.Option.{Option, none, some}
 use Rattle.std.proofs.Math.Dec.{eqb_refl}
 
@@ -100,18 +100,6 @@ get_d_any (x ∷ l) (suc i) a b h = get_d_any l i a b (le_of_suc-le-suc h)
 pub if_both {ℓ} : {A : Type ℓ} (Q : A → Type 0) (b : Bool) {x y : A} → Q x → Q y → Q (if b then x otherwise y)
 if_both Q true f g = f
 if_both Q false f g = g
-
--- a loop that tests f at 0, 1, .. : all so far, and one that fails
-pub allb_more : (n : ℕ) (f : ℕ → Bool) → allb n f ≡ true → f n ≡ true → allb (n + 1) f ≡ true
-unfolding allb
-allb_more n f a b = rw (add-one, b, a)
-
-pub allb_fails : (n i : ℕ) (f : ℕ → Bool) → i < n → f i ≡ false → allb n f ≡ false
-allb_fails n i f h e = T-not_is (allb n f) (λ t. subst T e (allb-at n f t i h))
-
-pub allb_none : (f : ℕ → Bool) → allb 0 f ≡ true
-unfolding allb
-allb_none f = refl
 
 -- a disjunction that is false, a conjunction that is true
 pub not_both : (b : Bool) → b ≡ true → b ≡ false → ⊥

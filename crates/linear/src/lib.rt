@@ -39,7 +39,7 @@ pub fn linear_span(coefs: &[i64]) -> usize
 {
     let mut sum = 1;
     for &c in coefs {
-        sum += scale::magnitude(c);
+        sum += c.unsigned_abs() as usize;
     }
     sum
 }
@@ -56,7 +56,7 @@ pub fn linear_least(coefs: &[i64]) -> i64
     sum
 }
 
-// linear_table of the first coefficients of an array.
+// linear_table of the first coefficients of an array, as the callers have them from a cone or a node.
 pub fn values_of(coefs: [i64; 11], n: usize, table: &mut [i32])
     requires { (n ≤ 11) × ((2 ^ n ≤ length table.old) × Within 1984 (take n coefs)) }
     ensures { table.new ≡ over (linear_table (take n coefs)) table.old }

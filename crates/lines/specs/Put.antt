@@ -1,10 +1,9 @@
 -- A piece of a text laid into a buffer, and the next place.
-use Rattle.std.specs.Prelude.{◌≡◌, refl, true, false, List, [], ◌∷◌, ◌++◌, ℕ, suc, ◌+◌, ◌/◌, ◌%◌, ◌<◌, ◌≤◌, ◌^◌, length, set, drop, ℤ, pos, negsuc, nat_abs}
+use Rattle.std.specs.Prelude.{◌≡◌, refl, List, [], ◌∷◌, ◌++◌, ℕ, suc, ◌+◌, ◌%◌, ◌<◌, ◌≤◌, ◌^◌, length, set, drop, ℤ, pos, negsuc, nat_abs}
 use Rattle.std.proofs.Common.{sym, ap, ◌∙◌, arith, length-append, drop_of_length-le, drop-cons}
 use Rattle.std.proofs.Math.ListN.{get_or}
-use Rattle.std.specs.Int.Signed.{lt_z}
-use Rattle.laws.specs.Test.{zero≢one}
-use Rattle.laws.specs.Integer.{lt_z_true, plus, minus}
+use Rattle.std.specs.Fmt.{decimal, signed_decimal}
+use Rattle.std.proofs.lemmas.Fmt.{decimal_by_steps}
 use Rattle.rules.specs.Writing.{bits_text, digits, signed_text, weight_text}
 use Rattle.theorems.specs.Decimals.{digits-one, digits_more}
 use Rattle.theorems.specs.Pieces.{one_unwritten, weight-written}
@@ -107,60 +106,19 @@ pub bits_done : {at to : ℕ} {all before out : List ℕ} (s : List ℕ) (i : �
 unfolding bits_text
 bits_done s i h l = left_none (rw (drop_of_length-le s h) at l)
 
--- ---- A number, digit by digit.
+-- ---- The digits of a number are the library's.
 
-pub put_one : {at next n : ℕ} {before after : List ℕ} → n < 10 → Put at ((48 + n) ∷ []) before next after → Put at (digits n) before next after
-put_one {at} {next} {n} {before} {after} h p = rw (digits-one n h) p
+pub decimal_is : (n : ℕ) → n < 2 ^ 64 → decimal n ≡ digits n
+decimal_is = decimal_by_steps (λ n ds. ds ≡ digits n) (λ n h. sym (digits-one n h)) (λ n ds h e. sym (digits_more n h ∙ ap {B = List ℕ} (λ r. r ++ ((48 + n % 10) ∷ [])) (sym e)))
 
-pub put_more : {at to next n : ℕ} {before out after : List ℕ} → 10 ≤ n → Put at (digits (n / 10)) before to out → Put to ((48 + n % 10) ∷ []) out next after
-    → Put at (digits n) before next after
-put_more {at} {to} {next} {n} h p q = rw (digits_more n h) (put_both p q)
-
-pub one-room : {at n : ℕ} → n < 10 → Room at (digits n) → Room at ((48 + n) ∷ [])
-one-room {at} {n} h r = record { fits = rw (digits-one n h) at r.fits }
-
-pub front-room : {at n : ℕ} → 10 ≤ n → Room at (digits n) → Room at (digits (n / 10))
-front-room {at} {n} h r = shorter ((48 + n % 10) ∷ []) (rw (digits_more n h) at r)
-
-pub last-room : {at to n : ℕ} {before out : List ℕ} → 10 ≤ n → Put at (digits (n / 10)) before to out → Room at (digits n) → Room to ((48 + n % 10) ∷ [])
-last-room {at} {to} {n} h p r = room p (rw (digits_more n h) at r)
-
--- ---- A signed number.
-
-signed_below : (z : ℤ) → lt_z z (pos 0) ≡ true → signed_text z ≡ (45 ∷ []) ++ digits (nat_abs z)
-unfolding signed_text plus minus
-signed_below (pos n) h = absurd (omega (arith, lt_z_true (pos n) (pos 0) h))
-signed_below (negsuc n) h = refl
-
-signed_else : (z : ℤ) → lt_z z (pos 0) ≡ false → signed_text z ≡ digits (nat_abs z)
+pub signed_is : (z : ℤ) → nat_abs z < 2 ^ 64 → signed_decimal z ≡ signed_text z
 unfolding signed_text
-signed_else (pos n) h = refl
-signed_else (negsuc n) h = absurd (zero≢one (cc))
-
-pub put_below : {at to next m : ℕ} {before out after : List ℕ} (z : ℤ) → m ≡ nat_abs z → lt_z z (pos 0) ≡ true
-    → Put at (45 ∷ []) before to out → Put to (digits m) out next after → Put at (signed_text z) before next after
-put_below z e h p q = rw (signed_below z h, ← e) (put_both p q)
-
-pub minus-room : {at : ℕ} (z : ℤ) → lt_z z (pos 0) ≡ true → Room at (signed_text z) → Room at (45 ∷ [])
-minus-room {at} z h r = shorter (digits (nat_abs z)) (rw (signed_below z h) at r)
-
-pub room_below : {at to m : ℕ} {before out : List ℕ} (z : ℤ) → m ≡ nat_abs z → lt_z z (pos 0) ≡ true → Room at (signed_text z)
-    → Put at (45 ∷ []) before to out → Room to (digits m)
-room_below {at} {to} {m} z e h r p = rw e (room p (rw (signed_below z h) at r))
-
-pub put_else : {at next m : ℕ} {before after : List ℕ} (z : ℤ) → m ≡ nat_abs z → lt_z z (pos 0) ≡ false → Put at (digits m) before next after
-    → Put at (signed_text z) before next after
-put_else z e h p = rw (signed_else z h, ← e) p
-
-pub room_else : {at m : ℕ} (z : ℤ) → m ≡ nat_abs z → lt_z z (pos 0) ≡ false → Room at (signed_text z) → Room at (digits m)
-room_else {at} z e h r = rw (e, ← signed_else z h) r
+signed_is (pos n) h = decimal_is n h
+signed_is (negsuc n) h = ap {B = List ℕ} (λ r. 45 ∷ r) (decimal_is (suc n) h)
 
 -- a number that the machine holds, read back
 pub put_as : {at next : ℕ} {before after : List ℕ} {w z : ℤ} → w ≡ z → Put at (signed_text w) before next after → Put at (signed_text z) before next after
 put_as e p = put_text (ap signed_text (sym e)) p
-
-pub room_as : {at : ℕ} {w z : ℤ} → w ≡ z → nat_abs z ≤ 31 → Room at (signed_text z) → (nat_abs w ≤ 31) × Room at (signed_text w)
-room_as e h r = (rw e h, room_text (ap signed_text (sym e)) r)
 
 -- ---- A weight.
 

@@ -1,7 +1,9 @@
 // The pieces of a text.
-ghost use Rattle.std.specs.Prelude.{◌≡◌, [], ◌∷◌, ℕ, ◌+◌, ◌<◌, ◌≤◌, nat_abs, get_or};
+ghost use Rattle.std.specs.Prelude.{[], ◌∷◌, ℕ, ◌+◌, ◌<◌, ◌≤◌, get_or};
 ghost use Rattle.rules.specs.Writing.{digits, signed_text, bits_text};
 ghost use Rattle.lines.specs.Put.{Put, Room};
+
+use itoa::Buffer;
 
 // One byte.
 #[tactic(auto, using(crate::specs::Put::one_steps))]
@@ -43,27 +45,19 @@ pub fn put_bits(out: &mut [u8], at: usize, table: &[u8]) -> usize
 }
 
 // The digits of a number.
+#[tactic(auto, using(crate::specs::Put::decimal_is))]
 pub fn put_number(out: &mut [u8], at: usize, n: usize) -> usize
     requires { Room at (digits n) }
     ensures { Put at (digits n) out.old result out.new }
 {
-    if n < 10 {
-        return put(out, at, b'0' + n as u8);
-    }
-    let to = put_number(out, at, n / 10);
-    put(out, to, b'0' + (n % 10) as u8)
+    put_all(out, at, Buffer::new().format(n).as_bytes())
 }
 
 // A minus only below 0.
-pub fn put_signed(out: &mut [u8], at: usize, n: i64) -> usize
-    requires n_bound { nat_abs n ≤ 31 }
-    requires room { Room at (signed_text n) }
-    ensures { Put at (signed_text n) out.old result out.new }
+#[tactic(auto, using(crate::specs::Put::signed_is))]
+pub fn put_signed(out: &mut [u8], at: usize, z: i64) -> usize
+    requires { Room at (signed_text z) }
+    ensures { Put at (signed_text z) out.old result out.new }
 {
-    let size = n.unsigned_abs() as usize;
-    if n < 0 {
-        let to = put(out, at, b'-');
-        return put_number(out, to, size);
-    }
-    put_number(out, at, size)
+    put_all(out, at, Buffer::new().format(z).as_bytes())
 }

@@ -1,7 +1,7 @@
--- The node store's bytes seen as nodes, and laws of the definitions.
+-- Equal nodes, the order of terms, what is bootstrapped already, and forms.
 pub mod Store
 pub mod Order
 pub mod Reuse
 pub mod Forms
 pub mod First
-pub mod Ports
+pub mod Equal

@@ -1,23 +1,15 @@
--- What is bootstrapped already, by its record.
-use Rattle.std.specs.Prelude.{◌≡◌, Bool, false, ◌||◌, List, ◌∷◌, map, ℕ, zero, suc, ◌+◌, ◌≤◌, ◌<◌, length, get_or, drop}
+-- What is bootstrapped already.
+use Rattle.std.specs.Prelude.{◌≡◌, Bool, false, ◌||◌, List, ◌∷◌, map, ℕ, zero, suc, ◌+◌, ◌≤◌, ◌<◌, length, drop}
 use Rattle.std.proofs.Math.Path.{refl}
-use Rattle.std.proofs.Common.{sym, ap₂, ◌∙◌, add-one, arith, drop_of_length-le}
-use Rattle.laws.specs.Select.{any}
-use Rattle.rules.specs.CircuitText.{same_name}
-use Rattle.rules.specs.Network.{LutNode, Input, Linear, Bootstrap, boot_sources, node_at}
-use Rattle.rules.specs.Store.{same_node, needs, bootstrap_inputs, has_bootstrap}
-use Rattle.theorems.specs.NodesAt.{drop-node}
-use Rattle.nodes.specs.declared.node.Kind.TheVariants as Kinds
-use Rattle.nodes.specs.Nodes.{kind_of}
-use Rattle.lut.specs.Store.{IsRecord, same_here}
-use Rattle.nodes.specs.View.{Fine, IsStore, node_in, node_of, record_at, store_of, at_store, store_length}
+use Rattle.std.proofs.Common.{sym, subst, ap₂, ◌∙◌, add-one, arith, drop_of_length-le}
 use Rattle.std.specs.List.{list_any, range_with_len}
-
--- a bootstrap of a node with this record
-unfoldable pub takes_record : List ℕ → List ℕ → LutNode → Bool
-takes_record r bytes (Input g) = false
-takes_record r bytes (Linear c ts) = false
-takes_record r bytes (Bootstrap j table) = same_name r (record_at bytes j)
+use Rattle.laws.specs.Select.{any}
+use Rattle.rules.specs.Network.{LutNode, Input, Linear, Bootstrap, boot_sources, node_at}
+use Rattle.rules.specs.Store.{same_node, bootstrap_inputs, has_bootstrap}
+use Rattle.theorems.specs.NodesAt.{drop-node}
+use Rattle.nodes.specs.declared.store.Store.{Store}
+use Rattle.nodes.specs.Store.{store_of, node_fine}
+use Rattle.nodes.specs.View.{Fine}
 
 -- a bootstrap of this node
 unfoldable pub takes_node : LutNode → List LutNode → LutNode → Bool
@@ -31,27 +23,10 @@ taken_from n nodes i = any (same_node n) (map (node_at nodes) (boot_sources (dro
 
 -- ---- laws
 
-pub takes_not : (r bytes : List ℕ) (n : LutNode) → (kind_of n ≡ Kinds.Bootstrap → ⊥) → takes_record r bytes n ≡ false
-unfolding takes_record kind_of
-takes_not r bytes (Input g) h = refl
-takes_not r bytes (Linear c ts) h = refl
-takes_not r bytes (Bootstrap j table) h = absurd (h refl)
-
-pub takes_so : (r bytes : List ℕ) (n : LutNode) → kind_of n ≡ Kinds.Bootstrap → takes_record r bytes n ≡ same_name r (record_at bytes (get_or (needs n) 0 0))
-unfolding takes_record kind_of needs
-takes_so r bytes (Input g) h = cc
-takes_so r bytes (Linear c ts) h = cc
-takes_so r bytes (Bootstrap j table) h = refl
-
-module _ (bytes : List ℕ) (count : ℕ) (r : List ℕ) (s : IsStore bytes count) (q : IsRecord count r) where
-  takes_fine : (i : ℕ) (n : LutNode) → i < count → Fine i n → takes_record r bytes n ≡ takes_node (node_in r) (store_of bytes count) n
-  unfolding takes_record takes_node Fine
-  takes_fine i (Input g) h f = refl
-  takes_fine i (Linear c ts) h f = refl
-  takes_fine i (Bootstrap j table) h f = same_here bytes count r s q j (omega (arith, f.0))
-
-  takes_node_lem : (i : ℕ) → i < count → takes_record r bytes (node_of bytes i) ≡ takes_node (node_in r) (store_of bytes count) (node_at (store_of bytes count) i)
-  takes_node_lem i h = rw (at_store bytes i count h) (takes_fine i (node_of bytes i) h (s.fine i h))
+-- what a bootstrap takes comes before it
+pub boot_below : (s : Store) (i j : ℕ) (table : List ℕ) → i < length (store_of s) → Bootstrap j table ≡ node_at (store_of s) i → j < length (store_of s)
+unfolding Fine
+boot_below s i j table h e = let f : Fine i (Bootstrap j table) = subst (Fine i) (sym e) (node_fine s i h) in omega (arith, f.0)
 
 taken_cons : (n : LutNode) (nodes : List LutNode) (m : LutNode) (ms : List LutNode)
     → any (same_node n) (map (node_at nodes) (boot_sources (m ∷ ms))) ≡ (takes_node n nodes m || any (same_node n) (map (node_at nodes) (boot_sources ms)))
@@ -80,9 +55,6 @@ module _ (n : LutNode) (nodes : List LutNode) where
   unfolding taken_from has_bootstrap bootstrap_inputs
   taken_start = refl
 
-pub taken_any : (bytes : List ℕ) (count : ℕ) (r : List ℕ) → IsStore bytes count → IsRecord count r
-    → list_any (λ i. takes_record r bytes (node_of bytes i)) (range_with_len 0 count) ≡ has_bootstrap (store_of bytes count) (node_in r)
-taken_any bytes count r s q =
-    let l = store_length bytes count in
-    taken_each (node_in r) (store_of bytes count) (λ i. takes_record r bytes (node_of bytes i)) (λ i h. takes_node_lem bytes count r s q i (rw l at h)) count 0 (omega (arith, l))
-    ∙ taken_start (node_in r) (store_of bytes count)
+-- what `any` gives over the nodes' numbers
+pub taken_any : (n : LutNode) (nodes : List LutNode) → list_any (λ i. takes_node n nodes (node_at nodes i)) (range_with_len 0 (length nodes)) ≡ has_bootstrap nodes n
+taken_any n nodes = taken_each n nodes (λ i. takes_node n nodes (node_at nodes i)) (λ i h. refl) (length nodes) 0 (omega arith) ∙ taken_start n nodes

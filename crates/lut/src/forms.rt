@@ -1,56 +1,59 @@
 // The bootstrapped sums over the same sources as a cone.
-ghost use Rattle.std.specs.Prelude.{◌≡◌, ◌≤◌, length};
+ghost use Rattle.std.specs.Prelude.{◌≡◌, ◌≤◌, ◌<◌, length};
+ghost use Rattle.rules.specs.Network.{node_at};
 ghost use Rattle.rules.specs.Store.{terms_of};
-ghost use Rattle.nodes.specs.View.{node_of, IsNode};
-ghost use Rattle.lut.specs.Forms.{place_of, AlignedTo, FormOf, form_terms, NodesTo};
+ghost use Rattle.nodes.specs.Store.{store_of};
+ghost use Rattle.nodes.specs.View.{lut_node, terms_seen};
+ghost use Rattle.lut.specs.Forms.{coefficient_in, AlignedTo, FormOf, form_terms};
 
-use nodes::node::{Kind, coef_of, kind_of, size_of, source_of};
+use nodes::node::{LutNode, Term};
+use nodes::store::Store;
 
-// How many terms a node has; 0 where it is no sum.
-#[tactic(auto, using(crate::specs::Forms::count_steps))]
-fn term_count(nodes: &[u8; 27552], i: usize) -> usize
-    requires { IsNode nodes.now i }
-    ensures { result ≡ length (terms_of (node_of nodes.now i)) }
+// A node's terms; none where it is no sum.
+#[tactic(auto, unfolding(nodes::specs::View::lut_node, nodes::specs::View::terms_seen, rules::specs::Store::terms_of))]
+fn terms_of(node: &LutNode) -> &[Term]
+    ensures { terms_seen result.now ≡ terms_of (lut_node node.now) }
 {
-    match kind_of(nodes, i) {
-        Kind::Linear => size_of(nodes, i),
-        _ => 0,
+    match node {
+        LutNode::Linear { terms, .. } => terms,
+        _ => &[],
     }
 }
 
-// Where a source stands among the n terms of node i.
-fn term_place(nodes: &[u8; 27552], i: usize, n: usize, source: usize) -> Option<usize>
-    requires { IsNode nodes.now i × (n ≡ length (terms_of (node_of nodes.now i))) }
-    ensures { result ≡ place_of (terms_of (node_of nodes.now i)) source }
+// The coefficient of a source, if it is among the terms.
+fn coefficient(terms: &[Term], source: usize) -> Option<i64>
+    ensures { result ≡ coefficient_in terms.now source }
 {
-    (0..n).find(|&k| source_of(nodes, i, k) == source)
+    let term = terms.iter().find(|t| t.node as usize == source);
+    term.map(|t| t.coef as i64)
 }
 
-// Node i as a form over a support; none where it has other sources.
+// The terms as a form over a support; none where there are other sources.
 #[tactic(auto, using(crate::specs::Forms::align_steps))]
-fn align(nodes: &[u8; 27552], i: usize, support: &[usize]) -> Option<[i64; 11]>
-    requires { IsNode nodes.now i × (length support.now ≤ 11) }
-    ensures { AlignedTo support.now (terms_of (node_of nodes.now i)) result }
+fn align(terms: &[Term], support: &[usize]) -> Option<[i64; 11]>
+    requires { length support.now ≤ 11 }
+    ensures { AlignedTo support.now (terms_seen terms.now) result }
 {
-    let n = term_count(nodes, i);
-    if n != support.len() {
+    if terms.len() != support.len() {
         return None;
     }
     let mut coefs = [0i64; 11];
     for (k, &source) in support.iter().enumerate() {
-        let at = term_place(nodes, i, n, source)?;
-        coefs[k] = coef_of(nodes, i, at);
+        coefs[k] = coefficient(terms, source)?;
     }
     Some(coefs)
 }
 
-// What bootstrap i takes, as a form over a support; none where node i is no bootstrap. All nodes up to i stand in the store.
-pub fn form_at(nodes: &[u8; 27552], i: usize, support: &[usize]) -> Option<[i64; 11]>
-    requires { NodesTo nodes.now i × (length support.now ≤ 11) }
-    ensures { FormOf support.now (form_terms nodes.now (node_of nodes.now i)) result }
+// What bootstrap i takes, as a form over a support; none where node i is no bootstrap.
+#[tactic(auto, using(crate::specs::Reuse::boot_below), unfolding(crate::specs::Forms::form_terms, crate::specs::Forms::FormOf, nodes::specs::View::lut_node))]
+pub fn form_at(store: &Store, i: usize, support: &[usize]) -> Option<[i64; 11]>
+    requires { (i < length (store_of store.now)) × (length support.now ≤ 11) }
+    ensures { FormOf support.now (form_terms (store_of store.now) (node_at (store_of store.now) i)) result }
 {
-    match kind_of(nodes, i) {
-        Kind::Bootstrap => align(nodes, source_of(nodes, i, 0), support),
+    match store.node(i) {
+        LutNode::Bootstrap { source, .. } => {
+            align(terms_of(store.node(*source as usize)), support)
+        }
         _ => None,
     }
 }

@@ -1,4 +1,4 @@
-// The node store (src/lut.rs): the records of `nodes` and a count, equal nodes shared, sums with their terms in order, what is bootstrapped already.
+// What the mapper asks of the node store (src/lut.rs): equal nodes shared, sums with their terms in order, what is bootstrapped already.
 // It leans on `nodes`.
 #![tactic(auto)]
 
@@ -12,76 +12,36 @@ ghost use Rattle.rules.specs.Network.{Linear, Bootstrap};
 ghost use Rattle.rules.specs.Builder.{Entries, last_tried};
 ghost use Rattle.rules.specs.Rotation.{centre_of};
 ghost use Rattle.rules.specs.Store.{linear_terms};
-ghost use Rattle.nodes.specs.View.{terms_in, GoodTerms, Fine, IsStore};
+ghost use Rattle.nodes.specs.Store.{store_of};
+ghost use Rattle.nodes.specs.Terms.{terms_in, GoodTerms};
 ghost use Rattle.lut.specs.Store.{Interns};
 
-use nodes::record::Terms;
+use nodes::node::LutNode;
+use nodes::store::Store;
+use nodes::terms::Terms;
 use rotation::{centre_of, complete};
 use rules::Wire;
 
-// The count of nodes, and the signal that was made or found (LutSignal).
-#[derive(Clone, Copy)]
-pub struct Linked {
-    pub count: usize,
-    pub signal: Wire,
-}
-
 // LutCircuit::linear
-pub fn linear(nodes: &mut [u8; 27552], count: usize, many: bool, t: Terms) -> Linked
-    requires { IsStore nodes.old count × (count < 672) × GoodTerms count t }
-    ensures { Interns 0 (Linear t.constant (linear_terms many (terms_in t))) nodes.old count nodes.new result }
+#[tactic(auto, using(crate::specs::Store::arranged))]
+pub fn linear(store: &mut Store, many: bool, t: Terms) -> Wire
+    requires { (length (store_of store.old) < 672) × GoodTerms (length (store_of store.old)) t }
+    ensures { Interns 0 (Linear t.constant (linear_terms many (terms_in t))) store.old store.new result }
 {
-    let arranged = order::linear_terms(many, t);
-    let bytes = nodes::record::sum(arranged);
-    store::intern(nodes, count, &bytes, 0)
-}
-
-// A bootstrap with this table and its centre.
-fn put_bootstrap(
-    nodes: &mut [u8; 27552],
-    count: usize,
-    source: usize,
-    table: &[u8],
-    p: usize,
-) -> Linked
-    requires { IsStore nodes.old count × (count < 672) × Fine count (Bootstrap source table.now) }
-    ensures { Interns (centre_of p table.now) (Bootstrap source table.now) nodes.old count nodes.new result }
-{
-    let centre = centre_of(table, p);
-    let bytes = nodes::record::boot(source, table);
-    store::intern(nodes, count, &bytes, centre)
-}
-
-// The bootstrap whose table fills the known entries; `table` is to work in.
-fn complete_bootstrap(
-    nodes: &mut [u8; 27552],
-    count: usize,
-    source: usize,
-    known: &[u8],
-    p: usize,
-    table: &mut [u8],
-) -> Linked
-    requires store { IsStore nodes.old count × (count < 672) × (source < count) }
-    requires known_len_bound { (length known.now ≤ 32) × Entries known.now × (length known.now ≡ length table.old) }
-    ensures { Interns (centre_of p (last_tried p known.now)) (Bootstrap source (last_tried p known.now)) nodes.old count nodes.new result }
-{
-    complete(known, p, table);
-    put_bootstrap(nodes, count, source, table, p)
+    let node = LutNode::of_terms(order::linear_terms(many, t));
+    store::intern(store, node, 0)
 }
 
 // LutCircuit::bootstrap of a table with unknown entries, as the builder fills them.
-pub fn bootstrap(
-    nodes: &mut [u8; 27552],
-    count: usize,
-    source: usize,
-    known: &[u8],
-    p: usize,
-) -> Linked
-    requires store { IsStore nodes.old count × (count < 672) × (source < count) }
+#[tactic(auto, using(crate::specs::Store::tried))]
+pub fn bootstrap(store: &mut Store, source: usize, known: &[u8], p: usize) -> Wire
+    requires store { (length (store_of store.old) < 672) × (source < length (store_of store.old)) }
     requires known_len_bound { (length known.now ≤ 32) × Entries known.now }
-    ensures { Interns (centre_of p (last_tried p known.now)) (Bootstrap source (last_tried p known.now)) nodes.old count nodes.new result }
+    ensures { Interns (centre_of p (last_tried p known.now)) (Bootstrap source (last_tried p known.now)) store.old store.new result }
 {
     let mut table = [0u8; 32];
-    let n = known.len();
-    complete_bootstrap(nodes, count, source, known, p, &mut table[..n])
+    let table = &mut table[..known.len()];
+    complete(known, p, table);
+    let centre = centre_of(table, p);
+    store::intern(store, LutNode::of_table(source, table), centre)
 }

@@ -1,42 +1,41 @@
 // BootstrapLookup: whether a sum is bootstrapped already.
 ghost use Rattle.std.specs.Prelude.{◌≡◌, true, ◌<◌, length};
-ghost use Rattle.rules.specs.Network.{Linear};
+ghost use Rattle.rules.specs.Network.{Linear, node_at};
 ghost use Rattle.rules.specs.Store.{linear_terms, has_bootstrap};
-ghost use Rattle.nodes.specs.View.{node_in, node_of, store_of, terms_in, GoodTerms, IsNode, IsStore};
-ghost use Rattle.lut.specs.Store.{IsRecord};
-ghost use Rattle.lut.specs.Reuse.{takes_record};
+ghost use Rattle.nodes.specs.Store.{store_of};
+ghost use Rattle.nodes.specs.Terms.{terms_in, GoodTerms};
+ghost use Rattle.nodes.specs.View.{lut_node};
+ghost use Rattle.lut.specs.Reuse.{takes_node};
 
 use crate::order::linear_terms;
-use crate::store::is_record;
-use nodes::node::{Kind, kind_of, source_of};
-use nodes::record;
-use nodes::record::Terms;
+use nodes::node::LutNode;
+use nodes::store::Store;
+use nodes::terms::Terms;
 
-// Whether node i is a bootstrap of the node with this record.
-fn takes(nodes: &[u8; 27552], i: usize, bytes: &[u8; 38]) -> bool
-    requires { IsNode nodes.now i × (length bytes.now ≡ 38) }
-    ensures { result ≡ takes_record bytes.now nodes.now (node_of nodes.now i) }
+// Whether node i is a bootstrap of an equal node.
+#[tactic(auto, using(crate::specs::Reuse::boot_below, crate::specs::Equal::node_same), unfolding(crate::specs::Reuse::takes_node, nodes::specs::View::lut_node))]
+fn takes(store: &Store, i: usize, node: &LutNode) -> bool
+    requires { i < length (store_of store.now) }
+    ensures { result ≡ takes_node (lut_node node.now) (store_of store.now) (node_at (store_of store.now) i) }
 {
-    match kind_of(nodes, i) {
-        Kind::Bootstrap => is_record(nodes, source_of(nodes, i, 0), bytes),
+    match store.node(i) {
+        LutNode::Bootstrap { source, .. } => node == store.node(*source as usize),
         _ => false,
     }
 }
 
-// Whether a bootstrap takes the node with this record.
-fn is_taken(nodes: &[u8; 27552], count: usize, bytes: &[u8; 38]) -> bool
-    requires { IsStore nodes.now count × IsRecord count bytes.now }
-    ensures { result ≡ has_bootstrap (store_of nodes.now count) (node_in bytes.now) }
+// Whether a bootstrap takes an equal node.
+fn is_taken(store: &Store, node: &LutNode) -> bool
+    ensures { result ≡ has_bootstrap (store_of store.now) (lut_node node.now) }
 {
-    (0..count).any(|i| takes(nodes, i, bytes))
+    (0..store.len()).any(|i| takes(store, i, node))
 }
 
 // has_bootstrap, of the sum with these terms (there are many tables a sum).
-pub fn has_bootstrap(nodes: &[u8; 27552], count: usize, t: Terms) -> bool
-    requires { IsStore nodes.now count × GoodTerms count t }
-    ensures { result ≡ has_bootstrap (store_of nodes.now count) (Linear t.constant (linear_terms true (terms_in t))) }
+#[tactic(auto, using(crate::specs::Store::arranged))]
+pub fn has_bootstrap(store: &Store, t: Terms) -> bool
+    requires { GoodTerms (length (store_of store.now)) t }
+    ensures { result ≡ has_bootstrap (store_of store.now) (Linear t.constant (linear_terms true (terms_in t))) }
 {
-    let arranged = linear_terms(true, t);
-    let bytes = record::sum(arranged);
-    is_taken(nodes, count, &bytes)
+    is_taken(store, &LutNode::of_terms(linear_terms(true, t)))
 }

@@ -5,7 +5,6 @@ use Rattle.rules.specs.Edition2.{Table, Many, safety_conditions2}
 use Rattle.rules.specs.Form.{Condition, ◌when◌}
 use Rattle.rules.specs.NetworkText.{NetPrefix, started, ending, unknown, settings_of}
 use Rattle.text.specs.Judged.{lowest}
-use Rattle.nodes.specs.View.{at_store, store_length}
 
 -- Before n tables.
 unfoldable pub room_conditions : NetPrefix → ℕ → List Condition
@@ -19,4 +18,4 @@ unfoldable pub conditions : Unit {0}
 unfolding lowest started ending unknown settings_of room_conditions many_conditions safety_conditions2
 conditions = tt
 
-pub ruleset tests = (store_length, length-map, at_store)
+pub ruleset tests = (length-map)

@@ -2,13 +2,13 @@
 // It leans on `network_bounds`, `network_judge` and `many_text`.
 #![tactic(auto)]
 
-ghost use Rattle.std.specs.Prelude.{◌≡◌, Bool, List, ℕ, ◌≤◌, IfOk, Some, length};
+ghost use Rattle.std.specs.Prelude.{◌≡◌, Bool, ◌<◌, IfOk, Some, length};
 ghost use Rattle.laws.specs.Select.{any};
 ghost use Rattle.rules.specs.Edition2.{Table as Whole, other_centre};
-ghost use Rattle.rules.specs.Network.{boot_sources, member};
+ghost use Rattle.rules.specs.Network.{node_at, boot_sources, member};
 ghost use Rattle.rules.specs.Refusal.{number_met};
 ghost use Rattle.text.specs.Judged.{lowest};
-ghost use Rattle.nodes.specs.View.{node_of, store_of, IsNode, IsStore};
+ghost use Rattle.nodes.specs.Store.{store_of};
 ghost use Rattle.network_text.specs.Lines.{TableBits};
 ghost use Rattle.network_judge.specs.View.{prefix_of};
 ghost use Rattle.many_text.specs.Tables.{table_of, tables_in, GoodTables};
@@ -19,38 +19,37 @@ use forms::Net;
 use many_text::{Table, read_table};
 use network_bounds::table::{is_rotatable, table_of};
 use network_judge::{Prefix, is_fitting};
-use nodes::node::{Kind, kind_of, source_of};
+use nodes::node::LutNode;
+use nodes::store::Store;
 use rules::Reason;
 
 // Node i is a table on this node.
-#[tactic(auto, using(nodes::specs::Nodes::some_need, crate::specs::Sources::takes_not, crate::specs::Sources::takes_so))]
-fn takes(nodes: &[u8; 27552], i: usize, source: usize) -> bool
-    requires { IsNode nodes.now i }
-    ensures { result ≡ takes_source source (node_of nodes.now i) }
+#[tactic(auto, unfolding(nodes::specs::View::lut_node, crate::specs::Sources::takes_source))]
+fn takes(store: &Store, i: usize, source: usize) -> bool
+    requires { i < length (store_of store.now) }
+    ensures { result ≡ takes_source source (node_at (store_of store.now) i) }
 {
-    match kind_of(nodes, i) {
-        Kind::Bootstrap => source == source_of(nodes, i, 0),
-        _ => false,
+    match store.node(i) {
+        LutNode::Bootstrap { source: taken, .. } => source == *taken as usize,
+        LutNode::Input { .. } | LutNode::Linear { .. } => false,
     }
 }
 
 // A table stands on this node already: it has a `many` line.
-fn has_tables(nodes: &[u8; 27552], count: usize, source: usize) -> bool
-    requires { IsStore nodes.now count }
-    ensures { result ≡ member source (boot_sources (store_of nodes.now count)) }
+fn has_tables(store: &Store, source: usize) -> bool
+    ensures { result ≡ member source (boot_sources (store_of store.now)) }
 {
-    (0..count).any(|i| takes(nodes, i, source))
+    (0..store.len()).any(|i| takes(store, i, source))
 }
 
 // The limits of the `net2` line, where there is room for so many tables.
 #[tactic(auto, using(crate::specs::Conditions::tests), unfolding(crate::specs::Conditions::conditions))]
 fn room(w: &Prefix, n: usize) -> Result<Net, Reason>
-    requires { w.now.count ≤ 672 }
-    ensures number { (nodes : List ℕ) → number_met result ≡ lowest (room_conditions (prefix_of nodes w.now) n) }
+    ensures number { number_met result ≡ lowest (room_conditions (prefix_of w.now) n) }
     ensures net { IfOk result (λ net. w.now.net ≡ Some net) }
 {
     match w.net {
-        Some(net) if w.outputs.is_empty() && n <= 672 - w.count => Ok(net),
+        Some(net) if w.outputs.is_empty() && n <= 672 - w.store.len() => Ok(net),
         _ => Err(Reason::BadLine),
     }
 }
@@ -84,21 +83,16 @@ fn any_table<F: Fn(Table<'_>) -> bool>(s: &[u8], is_faulty: F) -> bool
 
 // The n tables at the front of some bytes, which stand on this node.
 #[tactic(auto, using(crate::specs::Conditions::tests), unfolding(crate::specs::Conditions::conditions, rules::specs::Edition2::not_fitting, rules::specs::Edition2::not_turning))]
-pub fn check_many(
-    w: &Prefix,
-    nodes: &[u8; 27552],
-    source: usize,
-    tables: &[u8],
-    n: usize,
-) -> Result<(), Reason>
-    requires { IsStore nodes.now w.now.count × GoodTables tables.now × (length (tables_in tables.now) ≡ n) }
-    ensures { number_met result ≡ lowest (many_conditions (prefix_of nodes.now w.now) source (tables_in tables.now)) }
+pub fn check_many(w: &Prefix, source: usize, tables: &[u8], n: usize) -> Result<(), Reason>
+    requires { GoodTables tables.now × (length (tables_in tables.now) ≡ n) }
+    ensures { number_met result ≡ lowest (many_conditions (prefix_of w.now) source (tables_in tables.now)) }
 {
+    let store = &w.store;
     let net = room(w, n)?;
-    if source >= w.count {
+    if source >= store.len() {
         return Err(Reason::BadSource);
     }
-    if any_table(tables, |t| !is_fitting(nodes, source, net.m, t.bits)) {
+    if any_table(tables, |t| !is_fitting(store, source, net.m, t.bits)) {
         return Err(Reason::BadLength);
     }
     if any_table(tables, |t| !is_rotatable(net.p, t.bits)) {
@@ -107,7 +101,7 @@ pub fn check_many(
     if any_table(tables, |t| is_other(net.p, t)) {
         return Err(Reason::OtherCentre);
     }
-    if has_tables(nodes, w.count, source) {
+    if has_tables(store, source) {
         return Err(Reason::SecondLine);
     }
     Ok(())

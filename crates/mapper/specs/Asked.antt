@@ -1,8 +1,8 @@
 -- What a circuit that was read gives to the steps.
-use Rattle.std.specs.Prelude.{◌≡◌, refl, Bool, true, false, ◌||◌, List, [], ◌∷◌, map, ℕ, suc, zero, ◌+◌, ◌≤◌, ◌<◌, T, leb, length, get_or}
+use Rattle.std.specs.Prelude.{◌≡◌, false, ◌||◌, List, [], ◌∷◌, map, ℕ, suc, zero, ◌+◌, ◌≤◌, ◌<◌, leb, length, get_or}
 use Rattle.std.proofs.Common.{subst, arith, leb-false, leb-true, not-suc-le-zero}
 use Rattle.std.proofs.lemmas.List.{length-map}
-use Rattle.laws.specs.Test.{both_right, neither_left, neither_right}
+use Rattle.laws.specs.Test.{T-is, both_right, neither_left, neither_right}
 use Rattle.rules.specs.declared.Wire.{Wire}
 use Rattle.rules.specs.declared.Wire.TheVariants.{Const, Node}
 use Rattle.rules.specs.Circuit as C
@@ -22,15 +22,11 @@ use Rattle.gates.specs.Start.{GoodInput, GoodInputs}
 use Rattle.gates.specs.Gates.{GoodFunction, GoodGates}
 use Rattle.outputs.specs.Outputs.{AllIn}
 
-from_T : (b : Bool) → T b → b ≡ true
-from_T true t = refl
-from_T false t = elim t [ ]
-
 -- ---- The inputs.
 
 name_few : (n : List ℕ) → GoodName n → length n ≤ 16
 unfolding GoodName is_name
-name_few n g = leb-true (length n) 16 (both_right (leb 1 (length n)) _ (from_T _ g.0))
+name_few n g = leb-true (length n) 16 (both_right (leb 1 (length n)) _ (T-is _ g.0))
 
 inputs_good : (is : List Given) → GoodNames (given_names is) → GoodWeights is → (i : ℕ) (d : Given) → i < length is → GoodInput (get_or is i d)
 unfolding GoodNames given_names GoodWeights
@@ -48,10 +44,10 @@ wire_in n (Node i) e h = leb-false n i e
 function_good : (n line : ℕ) (f : Function) → SoundGate n (record { bits = answers_of f; wires = wires_of f; line = line }) → GoodFunction n f
 unfolding any_no_node WireBits
 function_good n line (Unary w answers) g =
-    record { first = wire_in n w (neither_left (no_node n w) _ g.earlier) g.constants.0; second = omega arith; bits = from_T _ g.answers }
+    record { first = wire_in n w (neither_left (no_node n w) _ g.earlier) g.constants.0; second = omega arith; bits = T-is _ g.answers }
 function_good n line (Binary u v answers) g =
     let r : (no_node n v || false) ≡ false = neither_right (no_node n u) _ g.earlier in
-    record { first = wire_in n u (neither_left (no_node n u) _ g.earlier) g.constants.0; second = wire_in n v (neither_left (no_node n v) _ r) g.constants.1.0; bits = from_T _ g.answers }
+    record { first = wire_in n u (neither_left (no_node n u) _ g.earlier) g.constants.0; second = wire_in n v (neither_left (no_node n v) _ r) g.constants.1.0; bits = T-is _ g.answers }
 
 gates_good : (n : ℕ) (gs : List Gate) → SoundGates n (map gate_of gs) → (i : ℕ) (d : Gate) → i < length gs → GoodFunction (n + i) (get_or gs i d).function
 unfolding SoundGates

@@ -1,8 +1,7 @@
 -- The entry: what the steps give back is what the mapper answers.
 use Rattle.std.specs.Prelude as P
-use Rattle.std.specs.Prelude.{◌≡◌, true, List, [], map, ℕ, ◌+◌, ◌*◌, ◌≤◌, length}
-use Rattle.std.proofs.Math.Path.{sym, ap}
-use Rattle.std.proofs.Common.{subst, ◌∙◌, arith}
+use Rattle.std.specs.Prelude.{◌≡◌, ⊤, true, List, [], map, ℕ, ◌+◌, ◌*◌, ◌≤◌, length}
+use Rattle.std.proofs.Common.{sym, ap, subst, ◌∙◌, arith}
 use Rattle.std.proofs.lemmas.List.{length-map}
 use Rattle.rules.specs.declared.Refusal.{Refusal}
 use Rattle.rules.specs.declared.Settings.{Settings}
@@ -19,12 +18,13 @@ use Rattle.circuit.specs.declared.Circuit.{Circuit}
 use Rattle.circuit.specs.View.{circuit_of, reading_of, gate_of}
 use Rattle.forms.specs.declared.Output as O
 use Rattle.forms.specs.Forms.{given_of, output_of}
-use Rattle.nodes.specs.Centre.{Centred}
-use Rattle.nodes.specs.View.{store_of}
-use Rattle.gates.specs.View.{cones_in}
-use Rattle.gates.specs.Wired.{state_of}
+use Rattle.nodes.specs.declared.store.Store.{Store}
+use Rattle.nodes.specs.Store.{store_of, Centred}
+use Rattle.cone.specs.declared.Cone.{Cone}
+use Rattle.cone.specs.View.{cone_of}
+use Rattle.gates.specs.Wired.{Wired, state_of}
 use Rattle.gates.specs.Gates.{state_read, Worked}
-use Rattle.gates.specs.Start.{Started, started_is}
+use Rattle.gates.specs.Start.{Started, started_count, started_is}
 use Rattle.outputs.specs.OutputsWalk.{started, mapped_read, Outs}
 use Rattle.mapper.specs.Asked.{gates_asked, outputs_few}
 use Rattle.conclude.specs.Conclude.{concluded, Finishable}
@@ -52,63 +52,65 @@ module _ (text : List ℕ) (r : P.Result Circuit Refusal) (e : reading_of r ≡ 
     pub limits : in_limits u ≡ true
     limits = ap in_limits eu ∙ used_limits c.settings sound.settings.limits
 
-    abbrev n : ℕ
-    n = length c.inputs.items
-
     abbrev all : ℕ
     all = length c.inputs.items + length c.gates.items
 
     abbrev os : List C.Output
     os = map output_of c.outputs.items
 
-    module _ (nodes wires : List ℕ) (h : Started (map given_of c.inputs.items) n nodes wires) (last slots : List ℕ) (w : P.Result ℕ Refusal)
-        (is : state_read last slots all w ≡ map_gates u os (state_of nodes n wires n) (map gate_of c.gates.items)) where
-      steps_are : map_circuit (circuit_of c) ≡ and_then (state_read last slots all w) (finish u os)
+    module _ (store : Store) (wires : List Cone) (h : Started (map given_of c.inputs.items) store wires) (last : Store) (cones : List Cone) (w : P.Result ⊤ Refusal)
+        (is : state_read last cones w ≡ map_gates u os (state_of store wires) (map gate_of c.gates.items)) where
+      steps_are : map_circuit (circuit_of c) ≡ and_then (state_read last cones w) (finish u os)
       unfolding map_circuit map_with
       steps_are =
           ap (λ v. map_with v (circuit_of c)) (sym eu)
-          ∙ ap (λ st. and_then (map_gates u os st (map gate_of c.gates.items)) (finish u os)) (sym (started_is (circuit_of c) n nodes wires (sym (length-map c.inputs.items given_of)) h))
+          ∙ ap (λ st. and_then (map_gates u os st (map gate_of c.gates.items)) (finish u os)) (sym (started_is (circuit_of c) store wires h))
           ∙ ap (λ y. and_then y (finish u os)) (sym is)
 
       pub gates_refused : (buffer : List ℕ) (k : Refusal) → w ≡ P.Err k → (x : P.Result ℕ Refusal) → x ≡ P.Err k → outcome (map_reply x) buffer ≡ mapper text buffer
       unfolding answer_with and_then state_read
       gates_refused buffer k f x a =
           ap (λ y. outcome (map_reply y) buffer) a
-          ∙ ap (λ y. answer_with buffer (and_then (state_read last slots all y) (finish u os))) (sym f)
+          ∙ ap (λ y. answer_with buffer (and_then (state_read last cones y) (finish u os))) (sym f)
           ∙ ap (answer_with buffer) (sym steps_are) ∙ sym (text_mapped buffer)
 
-      module _ (k : ℕ) (f : w ≡ P.Ok k) (ends : List ℕ) (count : ℕ) (outputs items : List O.Output) (eq : items ≡ outputs)
-          (done : mapped_read ends count outputs ≡ map_outputs u (cones_in slots all) (started (store_of last k)) os) where
-        steps_done : concluded u (map output_of items) ends count ≡ map_circuit (circuit_of c)
+      module _ (k : ⊤) (f : w ≡ P.Ok k) (ends : Store) (outputs items : List O.Output) (eq : items ≡ outputs)
+          (done : mapped_read ends outputs ≡ map_outputs u (map cone_of cones) (started (store_of last)) os) where
+        steps_done : concluded u (map output_of items) ends ≡ map_circuit (circuit_of c)
         unfolding concluded and_then finish mapped_read started state_read state_of
         steps_done =
-            ap (λ d. checked u (pruned u d)) (ap (mapped_read ends count) eq ∙ done)
-            ∙ ap (λ y. and_then (state_read last slots all y) (finish u os)) (sym f)
+            ap (λ d. checked u (pruned u d)) (ap (mapped_read ends) eq ∙ done)
+            ∙ ap (λ y. and_then (state_read last cones y) (finish u os)) (sym f)
             ∙ sym steps_are
 
-        pub mapped_is : (before buffer : List ℕ) (x : P.Result ℕ Refusal) → outcome (map_reply x) buffer ≡ answer_with before (concluded u (map output_of items) ends count)
+        pub mapped_is : (before buffer : List ℕ) (x : P.Result ℕ Refusal) → outcome (map_reply x) buffer ≡ answer_with before (concluded u (map output_of items) ends)
             → outcome (map_reply x) buffer ≡ mapper text before
         mapped_is before buffer x g = g ∙ ap (answer_with before) steps_done ∙ sym (text_mapped before)
 
-        pub finishable : {p more : ℕ} → p ≡ u.p → Worked p nodes n more last slots all k → Outs p last k (length c.outputs.items) ends count outputs → Finishable u (map output_of items) ends count
+        pub finishable : {p more : ℕ} → p ≡ u.p → Worked p store more last cones all → Outs p last (length c.outputs.items) ends outputs → Finishable u (map output_of items) ends
         unfolding and_then
         finishable {p} ep worked outs =
             record {
-              store = outs.store;
-              centred = subst (λ b. Centred b ends count) ep (outs.centred.on (worked.centred.on (h.centred p)));
+              centred = subst (λ b. Centred b ends) ep (outs.grown.centred.on (worked.grown.centred.on (h.centred p)));
               wires = rw eq outs.wires;
               short = λ v g. (mapped_fits text).short v (ap (λ y. and_then y map_circuit) (sym good) ∙ sym steps_done ∙ g);
             }
 
--- six nodes a gate and two an output are no more than the store's room
-pub room_left : (c : Circuit) → Sound (circuit_of c) → (count : ℕ) → count ≤ length c.inputs.items + 6 * length c.gates.items
-    → (count + 2 * length c.outputs.items ≤ 672) × (length c.outputs.items ≤ 32)
-room_left c s count h =
-    let g = gates_asked c s in
-    let a = g.inputs_few in
-    let b = g.few in
-    let d = outputs_few c s in
-    (omega arith, d)
+-- what the start leaves for the gates
+module _ (c : Circuit) (store : Store) (wires : List Cone) (h : Started (map given_of c.inputs.items) store wires) where
+  pub inputs_count : length (store_of store) ≡ length c.inputs.items
+  inputs_count = started_count (map given_of c.inputs.items) store wires h ∙ length-map c.inputs.items given_of
+
+  pub inputs_wired : Wired store wires (length c.inputs.items)
+  inputs_wired = rw length-map at h.wired
+
+  -- six nodes a gate and two an output are no more than the store's room
+  pub room_left : Sound (circuit_of c) → {p n : ℕ} {last : Store} {cones : List Cone} → Worked p store (6 * length c.gates.items) last cones n
+      → (length (store_of last) + 2 * length c.outputs.items ≤ 672) × (length c.outputs.items ≤ 32)
+  room_left s w =
+      let g = gates_asked c s in
+      let d = outputs_few c s in
+      (omega (arith, inputs_count, w.grown.most, g.inputs_few, g.few), d)
 
 pub nodes_few : (c : Circuit) → Sound (circuit_of c) → length c.inputs.items + length c.gates.items ≤ 128
 nodes_few c s = let g = gates_asked c s in let a = g.inputs_few in let b = g.few in omega arith

@@ -5,10 +5,12 @@ ghost use Rattle.std.specs.Prelude.{◌≡◌};
 ghost use Rattle.rules.specs.Mapper.{map_reply, mapper};
 ghost use Rattle.rules.specs.Outcome.{outcome};
 
+use arrayvec::ArrayVec;
 use circuit::read;
 use conclude::conclude;
 use gates::start::start;
 use gates::{map_gates, used};
+use nodes::store::Store;
 use outputs::map_outputs;
 use rules::Refusal;
 
@@ -18,10 +20,10 @@ pub fn map(text: &[u8], out: &mut [u8]) -> Result<usize, Refusal>
 {
     let c = read(text)?;
     let settings = used(c.settings);
-    let mut nodes = [0; 27552];
-    let mut wires = [0; 8580];
-    start(&c, &mut nodes, &mut wires);
-    let count = map_gates(settings, &mut nodes, &mut wires, &c)?;
-    let mapped = map_outputs(settings, &mut nodes, count, &wires, &c);
-    conclude(out, settings, &mapped.outputs, &nodes, mapped.count)
+    let mut store = Store::new();
+    let mut wires = ArrayVec::new();
+    start(&c, &mut store, &mut wires);
+    map_gates(settings, &mut store, &mut wires, &c)?;
+    let outputs = map_outputs(settings, &mut store, &wires, &c);
+    conclude(out, settings, &outputs, &store)
 }

@@ -1,25 +1,22 @@
 -- The text read line by line.
-use Rattle.std.specs.Prelude.{◌≡◌, refl, Bool, true, false, List, [], ℕ, ◌+◌, ◌<◌, ◌≤◌, length}
+use Rattle.std.specs.Prelude.{◌≡◌, refl, Bool, true, false, List, ℕ, ◌+◌, ◌<◌, ◌≤◌, length}
 use Rattle.std.proofs.Common.{sym, ap, ◌∙◌, arith}
 use Rattle.std.proofs.Math.Option.{Option, none, some}
-use Rattle.laws.specs.Tabulate.{tabulate}
 use Rattle.laws.specs.Test.{if◌then◌otherwise◌}
 use Rattle.rules.specs.declared.Reason.{Reason}
 use Rattle.rules.specs.Form.{Reading, Refused}
 use Rattle.rules.specs.Network.{Network}
 use Rattle.rules.specs.NetworkText.{NetworkLine, NetPrefix, network_line, no_network, with_network_line, network_ended, read_network, read_admitted}
-use Rattle.rules.specs.Refusal.{reason_number}
+use Rattle.rules.specs.Refusal.{reason_number, reason_positive}
 use Rattle.text.specs.FirstLine.{first_line, after_line, after_shorter}
 use Rattle.text.specs.Judged.{read_from, read_end, read_no_form, read_refused, read_next}
-use Rattle.nodes.specs.View.{store_of}
+use Rattle.network_judge.specs.View.{prefix_of, Empty, empty_prefix}
+use Rattle.network_judge.specs.declared.Prefix.{Prefix}
 use Rattle.network.specs.Verdict.{conditions_of, numbered, refusal, with_form}
 
 -- What line i and those after it, the bytes s, say behind the lines w.
 unfoldable pub network_from : Bool → ℕ → NetPrefix → List ℕ → Reading Network
 network_from judge i w s = read_from network_line 21 (conditions_of judge) with_network_line network_ended i w s
-
-reason_positive : (r : Reason) → 0 < reason_number r
-reason_positive r = grind arith
 
 module _ (judge : Bool) (i : ℕ) (w : NetPrefix) (s : List ℕ) where
   at_end : length s ≡ 0 → network_from judge i w s ≡ network_ended i w
@@ -53,10 +50,13 @@ pub record Reads (judge : Bool) (text : List ℕ) (i : ℕ) (w : NetPrefix) (s :
   pub same : (if judge then read_admitted text otherwise read_network text) ≡ network_from judge i w s
   pub room : i + length s ≤ length text + 1
 
-pub reads_start : (judge : Bool) (text nodes : List ℕ) → Reads judge text 1 (record { net = none; nodes = store_of nodes 0; outputs = [] }) text
-unfolding read_network read_admitted network_from read_from conditions_of no_network store_of tabulate
-reads_start true text nodes = record { same = refl; room = omega arith }
-reads_start false text nodes = record { same = refl; room = omega arith }
+start : (judge : Bool) (text : List ℕ) → Reads judge text 1 no_network text
+unfolding read_network read_admitted network_from read_from conditions_of
+start true text = record { same = refl; room = omega arith }
+start false text = record { same = refl; room = omega arith }
+
+pub reads_start : (judge : Bool) (text : List ℕ) (w : Prefix) → Empty w → Reads judge text 1 (prefix_of w) text
+reads_start judge text w e = rw (empty_prefix w e) (start judge text)
 
 module _ {judge : Bool} {text : List ℕ} {i : ℕ} {w : NetPrefix} {s : List ℕ} (r : Reads judge text i w s) where
   pub reads_end : length s ≡ 0 → network_ended i w ≡ (if judge then read_admitted text otherwise read_network text)

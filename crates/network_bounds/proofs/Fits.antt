@@ -1,26 +1,11 @@
--- The length of the tables that a node's bounds fit, and whether it is a bit, by the code's tests.
+-- The length of the tables that a node's bounds fit, by the code's tests.
 use Rattle.std.specs.Prelude.{◌≡◌, refl, ◌≤◌, ℕ, zero, suc, ℤ, pos, negsuc, ◌+ℤ◌, nat_abs, Result, Ok, Err}
 use Rattle.std.specs.Result.{OkIff, result_unwrap_or}
 use Rattle.std.specs.Int.{w64, FitsUnsignedBits}
-use Rattle.std.proofs.Common.{ap, ◌∙◌, arith, of_z, true≢false}
-use Rattle.std.proofs.Math.Bool.{true, false}
+use Rattle.std.proofs.Common.{ap, ◌∙◌, arith, of_z}
 use Rattle.laws.specs.Integer.{plus, minus, add_parts, one_part_zero, abs_add}
-use Rattle.rules.specs.Network.{LutNode, Input, Linear, Bootstrap, least_of, greatest_of, is_linear}
-use Rattle.rules.specs.NetworkText.{is_bit}
-use Rattle.network_bounds.specs.Bounds.{fit_of, node_fit}
+use Rattle.network_bounds.specs.Bounds.{fit_of}
 use Rattle.network_bounds.proofs.Held.{held, held_is}
-
-pub other_fit : (n : LutNode) → is_linear n ≡ false → 2 ≡ node_fit n
-unfolding node_fit fit_of least_of greatest_of is_linear
-other_fit (Input g) e = refl
-other_fit (Linear c ts) e = absurd (true≢false e)
-other_fit (Bootstrap i table) e = refl
-
-pub other_bit : (n : LutNode) → is_linear n ≡ false → true ≡ is_bit n
-unfolding is_bit least_of greatest_of is_linear
-other_bit (Input g) e = refl
-other_bit (Linear c ts) e = absurd (true≢false e)
-other_bit (Bootstrap i table) e = refl
 
 pub fit_other : (low high : ℤ) → (of_z w64 low ≡ 0 → ⊥) → 0 ≡ fit_of low high
 unfolding fit_of
@@ -51,4 +36,4 @@ fit_is r low high h e a b =
     let q : held (held high +ℤ pos 1) ≡ high +ℤ pos 1 = ap (λ u. held (u +ℤ pos 1)) (held_is high (omega arith)) ∙ held_is (high +ℤ pos 1) (omega arith) in
     try_is r (high +ℤ pos 1) (rw q at h) n ∙ fit_plus low high e a
 
-pub ruleset fits = (other_fit, fit_other, fit_is)
+pub ruleset fits = (fit_other, fit_is)

@@ -1,63 +1,76 @@
 // Bounds and norm of a sum.
-ghost use Rattle.std.specs.Prelude.{◌≡◌, true, ◌≤◌, nat_abs};
-ghost use Rattle.rules.specs.Network.{least_of, greatest_of, is_linear};
+ghost use Rattle.std.specs.Prelude.{◌≡◌, ◌≤◌, ◌<◌, nat_abs, length};
+ghost use Rattle.rules.specs.Network.{Linear, node_at, least_sum, greatest_sum, least_of, greatest_of, is_linear, norm};
 ghost use Rattle.rules.specs.NetworkText.{is_bit};
-ghost use Rattle.nodes.specs.View.{node_of, terms_in, IsNode, GoodTerms};
-ghost use Rattle.network_bounds.specs.Bounds.{Stored, stored_norm, node_fit};
+ghost use Rattle.nodes.specs.Store.{store_of};
+ghost use Rattle.nodes.specs.Terms.{terms_in, GoodTerms};
+ghost use Rattle.nodes.specs.View.{terms_seen, Fine};
+ghost use Rattle.network_bounds.specs.Bounds.{node_fit};
 
-use nodes::node::{Kind, coef_of, constant_of, kind_of, size_of};
-use nodes::norm::source_norm;
-use nodes::record::Terms;
+use nodes::node::{LutNode, Term};
+use nodes::store::Store;
+use nodes::terms::Terms;
 
 // Node i is a sum.
-#[tactic(auto, unfolding(nodes::specs::Nodes::kind_of, rules::specs::Network::is_linear))]
-pub fn is_sum(nodes: &[u8; 27552], i: usize) -> bool
-    requires { IsNode nodes.now i }
-    ensures { result ≡ is_linear (node_of nodes.now i) }
+#[tactic(auto, unfolding(nodes::specs::View::lut_node, rules::specs::Network::is_linear))]
+pub fn is_sum(store: &Store, i: usize) -> bool
+    requires { i < length (store_of store.now) }
+    ensures { result ≡ is_linear (node_at (store_of store.now) i) }
 {
-    kind_of(nodes, i) == Kind::Linear
+    match store.node(i) {
+        LutNode::Linear { .. } => true,
+        LutNode::Input { .. } | LutNode::Bootstrap { .. } => false,
+    }
 }
 
 // The least and the greatest that a sum can be.
-#[tactic(auto, using(crate::proofs::Summing::summing))]
-fn bounds_of(nodes: &[u8; 27552], i: usize) -> (i64, i64)
-    requires { IsNode nodes.now i × (is_linear (node_of nodes.now i) ≡ true) }
-    ensures least { (result.0 ≡ least_of (node_of nodes.now i)) × (nat_abs result.0 ≤ 372) }
-    ensures greatest { (result.1 ≡ greatest_of (node_of nodes.now i)) × (nat_abs result.1 ≤ 372) }
+fn sum_bounds(constant: i8, terms: &[Term]) -> (i64, i64)
+    requires { Fine 672 (Linear constant (terms_seen terms.now)) }
+    ensures least { (result.0 ≡ least_sum constant (terms_seen terms.now)) × (nat_abs result.0 ≤ 372) }
+    ensures greatest { (result.1 ≡ greatest_sum constant (terms_seen terms.now)) × (nat_abs result.1 ≤ 372) }
 {
-    let constant = constant_of(nodes, i);
-    let mut least = constant;
-    let mut greatest = constant;
-    for k in 0..size_of(nodes, i) {
-        let coef = coef_of(nodes, i, k);
+    let mut least = constant as i64;
+    let mut greatest = constant as i64;
+    for term in terms {
+        let coef = term.coef as i64;
         least += coef.min(0);
         greatest += coef.max(0);
     }
     (least, greatest)
 }
 
+// The least and the greatest that a node can be.
+#[tactic(auto, using(nodes::specs::View::seen, crate::proofs::Summing::sums), unfolding(nodes::specs::View::lut_node, rules::specs::Network::least_of, rules::specs::Network::greatest_of))]
+fn bounds_of(store: &Store, i: usize) -> (i64, i64)
+    requires { i < length (store_of store.now) }
+    ensures least { (result.0 ≡ least_of (node_at (store_of store.now) i)) × (nat_abs result.0 ≤ 372) }
+    ensures greatest { (result.1 ≡ greatest_of (node_at (store_of store.now) i)) × (nat_abs result.1 ≤ 372) }
+{
+    match store.node(i) {
+        LutNode::Linear { constant, terms } => sum_bounds(*constant, terms),
+        LutNode::Input { .. } | LutNode::Bootstrap { .. } => (0, 1),
+    }
+}
+
 // Each squared coefficient times its source's weight, added.
-pub fn norm_of(nodes: &[u8; 27552], t: &Terms) -> usize
-    requires { GoodTerms 65537 t.now × Stored nodes.now (terms_in t.now) }
-    ensures { result ≡ stored_norm nodes.now (terms_in t.now) }
+pub fn norm_of(store: &Store, t: Terms) -> usize
+    requires { GoodTerms (length (store_of store.now)) t }
+    ensures { result ≡ norm (store_of store.now) (terms_in t) }
 {
     let mut sum = 0;
     for k in 0..t.n {
-        sum += source_norm(nodes, t.sources[k], t.coefs[k]);
+        sum += store.source_norm(t.sources[k], t.coefs[k]);
     }
     sum
 }
 
 // The length of the tables that a node's bounds fit: one more than the greatest where the least is 0, else 0.
 #[tactic(auto, using(crate::proofs::Fits::fits), unfolding(crate::specs::Bounds::node_fit))]
-pub fn node_fit(nodes: &[u8; 27552], i: usize) -> usize
-    requires { IsNode nodes.now i }
-    ensures { result ≡ node_fit (node_of nodes.now i) }
+pub fn node_fit(store: &Store, i: usize) -> usize
+    requires { i < length (store_of store.now) }
+    ensures { result ≡ node_fit (node_at (store_of store.now) i) }
 {
-    if !is_sum(nodes, i) {
-        return 2;
-    }
-    let (least, greatest) = bounds_of(nodes, i);
+    let (least, greatest) = bounds_of(store, i);
     if least != 0 {
         return 0;
     }
@@ -65,14 +78,11 @@ pub fn node_fit(nodes: &[u8; 27552], i: usize) -> usize
 }
 
 // A node's bounds are within 0..1.
-#[tactic(auto, using(crate::proofs::Fits::other_bit, crate::proofs::Held::held_small), unfolding(rules::specs::NetworkText::is_bit))]
-pub fn is_bit(nodes: &[u8; 27552], i: usize) -> bool
-    requires { IsNode nodes.now i }
-    ensures { result ≡ is_bit (node_of nodes.now i) }
+#[tactic(auto, using(crate::proofs::Held::held_small), unfolding(rules::specs::NetworkText::is_bit))]
+pub fn is_bit(store: &Store, i: usize) -> bool
+    requires { i < length (store_of store.now) }
+    ensures { result ≡ is_bit (node_at (store_of store.now) i) }
 {
-    if !is_sum(nodes, i) {
-        return true;
-    }
-    let (least, greatest) = bounds_of(nodes, i);
+    let (least, greatest) = bounds_of(store, i);
     least >= 0 && greatest <= 1
 }

@@ -1,17 +1,15 @@
 -- The conditions that a line meets which is good on its own: those of the lines before it.
 use Rattle.std.specs.Prelude.{◌≡◌, Bool, false, ◌&&◌, ◌||◌, eqb, not, List, [], ◌∷◌, ◌++◌, ℕ, leb, length}
-use Rattle.std.proofs.Common.{ap, sym}
+use Rattle.std.proofs.Common.{sym}
 use Rattle.laws.specs.Test.{if◌then◌otherwise◌}
 use Rattle.rules.specs.CircuitText.{listed, no_node}
 use Rattle.rules.specs.Form.{Condition, ◌when◌, bits_from}
-use Rattle.rules.specs.Network.{Term, LutNode, norm, Input, Linear, Bootstrap, node_norm}
+use Rattle.rules.specs.Network.{LutNode, Input, Linear, Bootstrap, node_norm}
 use Rattle.rules.specs.NetworkText.{NetPrefix, NetworkLine, NetLine, NodeLine, OutLine, started, ending, all_inputs, names, sources, any_bad_source, unknown, over, fits_table, settings_of, no_bit, safety_conditions}
-use Rattle.nodes.specs.View.{store_of, at_store, store_length}
 use Rattle.std.proofs.lemmas.List.{length-map}
-use Rattle.rules.specs.declared.Limit.{Limit}
-use Rattle.network_bounds.specs.Bounds.{node_fit, fits_is, stored_norm, stored_norm_lem}
+use Rattle.theorems.specs.Pieces.{from_length}
+use Rattle.network_bounds.specs.Bounds.{node_fit, fits_is}
 use Rattle.network_text.specs.Lines.{TableBits}
-use Rattle.network_judge.specs.Scans.{bits_length}
 use Rattle.text.specs.Judged.{lowest}
 
 -- Before a sum or a boot.
@@ -46,11 +44,6 @@ conditions = tt
 
 -- A table that fits, by the bytes that it stands as.
 pub fits_bits : (m : ℕ) (n : LutNode) (b : List ℕ) → TableBits b → fits_table m n (bits_from b) ≡ (eqb (node_fit n) (length b) && leb (length b) m)
-fits_bits m n b h = sym (fits_is n m (bits_from b) (length b) (bits_length b) h.some)
+fits_bits m n b h = sym (fits_is n m (bits_from b) (length b) (from_length b) h.some)
 
--- The norm of a good sum's terms.
-pub over_stored : (nodes : List ℕ) (count : ℕ) (limit : Limit) (ts : List Term) → any_bad_source (store_of nodes count) (sources ts) ≡ false
-    → over limit (norm (store_of nodes count) ts) ≡ over limit (stored_norm nodes ts)
-over_stored nodes count limit ts e = ap (over limit) (sym (stored_norm_lem nodes count ts e))
-
-pub ruleset tests = (store_length, length-map, at_store)
+pub ruleset tests = (length-map)

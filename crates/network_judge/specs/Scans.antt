@@ -1,38 +1,28 @@
--- The walks over a sum's sources and over the inputs' names.
-use Rattle.std.specs.Prelude.{◌≡◌, Bool, true, false, ◌&&◌, ◌||◌, eqb, List, [], ◌∷◌, ℕ, zero, suc, ◌+◌, ◌<◌, ◌≤◌, leb, ℤ, length, take, drop}
-use borrow.Author.Tests.{leb-false}
+-- The walks over a sum's sources and over the nodes.
+use Rattle.std.specs.Prelude.{◌≡◌, Bool, false, ◌||◌, List, [], ◌∷◌, ℕ, zero, suc, ◌+◌, ◌≤◌, ℤ, length, take, drop}
 use Rattle.std.specs.List.{list_any, range_with_len}
-use Rattle.std.proofs.Math.Path.{refl, sym, ap, ap₂}
-use Rattle.std.proofs.Common.{true≢false, arith, drop_of_length-le, length-take}
+use Rattle.std.proofs.Common.{refl, ap, ◌∙◌, arith, add-one, drop_of_length-le, length-take}
 use mathlib.Core.List.{zip_with}
-use lib.Pointwise.{pointwise}
-use Rattle.rules.specs.Form.{bits_from}
+use Rattle.laws.specs.Select.{any}
 use Rattle.rules.specs.Circuit as C
 use Rattle.rules.specs.CircuitText.{same_name, listed}
-use Rattle.rules.specs.Network.{LutNode, Input, Linear, Bootstrap, is_input, is_linear, node_at}
+use Rattle.rules.specs.Network.{LutNode, Input, Linear, Bootstrap, is_linear, node_at}
 use Rattle.rules.specs.NetworkText.{names, sources, unknown, any_bad_source}
-use Rattle.nodes.specs.Nodes.{bytes_in}
-use Rattle.nodes.specs.View.{term, terms_over, terms_in, node_of, store_of, at_store, store_length, store_from}
-use Rattle.nodes.specs.declared.record.Terms.{Terms}
-
--- `==` of bytes is the definition's
-pub same_bytes : (w v : List ℕ) → pointwise eqb w v ≡ same_name w v
-unfolding same_name
-same_bytes [] [] = refl
-same_bytes [] (c ∷ v) = refl
-same_bytes (b ∷ w) [] = refl
-same_bytes (b ∷ w) (c ∷ v) = ap (λ r. eqb b c && r) (same_bytes w v)
-
-pub bits_length : (b : List ℕ) → length (bits_from b) ≡ length b
-unfolding bits_from
-bits_length [] = refl
-bits_length (x ∷ b) = ap suc (bits_length b)
+use Rattle.theorems.specs.NodesAt.{drop-node}
+use Rattle.nodes.specs.Terms.{terms_over, terms_in}
+use Rattle.nodes.specs.View.{term}
+use Rattle.nodes.specs.declared.terms.Terms.{Terms}
 
 -- ---- A sum's sources.
 
 -- Not an earlier node, or a sum.
-unfoldable pub is_bad : List ℕ → ℕ → ℕ → Bool
-is_bad nodes count i = leb count i || is_linear (node_of nodes i)
+unfoldable pub bad_source : List LutNode → ℕ → Bool
+bad_source ns i = unknown ns i || is_linear (node_at ns i)
+
+pub any_bad : (ns : List LutNode) (is : List ℕ) → list_any (bad_source ns) is ≡ any_bad_source ns is
+unfolding any_bad_source bad_source
+any_bad ns [] = refl
+any_bad ns (i ∷ is) = ap (λ b. (unknown ns i || is_linear (node_at ns i)) || b) (any_bad ns is)
 
 sources_zip : (cs : List ℤ) (is : List ℕ) → length is ≤ length cs → sources (zip_with term cs is) ≡ is
 unfolding sources zip_with term
@@ -46,46 +36,30 @@ pub sources_are : (t : Terms) → length t.coefs ≡ 11 → length t.sources ≡
 unfolding terms_in terms_over
 sources_are t e f h = sources_zip (take t.n t.coefs) (take t.n t.sources) (simp length-take (omega arith))
 
-module _ (nodes : List ℕ) (count : ℕ) where
-  bad_one : (i : ℕ) → (unknown (store_of nodes count) i || is_linear (node_at (store_of nodes count) i)) ≡ is_bad nodes count i
-  unfolding unknown is_bad
-  bad_one i = rw (store_length nodes count) (by (leb count i) refl)
-    where
-      by : (b : Bool) → leb count i ≡ b → (b || is_linear (node_at (store_of nodes count) i)) ≡ (b || is_linear (node_of nodes i))
-      by true e = refl
-      by false e = ap is_linear (at_store nodes i count (leb-false count i e))
+-- ---- The nodes by their numbers.
 
-  pub any_bad : (is : List ℕ) → list_any (is_bad nodes count) is ≡ any_bad_source (store_of nodes count) is
-  unfolding any_bad_source
-  any_bad [] = refl
-  any_bad (i ∷ is) = ap₂ {C = Bool} (λ x y. x || y) (sym (bad_one i)) (any_bad is)
-
--- ---- The inputs' names.
-
-pub input_plain : (n : LutNode) → is_input n ≡ true → is_linear n ≡ false
-unfolding is_input is_linear
-input_plain (Input g) e = refl
-input_plain (Linear c ts) e = absurd (true≢false (sym e))
-input_plain (Bootstrap i table) e = absurd (true≢false (sym e))
-
-names_cons : (n : LutNode) (ns : List LutNode) → is_input n ≡ true → names (n ∷ ns) ≡ bytes_in n ∷ names ns
-unfolding is_input names bytes_in
-names_cons (Input g) ns e = refl
-names_cons (Linear c ts) ns e = absurd (true≢false (sym e))
-names_cons (Bootstrap i table) ns e = absurd (true≢false (sym e))
-
-module _ (name : C.Name) (nodes : List ℕ) (count : ℕ) (all : (i : ℕ) → i < count → is_input (node_of nodes i) ≡ true) where
-  abbrev has : ℕ → Bool
-  has i = same_name name (bytes_in (node_of nodes i))
+module _ (f : LutNode → Bool) (ns : List LutNode) where
+  abbrev at : ℕ → Bool
+  at i = f (node_at ns i)
 
   -- the k nodes from number i on
-  names_each : (k i : ℕ) → i + k ≡ count → list_any has (range_with_len i k) ≡ listed name (names (drop i (store_of nodes count)))
-  unfolding listed names
-  names_each zero i e = rw (drop_of_length-le (store_of nodes count) {i = i} (rw (store_length nodes count) (omega arith)))
-  names_each (suc k) i e =
-      let h : i < count = omega arith in
-      rw (store_from nodes count i h, names_cons (node_of nodes i) (drop (i + 1) (store_of nodes count)) (all i h))
-      (ap (λ b. has i || b) (names_each k (i + 1) (omega arith)))
+  each : (k i : ℕ) → i + k ≡ length ns → list_any at (range_with_len i k) ≡ any f (drop i ns)
+  unfolding any
+  each zero i e = rw (drop_of_length-le ns {i = i} (omega arith))
+  each (suc k) i e = rw (drop-node ns i (omega arith)) (ap (λ b. at i || b) (each k (i + 1) (omega arith) ∙ ap (λ j. any f (drop j ns)) (add-one i)))
 
-  pub any_name : list_any has (range_with_len 0 count) ≡ listed name (names (store_of nodes count))
-  any_name = names_each count 0 (omega arith)
+  pub any_node : (n : ℕ) → n ≡ length ns → list_any at (range_with_len 0 n) ≡ any f ns
+  any_node n e = each n 0 (omega arith)
+
+-- An input with this name.
+unfoldable pub has_name : C.Name → LutNode → Bool
+has_name name (Input g) = same_name name g.name
+has_name name (Linear c ts) = false
+has_name name (Bootstrap i table) = false
+
+pub any_name : (name : C.Name) (ns : List LutNode) → any (has_name name) ns ≡ listed name (names ns)
+unfolding any has_name listed names
+any_name name [] = refl
+any_name name (Input g ∷ ns) = ap (λ b. same_name name g.name || b) (any_name name ns)
+any_name name (Linear c ts ∷ ns) = any_name name ns
+any_name name (Bootstrap i table ∷ ns) = any_name name ns

@@ -1,14 +1,12 @@
--- The lines so far as the code holds them, seen as the definition's: the nodes are in the node store.
+-- The lines so far as the code holds them, seen as the definition's.
 use Rattle.std.specs.Prelude as P
-use Rattle.std.specs.Prelude.{◌≡◌, true, List, map, ℕ, ◌<◌, ltb}
-use Rattle.std.proofs.Common.{◌∙◌}
+use Rattle.std.specs.Prelude.{◌≡◌, refl, [], map, ℕ}
 use Rattle.std.proofs.Math.Option.{Option, none, some}
-use borrow.Author.Tests.{lt-ltb}
 use Rattle.rules.specs.Network.{is_input, count}
-use Rattle.rules.specs.NetworkText.{Net, NetPrefix}
+use Rattle.rules.specs.NetworkText.{Net, NetPrefix, no_network}
 use Rattle.forms.specs.Forms.{output_of}
 use Rattle.forms.specs.declared.Net as F
-use Rattle.nodes.specs.View.{node_of, store_of, IsStore}
+use Rattle.nodes.specs.Store.{store_of}
 use Rattle.network_text.specs.Lines.{net_of}
 use Rattle.network_judge.specs.declared.Prefix.{Prefix}
 
@@ -16,23 +14,17 @@ abbrev pub net_so_far : P.Option F.Net → Option Net
 net_so_far P.None = none
 net_so_far (P.Some n) = some (net_of n)
 
-abbrev pub prefix_of : List ℕ → Prefix → NetPrefix
-prefix_of nodes w = record { net = net_so_far w.net; nodes = store_of nodes w.count; outputs = map output_of w.outputs.items }
+abbrev pub prefix_of : Prefix → NetPrefix
+prefix_of w = record { net = net_so_far w.net; nodes = store_of w.store; outputs = map output_of w.outputs.items }
 
--- The nodes below this number are inputs, the others not.
-abbrev pub InputsFirst : List ℕ → ℕ → ℕ → Type 0
-InputsFirst nodes count inputs = (i : ℕ) → i < count → is_input (node_of nodes i) ≡ ltb i inputs
+-- What judging a line asks: the inputs among the nodes so far are counted.
+abbrev pub Counted : Prefix → Type 0
+Counted w = w.inputs ≡ count is_input (store_of w.store)
 
--- What judging a line asks: the nodes so far, inputs first and counted.
-pub record Kept (nodes : List ℕ) (w : Prefix) : Type 0 where
-  pub store : IsStore nodes w.count
-  pub first : InputsFirst nodes w.count w.inputs
-  pub counted : w.inputs ≡ count is_input (store_of nodes w.count)
+-- Before the first line.
+abbrev pub Empty : Prefix → Type 0
+Empty w = (w.net ≡ P.None) × (store_of w.store ≡ []) × (w.inputs ≡ 0) × (w.outputs.items ≡ [])
 
--- These nodes are inputs.
-pub record Inputs (nodes : List ℕ) (count : ℕ) : Type 0 where
-  pub store : IsStore nodes count
-  pub all : (i : ℕ) → i < count → is_input (node_of nodes i) ≡ true
-
-pub all-inputs : {nodes : List ℕ} {w : Prefix} → Kept nodes w → w.inputs ≡ w.count → Inputs nodes w.count
-all-inputs {nodes} {w} k e = record { store = k.store; all = λ i l. k.first i l ∙ lt-ltb i w.inputs (rw e l) }
+pub empty_prefix : (w : Prefix) → Empty w → prefix_of w ≡ no_network
+unfolding no_network
+empty_prefix w e = rw (e.0, e.1, e.3) refl

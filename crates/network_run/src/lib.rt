@@ -1,4 +1,4 @@
-// A network run: its text read into the node store, its nodes run in order, its outputs' values written. It leans on the reader (`network`).
+// A network run: its text read, its nodes run in order, its outputs' values written. It leans on the reader (`network`).
 #![tactic(auto)]
 
 mod value;
@@ -16,14 +16,10 @@ use rules::RunError;
 pub use walk::{are_rotatable, run_nodes, run_rotatable};
 
 // A network that was read, run on a bit for each input.
-pub fn run_read(
-    w: &Network<'_>,
-    nodes: &[u8; 27552],
-    bits: &[u8],
-    values: &mut [i64],
-) -> Result<usize, RunError>
-    requires { Runnable nodes.now w.now }
-    ensures { ran (run_reply result) values.new ≡ run_network_on (Good (network_of nodes.now w.now)) bits.now values.old }
+#[tactic(auto, using(crate::specs::Entry::runs))]
+pub fn run_read(w: &Network<'_>, bits: &[u8], values: &mut [i64]) -> Result<usize, RunError>
+    requires { Runnable w.now }
+    ensures { ran (run_reply result) values.new ≡ run_network_on (Good (network_of w.now)) bits.now values.old }
 {
     if !bits::are_bits_for(w.inputs, bits) {
         return Err(RunError::BadBits);
@@ -31,11 +27,8 @@ pub fn run_read(
     if values.len() < w.outputs.len() {
         return Err(RunError::ShortBuffer);
     }
-    let mut found = [0i64; 672];
-    if !run_nodes(nodes, w.count, w.net.p, bits, &mut found) {
-        return Err(RunError::BrokenOff);
-    }
-    write::write_values(&w.outputs, &found[..w.count], values);
+    let found = run_nodes(&w.store, w.net.p, bits).ok_or(RunError::BrokenOff)?;
+    write::write_values(&w.outputs, &found, values);
     Ok(w.outputs.len())
 }
 
@@ -45,7 +38,6 @@ pub fn run_read(
 pub fn run_network(text: &[u8], bits: &[u8], values: &mut [i64]) -> Result<usize, RunError>
     ensures { ran (run_reply result) values.new ≡ run_network text.now bits.now values.old }
 {
-    let mut nodes = [0u8; 27552];
-    let w = network::read(text, false, &mut nodes).map_err(RunError::Unreadable)?;
-    run_read(&w, &nodes, bits, values)
+    let w = network::read(text, false).map_err(RunError::Unreadable)?;
+    run_read(&w, bits, values)
 }

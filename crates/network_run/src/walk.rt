@@ -1,74 +1,64 @@
 // All nodes run, in order.
-ghost use Rattle.std.specs.Prelude.{◌≡◌, true, [], ℕ, length};
+ghost use Rattle.std.specs.Prelude.{◌≡◌, true, [], ℕ, ◌<◌, length};
 ghost use Rattle.laws.specs.Select.{all};
-ghost use Rattle.rules.specs.Network.{node_values};
-ghost use Rattle.nodes.specs.View.{node_of, store_of, IsNode, IsStore};
+ghost use Rattle.rules.specs.Network.{node_at, node_values};
+ghost use Rattle.nodes.specs.Store.{store_of};
 ghost use Rattle.network_run.specs.Value.{turns};
-ghost use Rattle.network_run.specs.Nodes.{Flat, values_in};
+ghost use Rattle.network_run.specs.Nodes.{Flat, values_of};
 
 use crate::value::node_value;
-use nodes::node::{Kind, kind_of, table_of};
+use arrayvec::ArrayVec;
+use nodes::node::LutNode;
+use nodes::store::Store;
 
 // A rotation of period p gives the node's table, if it has one.
-fn is_rotatable(nodes: &[u8; 27552], i: usize, p: usize) -> bool
-    requires { IsNode nodes.now i }
-    ensures { result ≡ turns p (node_of nodes.now i) }
+#[tactic(auto, using(crate::specs::Value::table_bits), unfolding(crate::specs::Value::turns, nodes::specs::View::lut_node, nodes::specs::View::table_in))]
+fn is_rotatable(store: &Store, i: usize, p: usize) -> bool
+    requires { i < length (store_of store.now) }
+    ensures { result ≡ turns p (node_at (store_of store.now) i) }
 {
-    match kind_of(nodes, i) {
-        Kind::Input => true,
-        Kind::Linear => true,
-        Kind::Bootstrap => rotation::is_fbs_table_valid(table_of(nodes, i), p),
+    match store.node(i) {
+        LutNode::Input { .. } => true,
+        LutNode::Linear { .. } => true,
+        LutNode::Bootstrap { .. } => rotation::is_fbs_table_valid(store.table_of(i), p),
     }
 }
 
 // A rotation of period p gives every table. Where it does not, a run breaks off for all bits.
-pub fn are_rotatable(nodes: &[u8; 27552], count: usize, p: usize) -> bool
-    requires { IsStore nodes.now count }
-    ensures { result ≡ all (turns p) (store_of nodes.now count) }
+#[tactic(auto, using(crate::specs::Nodes::judging))]
+pub fn are_rotatable(store: &Store, p: usize) -> bool
+    ensures { result ≡ all (turns p) (store_of store.now) }
 {
-    for i in 0..count {
-        if !is_rotatable(nodes, i, p) {
+    for i in 0..store.len() {
+        if !is_rotatable(store, i, p) {
             return false;
         }
     }
     true
 }
 
-// The values of the nodes of a network whose tables a rotation gives; false where a boot breaks off. No table is judged here, so that a
+// The values of the nodes of a network whose tables a rotation gives; none where a boot breaks off. No table is judged here, so that a
 // network is judged once and run for many bits.
-pub fn run_rotatable(
-    nodes: &[u8; 27552],
-    count: usize,
-    bits: &[u8],
-    values: &mut [i64; 672],
-) -> bool
-    requires { IsStore nodes.now count × Flat (store_of nodes.now count) × (length values.old ≡ 672) }
-    ensures is { (p : ℕ) → all (turns p) (store_of nodes.now count) ≡ true → values_in result values.new count ≡ node_values p bits.now [] (store_of nodes.now count) }
-    ensures long { length values.new ≡ 672 }
+#[tactic(auto, using(crate::specs::Nodes::running))]
+pub fn run_rotatable(store: &Store, bits: &[u8]) -> Option<ArrayVec<i64, 672>>
+    requires { Flat (store_of store.now) }
+    ensures { (p : ℕ) → all (turns p) (store_of store.now) ≡ true → values_of result ≡ node_values p bits.now [] (store_of store.now) }
 {
-    for i in 0..count {
-        let Some(v) = node_value(nodes, i, bits, values) else {
-            return false;
-        };
-        values[i] = v;
+    let mut values = ArrayVec::new();
+    for i in 0..store.len() {
+        values.push(node_value(store.node(i), bits, &values)?);
     }
-    true
+    Some(values)
 }
 
-// The values of the nodes; false where a boot breaks off.
-pub fn run_nodes(
-    nodes: &[u8; 27552],
-    count: usize,
-    p: usize,
-    bits: &[u8],
-    values: &mut [i64; 672],
-) -> bool
-    requires { IsStore nodes.now count × Flat (store_of nodes.now count) × (length values.old ≡ 672) }
-    ensures is { values_in result values.new count ≡ node_values p bits.now [] (store_of nodes.now count) }
-    ensures long { length values.new ≡ 672 }
+// The values of the nodes; none where a boot breaks off.
+#[tactic(auto, using(crate::specs::Nodes::unturned))]
+pub fn run_nodes(store: &Store, p: usize, bits: &[u8]) -> Option<ArrayVec<i64, 672>>
+    requires { Flat (store_of store.now) }
+    ensures { values_of result ≡ node_values p bits.now [] (store_of store.now) }
 {
-    if !are_rotatable(nodes, count, p) {
-        return false;
+    if !are_rotatable(store, p) {
+        return None;
     }
-    run_rotatable(nodes, count, bits, values)
+    run_rotatable(store, bits)
 }

@@ -19,6 +19,7 @@ fn wire_value(found: &[i64], wire: Wire) -> i64
 }
 
 // The outputs' values written to the buffer's front.
+#[tactic(auto, using(laws::specs::Front::filling_start, crate::specs::Write::outputs_done))]
 pub fn write_values(outputs: &[Output<'_>], found: &[i64], values: &mut [i64])
     requires { length outputs.now ≤ length values.old }
     ensures { values.new ≡ over (output_values (map output_of outputs.now) found.now) values.old }

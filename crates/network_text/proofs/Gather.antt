@@ -28,8 +28,8 @@ use Rattle.theorems.specs.Members.{append-different, member_head, member_right}
 use Rattle.theorems.specs.OneDecimal.{same_digits}
 use Rattle.theorems.specs.Terms as T
 use Rattle.forms.specs.Signed.{cap_signed, cap_abs, cap_exact, cap_back}
-use Rattle.nodes.specs.Sums.{over-length, over_none}
-use Rattle.nodes.specs.View.{term, terms_in, terms_over}
+use Rattle.nodes.specs.Terms.{terms_in, terms_over, over-length, over_none}
+use Rattle.nodes.specs.View.{term}
 use Rattle.network_text.specs.Lines.{cap_term, cap_terms}
 use Rattle.network_text.specs.Terms.{value, spaced_term, cap_coef, with_next, GoodNext, fine, good_list}
 use Rattle.network_text.specs.declared.sum.SoFar.{SoFar}

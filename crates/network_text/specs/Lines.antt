@@ -13,7 +13,7 @@ use Rattle.text.specs.Pieces.{piece_as}
 use Rattle.text.specs.Name.{Named}
 use Rattle.forms.specs.Forms.{given_of, output_of, cap_output, GoodGiven}
 use Rattle.forms.specs.declared.Net as F
-use Rattle.nodes.specs.View.{terms_in, GoodTerms}
+use Rattle.nodes.specs.Terms.{terms_in, GoodTerms}
 use Rattle.network_text.specs.declared.line.Line.{Line}
 use Rattle.network_text.specs.declared.line.Line.TheVariants as L
 

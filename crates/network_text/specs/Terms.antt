@@ -8,8 +8,9 @@ use Rattle.rules.specs.Network.{Term, LutNode, Linear}
 use Rattle.rules.specs.NetworkText.{NetworkLine, NodeLine, good_terms, all_different, sources}
 use Rattle.rules.specs.NetworkText as N
 use Rattle.forms.specs.Signed.{cap_signed}
-use Rattle.nodes.specs.View.{term, terms_in, GoodTerms}
-use Rattle.nodes.specs.declared.record.Terms.{Terms}
+use Rattle.nodes.specs.Terms.{terms_in, GoodTerms}
+use Rattle.nodes.specs.View.{term}
+use Rattle.nodes.specs.declared.terms.Terms.{Terms}
 use Rattle.text.specs.Pieces.{piece_as}
 use Rattle.network_text.specs.Lines.{node_form, good_piece, cap_terms}
 use Rattle.laws.specs.Test.{if◌then◌otherwise◌}

@@ -6,7 +6,7 @@ ghost use Rattle.network_text.specs.Lines.{net_line_of, net_rest, boot_rest, net
 
 use crate::sum::read_sum;
 use forms::{Input, Net, Output, read_in, read_norm, read_out};
-use nodes::record::Terms;
+use nodes::terms::Terms;
 use text::{read_bits, read_number, read_word};
 
 // What a line says: P, M and NORM; an input; a sum; a table's node and its bits; an output.

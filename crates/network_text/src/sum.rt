@@ -4,11 +4,11 @@ ghost use Rattle.rules.specs.Form.{many};
 ghost use Rattle.text.specs.Capped.{capped};
 ghost use Rattle.text.specs.Decimal.{Decimal};
 ghost use Rattle.text.specs.Pieces.{piece_as};
-ghost use Rattle.nodes.specs.View.{terms_in};
+ghost use Rattle.nodes.specs.Terms.{terms_in};
 ghost use Rattle.network_text.specs.Terms.{term_of, cap_coef, spaced_term, good_list, with_next, GoodNext, SumRead};
 
 use forms::read_signed;
-use nodes::record::Terms;
+use nodes::terms::Terms;
 use text::{read_digits, read_word, value_of};
 
 // A space and `(COEF ID)`: the coefficient and the node's digits.

@@ -1,10 +1,10 @@
--- Node records: what the bytes stand for.
+-- The node store: what its values stand for, and what stands in it.
 pub mod View
-pub mod Sums
-pub mod Records
-pub mod Nodes
-pub mod Kinds
+pub mod Terms
+pub mod Store
 pub mod Norm
 pub mod Depth
-pub mod Centre
 pub mod Insert
+pub mod Seen
+pub mod Made
+pub mod Grown

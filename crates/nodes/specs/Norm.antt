@@ -1,88 +1,84 @@
--- The norm of a node, from its last term to its first.
-use Rattle.std.specs.Prelude.{◌≡◌, List, ◌∷◌, ℤ, pos, nat_abs, length}
-use Rattle.std.proofs.Math.Path.{refl, ap}
-use Rattle.std.proofs.Common.{sym, ap₂, ◌∙◌, mul-le-mul, drop_of_length-le}
-use Prim.Native.Nat.{ℕ, suc, ◌+◌, ◌*◌, ◌-◌, ◌≤◌, ◌<◌}
-use Rattle.std.proofs.Math.Nat.{add_comm}
-use native.Mathlib.Omega.{arith}
-use Rattle.std.proofs.Math.ListN.{get_or, drop}
-use Rattle.std.proofs.Math.Seq.{drop-cons}
+-- Norms, from the first term to the last.
+use Rattle.std.specs.Prelude.{◌≡◌, refl, List, [], ◌∷◌, ◌++◌, ℕ, ◌+◌, ◌*◌, ◌<◌, ◌≤◌, ℤ, nat_abs, length, get_or, take}
+use Rattle.std.proofs.Common.{◌∙◌, sym, ap, ap₂, arith, take_all, subst, mul-le-mul, to_z-of_z, to_z, of_z}
+use Rattle.std.specs.Int.{w8, w64}
+use Rattle.laws.specs.Integer.{fits_abs}
+use Rattle.rules.specs.Circuit.{Given}
 use Rattle.rules.specs.Network.{Term, LutNode, Input, Linear, Bootstrap, node_at, weight_of, norm, node_norm}
-use Rattle.rules.specs.Store.{needs, terms_of}
-use Rattle.theorems.specs.Weights.{GoodWeight}
-use Rattle.theorems.proofs.Weights.{same_norm}
-use Rattle.nodes.specs.declared.node.Kind.TheVariants as Kinds
-use Rattle.nodes.specs.Nodes.{kind_of, terms-all, few_terms, terms_need, coefficient-small, source_before, fine_needs}
-use Rattle.nodes.specs.View.{term, node_of, store_of, at_store, last_node, is_node, Fine}
+use Rattle.nodes.specs.declared.node.Term as T
+use Rattle.nodes.specs.declared.store.Store.{Store}
+use Rattle.nodes.specs.Seen.{term_below, term_small, terms_next}
+use Rattle.nodes.specs.Store.{store_of, node_fine}
+use Rattle.nodes.specs.View.{term, term_of, terms_seen, Fine, FineTerms, fine_more}
 
--- A term's squared coefficient times its source's weight.
-unfoldable pub term_norm : List LutNode → Term → ℕ
-term_norm nodes t = (nat_abs t.coef * nat_abs t.coef) * weight_of (node_at nodes t.node)
+-- a coefficient's byte read wide
+pub coef_read : (x : ℤ) → nat_abs x ≤ 31 → to_z w64 (of_z w64 (to_z w8 (of_z w8 x))) ≡ x
+coef_read x h =
+    let a : to_z w8 (of_z w8 x) ≡ x = to_z-of_z {w = w8} (fits_abs x (omega arith)) in
+    rw a (to_z-of_z {w = w64} (fits_abs x (omega arith)))
 
--- The norm of the terms from k on.
-unfoldable pub norm_from : List LutNode → List Term → ℕ → ℕ
-norm_from nodes ts k = norm nodes (drop k ts)
+-- what a source with this coefficient adds
+pub source_norm_lem : (c : ℤ) (w q : ℕ) → q ≡ nat_abs c * nat_abs c → q ≤ 961 → w ≤ 64 → (q * w ≡ (nat_abs c * nat_abs c) * w) × (q * w ≤ 61504)
+source_norm_lem c w q e h l =
+    let b : q * w ≤ 961 * 64 = mul-le-mul h l in
+    (ap (λ x. x * w) e, omega arith)
 
--- ---- laws
+add_zero : (n : ℕ) → n + 0 ≡ n
+add_zero n = omega arith
 
-module _ (nodes : List LutNode) (ts : List Term) (k : ℕ) where
-  pub norm_none : length ts ≤ k → norm_from nodes ts k ≡ 0
-  unfolding norm_from norm
-  norm_none h = rw (drop_of_length-le ts {i = k} h) refl
+norm_append : (nodes : List LutNode) (ts us : List Term) → norm nodes (ts ++ us) ≡ norm nodes ts + norm nodes us
+unfolding norm
+norm_append nodes [] us = omega arith
+norm_append nodes (t ∷ ts) us = let r = norm_append nodes ts us in omega arith
 
-  norm-step : 0 < k → k ≤ length ts → norm_from nodes ts (k - 1) ≡ norm_from nodes ts k + term_norm nodes (get_or ts (k - 1) (term (pos 0) 0))
-  unfolding norm_from term_norm norm
-  norm-step p h =
-      let t = get_or ts (k - 1) (term (pos 0) 0) in
-      let s : suc (k - 1) ≡ k = omega arith in
-      let d : drop (k - 1) ts ≡ t ∷ drop k ts = drop-cons ts (k - 1) (term (pos 0) 0) (omega arith) ∙ ap (λ j. t ∷ drop j ts) s in
-      ap (norm nodes) d ∙ add_comm (term_norm nodes t) (norm nodes (drop k ts))
+module _ (nodes : List LutNode) (ts : List T.Term) where
+  -- that of the terms so far
+  unfoldable pub norm_to : ℕ → ℕ
+  norm_to k = norm nodes (terms_seen (take k ts))
 
-  pub norm_more : (sum r : ℕ) → 0 < k → k ≤ length ts → length ts ≤ 11 → sum ≡ norm_from nodes ts k → sum ≤ 61504 * (11 - k)
-      → r ≡ term_norm nodes (get_or ts (k - 1) (term (pos 0) 0)) → r ≤ 61504 → (sum + r ≡ norm_from nodes ts (k - 1)) × (sum + r ≤ 61504 * (11 - (k - 1)))
-  norm_more sum r p h few e m q l = (ap₂ (λ a b. a + b) e q ∙ sym (norm-step p h), omega arith)
+  pub norm_none : 0 ≡ norm_to 0
+  unfolding norm_to norm terms_seen
+  norm_none = refl
 
-pub norm-other : (nodes : List LutNode) (n : LutNode) → (kind_of n ≡ Kinds.Linear → ⊥) → node_norm nodes n ≡ weight_of n
-unfolding node_norm kind_of
-norm-other nodes (Input g) h = refl
-norm-other nodes (Linear c ts) h = absurd (h refl)
-norm-other nodes (Bootstrap i table) h = refl
+  pub norm_done : (k : ℕ) → length ts ≤ k → norm_to k ≡ norm nodes (terms_seen ts)
+  unfolding norm_to
+  norm_done k h = ap (λ l. norm nodes (terms_seen l)) (take_all k ts h)
 
-norm-sum : (nodes : List LutNode) (n : LutNode) → kind_of n ≡ Kinds.Linear → norm_from nodes (terms_of n) 0 ≡ node_norm nodes n
-unfolding node_norm kind_of terms_of norm_from
-norm-sum nodes (Input g) h = cc
-norm-sum nodes (Linear c ts) h = refl
-norm-sum nodes (Bootstrap i table) h = cc
+  norm_more : (k sum r : ℕ) (t : T.Term) → k < length ts → sum ≡ norm_to k
+      → r ≡ (nat_abs (get_or ts k t).coef * nat_abs (get_or ts k t).coef) * weight_of (node_at nodes (get_or ts k t).node) → sum + r ≡ norm_to (k + 1)
+  unfolding norm_to norm term
+  norm_more k sum r t h e q =
+      ap₂ (λ a b. a + b) e (q ∙ sym (add_zero _))
+      ∙ sym (ap (norm nodes) (terms_next ts k t h) ∙ norm_append nodes (terms_seen (take k ts)) (term_of (get_or ts k t) ∷ []))
 
-pub norm_done : (nodes : List LutNode) (n : LutNode) (k sum : ℕ) → kind_of n ≡ Kinds.Linear → k ≤ 0 → sum ≡ norm_from nodes (terms_of n) k → sum ≡ node_norm nodes n
-norm_done nodes n k sum h z e = let q : k ≡ 0 = omega arith in e ∙ ap (norm_from nodes (terms_of n)) q ∙ norm-sum nodes n h
+-- a turn, with the coefficient as the machine reads it
+pub norm_step : (nodes : List LutNode) (ts : List T.Term) (count k sum r : ℕ) (t : T.Term) → FineTerms count (terms_seen ts) → k < length ts → sum ≡ norm_to nodes ts k → sum ≤ 61504 * k
+    → r ≡ (nat_abs (to_z w64 (of_z w64 (to_z w8 (of_z w8 (get_or ts k t).coef)))) * nat_abs (to_z w64 (of_z w64 (to_z w8 (of_z w8 (get_or ts k t).coef))))) * weight_of (node_at nodes (get_or ts k t).node)
+    → r ≤ 61504 → (sum + r ≡ norm_to nodes ts (k + 1)) × (sum + r ≤ 61504 * (k + 1))
+norm_step nodes ts count k sum r t f h e l q b = (norm_more nodes ts k sum r t h e (rw (coef_read _ (term_small ts k t h count f)) at q), omega arith)
 
-pub weighed : (n : LutNode) (c : ℤ) (s w : ℕ) → GoodWeight (weight_of n) → s ≡ nat_abs c * nat_abs c → s ≤ 961 → w ≡ weight_of n
-    → (s * w ≡ (nat_abs c * nat_abs c) * weight_of n) × (s * w ≤ 61504)
-unfolding GoodWeight
-weighed n c s w g e h f =
-    let k : w ≤ 64 = omega (arith, g.1) in
-    (ap₂ (λ x y. x * y) e f, mul-le-mul h k)
+pub coef_small : (ts : List T.Term) (count k : ℕ) (t : T.Term) → FineTerms count (terms_seen ts) → k < length ts → nat_abs (to_z w64 (of_z w64 (to_z w8 (of_z w8 (get_or ts k t).coef)))) ≤ 31
+coef_small ts count k t f h = rw (coef_read _ (term_small ts k t h count f)) (term_small ts k t h count f)
 
--- ---- laws: the nodes that it is reckoned among
+pub ruleset summing = (norm_none, norm_done, norm_step, term_below, coef_small)
 
--- a node's norm stays as nodes come after it
-pub norm_among : (bytes : List ℕ) (i count : ℕ) (n : LutNode) → Fine i n → i ≤ count → node_norm (store_of bytes i) n ≡ node_norm (store_of bytes count) n
-unfolding node_norm needs
-norm_among bytes i count (Input g) f h = refl
-norm_among bytes i count (Linear c ts) f h =
-    same_norm (store_of bytes i) (store_of bytes count) ts
-    (λ j m. let l = fine_needs i (Linear c ts) f j m in ap weight_of (at_store bytes j i l ∙ sym (at_store bytes j count (omega arith))))
-norm_among bytes i count (Bootstrap j table) f h = refl
+-- ---- a node's
 
--- a term's norm, by its source in the store
-pub term_norm_lem : (bytes : List ℕ) (i j r : ℕ) (c : ℤ) (t : Term) → c ≡ t.coef → j ≡ t.node → j < i → r ≡ (nat_abs c * nat_abs c) * weight_of (node_of bytes j)
-    → r ≡ term_norm (store_of bytes i) t
-unfolding term_norm
-term_norm_lem bytes i j r c t e f l q =
-    let a : weight_of (node_of bytes j) ≡ weight_of (node_at (store_of bytes i) t.node) = ap weight_of (sym (at_store bytes j i l)) ∙ ap (λ k. weight_of (node_at (store_of bytes i) k)) f in
-    q ∙ ap₂ (λ x v. (nat_abs x * nat_abs x) * v) e a
+-- a sum's terms are fine
+pub sum_terms : (s : Store) (i : ℕ) (c : ℤ) (ts : List Term) → i < length (store_of s) → node_at (store_of s) i ≡ Linear c ts → FineTerms (length (store_of s)) ts × (length ts ≤ 11)
+unfolding Fine
+sum_terms s i c ts h e =
+    let f = subst (Fine i) e (node_fine s i h) in
+    (fine_more i (length (store_of s)) ts (omega arith) f.2, f.0)
 
-pub ruleset norm_steps = (norm_none, norm_more, norm-other, norm_done, terms-all, few_terms, last_node)
+pub norm_linear : (nodes : List LutNode) (n : LutNode) (c : ℤ) (ts : List Term) → n ≡ Linear c ts → node_norm nodes n ≡ norm nodes ts
+unfolding node_norm
+norm_linear nodes n c ts e = rw e refl
 
-pub ruleset term_steps = (last_node, is_node, terms_need, coefficient-small, source_before, term_norm_lem)
+pub norm_input : (nodes : List LutNode) (n : LutNode) (g : Given) → n ≡ Input g → node_norm nodes n ≡ g.weight
+unfolding node_norm weight_of
+norm_input nodes n g e = rw e refl
+
+pub norm_bootstrap : (nodes : List LutNode) (n : LutNode) (j : ℕ) (table : List ℕ) → n ≡ Bootstrap j table → node_norm nodes n ≡ 1
+unfolding node_norm weight_of
+norm_bootstrap nodes n j table e = rw e refl

@@ -1,87 +1,76 @@
--- The node store's bytes, seen as the definition's nodes.
-use Rattle.std.specs.Prelude.{◌≡◌, refl, true, false, ℕ, zero, suc, ◌+◌, ◌*◌, ◌/◌, ◌%◌, ◌<◌, ◌≤◌, eqb, ℤ, pos, nat_abs, ◌+ℤ◌, ◌-ℤ◌, get_or, set, replicate}
-use Rattle.std.proofs.Math.Path.{sym, ap}
-use Rattle.std.proofs.Common.{ap₂, subst, ◌∙◌, ⊎_elim, suc-add, zero-add, add-one, arith, take_at}
-use mathlib.Core.List.{List, [], ◌∷◌, ◌++◌, zip_with, append_assoc}
-use Rattle.std.proofs.Math.ListN.{length, take, drop}
-use Rattle.std.proofs.Math.Seq.{paste, length-paste, take_all, take-nil, take-take, length-take-le, drop_at, get_or-take, get_or-drop}
-use Rattle.std.proofs.lemmas.List.{take-append-le}
-use Rattle.laws.specs.Integer.{ints, plus, minus, abs_parts, one_part_zero, add_parts, sub_parts}
-use Rattle.laws.specs.Over.{over, over-length}
-use Rattle.laws.specs.Tabulate.{tabulate, tabulate-length, tabulate-at}
-use Rattle.laws.specs.Test.{if◌then◌otherwise◌, decide, zero≢one}
+-- The code's nodes, seen as the definition's, and what may stand at a place of the store.
+use Rattle.std.specs.Prelude.{◌≡◌, Bool, true, false, List, [], ◌∷◌, ◌++◌, map, ℕ, zero, suc, ◌<◌, ◌≤◌, leb, ℤ, nat_abs, length, get_or}
+use mathlib.Core.HLevel.{×_prop, ×₃_prop, Π_prop, →_prop, Unit-prop}
+use native.Mathlib.Bridge.{le_prop}
+use Rattle.std.proofs.Common.{◌∙◌, sym, ap, subst, true≢false, ⊎_elim, not-suc-le-zero, le_of_suc-le-suc, arith, length-append}
+use Rattle.laws.specs.Select.{select}
+use Rattle.laws.specs.Test.{if◌then◌otherwise◌, lt_or_le}
 use Rattle.rules.specs.Circuit.{Given}
-use Rattle.rules.specs.CircuitText.{same_name}
-use Rattle.rules.specs.Network.{Term, LutNode, Input, Linear, Bootstrap, node_at, node_depth}
-use Rattle.rules.specs.Store.{same_node}
-use Rattle.theorems.specs.Interned.{node_self, node_is}
-use Rattle.theorems.specs.Names.{name_self, name_is}
-use Rattle.theorems.specs.NodesAt.{no_input, drop-node}
+use Rattle.rules.specs.Network.{Term, LutNode, Input, Linear, Bootstrap, node_at, member, weight_of}
+use Rattle.rules.specs.NetworkText.{sources}
+use Rattle.rules.specs.Store.{needs, terms_of, insert, sorted, is_used, linear_terms}
+use Rattle.theorems.specs.EarlierNodes.{Ordered}
+use Rattle.theorems.specs.Members.{member_cons}
+use Rattle.theorems.specs.NodesAt.{node-before, node_next}
 use Rattle.theorems.specs.Weights.{GoodWeight}
-use Rattle.nodes.specs.declared.record.Terms.{Terms}
+use Rattle.arrayvec.specs.ArrayVec.{ArrayVec}
+use Rattle.nodes.specs.declared.node.LutNode.TheVariants as Code
+use Rattle.nodes.specs.declared.node.LutNode as L
+use Rattle.nodes.specs.declared.node.Term as T
+use Rattle.nodes.specs.declared.store.Stored as S
 
--- ---- The 38 bytes of a record before its depth.
-
--- a coefficient or a constant as a byte
-unfoldable pub biased : ℤ → ℕ
-biased c = nat_abs (c +ℤ pos 32)
-
-unfoldable pub unbiased : ℕ → ℤ
-unbiased b = pos b -ℤ pos 32
-
--- three bytes a term
-unfoldable pub packed : List Term → List ℕ
-packed [] = []
-packed (t ∷ ts) = biased t.coef ∷ t.node / 256 ∷ t.node % 256 ∷ packed ts
-
-unfoldable pub padded : List ℕ → List ℕ
-padded l = over l (replicate 38 0)
-
--- what the record has before the bytes that are not used
-unfoldable pub bytes_of : LutNode → List ℕ
-bytes_of (Input g) = 0 ∷ 0 ∷ length g.name ∷ g.weight ∷ 0 ∷ 0 ∷ g.name
-bytes_of (Linear c ts) = 1 ∷ length ts ∷ biased c ∷ packed ts
-bytes_of (Bootstrap i table) = 2 ∷ 1 ∷ length table ∷ 33 ∷ i / 256 ∷ i % 256 ∷ table
-
-unfoldable pub record_of : LutNode → List ℕ
-record_of n = padded (bytes_of n)
+-- ---- A node, and the nodes of a store.
 
 -- An input's name with its weight.
 abbrev pub given : List ℕ → ℕ → Given
 given n w = record { name = n; weight = w }
 
--- a term read from the bytes
-unfoldable pub term_in : List ℕ → Term
-term_in l = record { coef = unbiased (get_or l 0 0); node = 256 * get_or l 1 0 + get_or l 2 0 }
+unfoldable pub term : ℤ → ℕ → Term
+term k n = record { coef = k; node = n }
 
-unfoldable pub terms_from : ℕ → List ℕ → List Term
-terms_from zero l = []
-terms_from (suc n) l = term_in l ∷ terms_from n (drop 3 l)
+abbrev pub term_of : T.Term → Term
+term_of t = term t.coef t.node
 
-unfoldable pub node_in : List ℕ → LutNode
-node_in r =
-    if eqb (get_or r 0 0) 0 then Input (given (take (get_or r 2 0) (drop 6 r)) (get_or r 3 0))
-    otherwise if eqb (get_or r 0 0) 1 then Linear (unbiased (get_or r 2 0)) (terms_from (get_or r 1 0) (drop 3 r))
-    otherwise Bootstrap (256 * get_or r 4 0 + get_or r 5 0) (take (get_or r 2 0) (drop 6 r))
+unfoldable pub terms_seen : List T.Term → List Term
+terms_seen = map term_of
 
--- ---- The store: 41 bytes a node.
+unfoldable pub lut_node : L.LutNode → LutNode
+lut_node (Code.Input name weight) = Input (given name.items weight)
+lut_node (Code.Linear constant terms) = Linear constant (terms_seen terms.items)
+lut_node (Code.Bootstrap source table) = Bootstrap source table.items
 
-unfoldable pub record_at : List ℕ → ℕ → List ℕ
-record_at bytes i = take 38 (drop (41 * i) bytes)
+-- a bootstrap's table; of any other node no bits
+unfoldable pub table_in : LutNode → List ℕ
+table_in (Input g) = []
+table_in (Linear c ts) = []
+table_in (Bootstrap j table) = table
 
-unfoldable pub node_of : List ℕ → ℕ → LutNode
-node_of bytes i = node_in (record_at bytes i)
+-- ---- laws: a node by its kind
 
-unfoldable pub store_of : List ℕ → ℕ → List LutNode
-store_of bytes count = tabulate count (node_of bytes)
+pub seen_input : (n : L.LutNode) (m : LutNode) (name : ArrayVec ℕ) (w : ℕ) → lut_node n ≡ m → n ≡ Code.Input name w → m ≡ Input (given name.items w)
+unfolding lut_node
+seen_input n m name w e f = sym e ∙ ap lut_node f
 
-unfoldable pub depth_in : List ℕ → ℕ → ℕ
-depth_in bytes i = 256 * get_or bytes (41 * i + 38) 0 + get_or bytes (41 * i + 39) 0
+pub seen_linear : (n : L.LutNode) (m : LutNode) (c : ℤ) (ts : ArrayVec T.Term) → lut_node n ≡ m → n ≡ Code.Linear c ts → m ≡ Linear c (terms_seen ts.items)
+unfolding lut_node
+seen_linear n m c ts e f = sym e ∙ ap lut_node f
 
-unfoldable pub centre_in : List ℕ → ℕ → ℕ
-centre_in bytes i = get_or bytes (41 * i + 40) 0
+pub seen_bootstrap : (n : L.LutNode) (m : LutNode) (source : ℕ) (table : ArrayVec ℕ) → lut_node n ≡ m → n ≡ Code.Bootstrap source table → m ≡ Bootstrap source table.items
+unfolding lut_node
+seen_bootstrap n m source table e f = sym e ∙ ap lut_node f
 
--- ---- What may stand at a place: sources come before it, numbers fit their bytes.
+pub ruleset seen = (seen_input, seen_linear, seen_bootstrap)
+
+unfoldable pub nodes_of : List S.Stored → List LutNode
+nodes_of = map (λ s. lut_node s.node)
+
+unfoldable pub depths_of : List S.Stored → List ℕ
+depths_of = map (λ s. s.depth)
+
+unfoldable pub centres_of : List S.Stored → List ℕ
+centres_of = map (λ s. s.centre)
+
+-- ---- What may stand at a place: sources come before it, numbers are within their limits.
 
 unfoldable pub FineTerms : ℕ → List Term → Type 0
 FineTerms i [] = Unit
@@ -92,175 +81,116 @@ Fine i (Input g) = (length g.name ≤ 16) × ((k : ℕ) → get_or g.name k 0 < 
 Fine i (Linear c ts) = (length ts ≤ 11) × (nat_abs c ≤ 31) × FineTerms i ts
 Fine i (Bootstrap j table) = (j < i) × (length table ≤ 32) × ((k : ℕ) → get_or table k 0 ≤ 1)
 
--- one node: its record is what the node is written as
-pub record IsNode (bytes : List ℕ) (i : ℕ) : Type 0 where
-  pub long : length bytes ≡ 27552
-  pub inside : i < 672
-  pub fine : Fine i (node_of bytes i)
-  pub kept : record_at bytes i ≡ record_of (node_of bytes i)
+-- each node at its place
+unfoldable pub AllFine : List LutNode → Type 0
+AllFine nodes = (i : ℕ) → i < length nodes → Fine i (node_at nodes i)
 
--- these nodes: each with the depth that its sources give (`recorded_depth`: which the definition gives them)
-pub record IsStore (bytes : List ℕ) (count : ℕ) : Type 0 where
-  pub long : length bytes ≡ 27552
-  pub most : count ≤ 672
-  pub fine : (i : ℕ) → i < count → Fine i (node_of bytes i)
-  pub kept : (i : ℕ) → i < count → record_at bytes i ≡ record_of (node_of bytes i)
-  pub deep : (i : ℕ) → i < count → depth_in bytes i ≡ node_depth (depth_in bytes) (node_of bytes i)
+-- ---- laws: one proof at most
 
--- ---- The terms that the code is handed.
+FineTerms_prop : (i : ℕ) (ts : List Term) → IsProp (FineTerms i ts)
+unfolding FineTerms
+FineTerms_prop i [] = Unit-prop
+FineTerms_prop i (t ∷ ts) = ×₃_prop le_prop le_prop (FineTerms_prop i ts)
 
-unfoldable pub term : ℤ → ℕ → Term
-term k n = record { coef = k; node = n }
+Fine_prop : (i : ℕ) (n : LutNode) → IsProp (Fine i n)
+unfolding Fine GoodWeight
+Fine_prop i (Input g) = ×₃_prop le_prop (Π_prop (λ k. le_prop)) (×_prop le_prop le_prop)
+Fine_prop i (Linear c ts) = ×₃_prop le_prop le_prop (FineTerms_prop i ts)
+Fine_prop i (Bootstrap j table) = ×₃_prop le_prop le_prop (Π_prop (λ k. le_prop))
 
-unfoldable pub terms_over : ℕ → List ℤ → List ℕ → List Term
-terms_over n coefs sources = zip_with term (take n coefs) (take n sources)
+pub AllFine_prop : (nodes : List LutNode) → IsProp (AllFine nodes)
+unfolding AllFine
+AllFine_prop nodes = Π_prop (λ i. →_prop (Fine_prop i (node_at nodes i)))
 
-unfoldable pub terms_in : Terms → List Term
-terms_in t = terms_over t.n t.coefs t.sources
+-- ---- laws: fine terms
 
-pub record GoodTerms (count : ℕ) (t : Terms) : Type 0 where
-  pub few : t.n ≤ 11
-  pub near : nat_abs t.constant ≤ 31
-  pub fine : FineTerms count (terms_in t)
+pub fine_at : (count : ℕ) (ts : List Term) (i : ℕ) (z : Term) → FineTerms count ts → i < length ts → (nat_abs (get_or ts i z).coef ≤ 31) × ((get_or ts i z).node < count)
+unfolding FineTerms
+fine_at count [] i z f h = absurd (not-suc-le-zero h)
+fine_at count (t ∷ ts) zero z f h = (f.0, f.1)
+fine_at count (t ∷ ts) (suc i) z f h = fine_at count ts i z f.2 (le_of_suc-le-suc h)
 
--- ---- laws: a byte's number
-
-pub biased-back : (c : ℤ) → nat_abs c ≤ 31 → unbiased (biased c) ≡ c
-unfolding biased unbiased plus minus
-biased-back c h =
-    let z = c +ℤ pos 32 in
-    let b = nat_abs z in
-    omega (arith, ints, sub_parts (pos b) (pos 32), add_parts c (pos 32), abs_parts z, abs_parts c, one_part_zero z, one_part_zero c)
-
--- ---- laws: a record's length
-
-pub packed-length : (ts : List Term) → length (packed ts) ≡ 3 * length ts
-unfolding packed
-packed-length [] = refl
-packed-length (t ∷ ts) = let ih = packed-length ts in omega arith
-
-pub padded-length : (l : List ℕ) → length l ≤ 38 → length (padded l) ≡ 38
-unfolding padded
-padded-length l h = over-length l (replicate 38 0) h
-
-pub bytes_few : (i : ℕ) (n : LutNode) → Fine i n → length (bytes_of n) ≤ 38
-unfolding bytes_of Fine
-bytes_few i (Input g) f = omega arith
-bytes_few i (Linear c ts) f = omega (arith, packed-length ts)
-bytes_few i (Bootstrap j table) f = omega arith
-
-pub record_length : (i : ℕ) (n : LutNode) → Fine i n → length (record_of n) ≡ 38
-unfolding record_of
-record_length i n f = padded-length (bytes_of n) (bytes_few i n f)
-
--- ---- laws: a record read is the node that was written
-
-terms-back : (i : ℕ) (ts : List Term) (rest : List ℕ) → FineTerms i ts → terms_from (length ts) (packed ts ++ rest) ≡ ts
-unfolding terms_from term_in packed FineTerms
-terms-back i [] rest f = refl
-terms-back i (t ∷ ts) rest f =
-    ap₂ {C = List Term} (λ x r. x ∷ r)
-    (ap₂ {C = Term} (λ k n. record { coef = k; node = n }) (biased-back t.coef f.0) (omega arith))
-    (terms-back i ts rest f.2)
-
-pub node-back : (i : ℕ) (n : LutNode) → Fine i n → node_in (record_of n) ≡ n
-unfolding node_in record_of padded over bytes_of Fine
-node-back i (Input g) f = ap (λ n. Input (given n g.weight)) (take_at g.name _ (length g.name) refl)
-node-back i (Linear c ts) f = ap₂ Linear (biased-back c f.1) (terms-back i ts _ f.2)
-node-back i (Bootstrap j table) f = ap₂ Bootstrap (omega arith) (take_at table _ (length table) refl)
-
--- equal records, equal nodes
-pub record_is : (i j : ℕ) (n m : LutNode) → Fine i n → Fine j m → record_of n ≡ record_of m → n ≡ m
-record_is i j n m f g e = sym (node-back i n f) ∙ ap node_in e ∙ node-back j m g
-
-pub same_record : (i j : ℕ) (n m : LutNode) → Fine i n → Fine j m → same_name (record_of n) (record_of m) ≡ same_node n m
-same_record i j n m f g = ⊎_elim (λ e. yes e) (λ e. no e) (decide (same_name (record_of n) (record_of m)))
+fine_select : (count : ℕ) (g : Term → Bool) (ts : List Term) → FineTerms count ts → FineTerms count (select g ts)
+unfolding FineTerms select
+fine_select count g [] f = tt
+fine_select count g (t ∷ ts) f = by (g t) (fine_select count g ts f.2)
   where
-    yes : same_name (record_of n) (record_of m) ≡ true → same_name (record_of n) (record_of m) ≡ same_node n m
-    yes e =
-        let q = record_is i j n m f g (name_is (record_of n) (record_of m) e) in
-        e ∙ sym (subst (λ (x : LutNode). same_node n x ≡ true) q (node_self n))
+    by : (b : Bool) → FineTerms count (select g ts) → FineTerms count (if b then t ∷ select g ts otherwise select g ts)
+    by true r = (f.0, f.1, r)
+    by false r = r
 
-    no : same_name (record_of n) (record_of m) ≡ false → same_name (record_of n) (record_of m) ≡ same_node n m
-    no e =
-        ⊎_elim
-        (λ (t : same_node n m ≡ true). absurd (zero≢one (let q = node_is n m t in let r = subst (λ (x : LutNode). same_name (record_of n) (record_of x) ≡ true) q (name_self (record_of n)) in cc)))
-        (λ (t : same_node n m ≡ false). e ∙ sym t) (decide (same_node n m))
+fine_insert : (count : ℕ) (t : Term) (ts : List Term) → nat_abs t.coef ≤ 31 → t.node < count → FineTerms count ts → FineTerms count (insert t ts)
+unfolding FineTerms insert
+fine_insert count t [] h k f = (h, k, tt)
+fine_insert count t (u ∷ us) h k f = by (leb t.node u.node) (fine_insert count t us h k f.2)
+  where
+    by : (b : Bool) → FineTerms count (insert t us) → FineTerms count (if b then t ∷ u ∷ us otherwise u ∷ insert t us)
+    by true r = (h, k, f)
+    by false r = (f.0, f.1, r)
 
--- ---- laws: what stands at a place
+fine_sorted : (count : ℕ) (ts : List Term) → FineTerms count ts → FineTerms count (sorted ts)
+unfolding FineTerms sorted
+fine_sorted count [] f = tt
+fine_sorted count (t ∷ ts) f = fine_insert count t (sorted ts) f.0 f.1 (fine_sorted count ts f.2)
 
-module _ (bytes : List ℕ) (i : ℕ) where
-  pub byte_at : (k : ℕ) → k < 38 → get_or (record_at bytes i) k 0 ≡ get_or bytes (41 * i + k) 0
-  unfolding record_at
-  byte_at k h = get_or-take 38 (drop (41 * i) bytes) k 0 h ∙ get_or-drop (41 * i) bytes k 0
+pub fine_linear : (count : ℕ) (many : Bool) (ts : List Term) → FineTerms count ts → FineTerms count (linear_terms many ts)
+unfolding linear_terms
+fine_linear count true ts f = fine_sorted count (select is_used ts) (fine_select count is_used ts f)
+fine_linear count false ts f = f
 
-  pub at_store : (count : ℕ) → i < count → node_at (store_of bytes count) i ≡ node_of bytes i
-  unfolding node_at store_of
-  at_store count h = tabulate-at count (node_of bytes) i no_input h
+-- from below a later node
+pub fine_more : (count more : ℕ) (ts : List Term) → count ≤ more → FineTerms count ts → FineTerms more ts
+unfolding FineTerms
+fine_more count more [] h f = tt
+fine_more count more (t ∷ ts) h f = (f.0, omega arith, fine_more count more ts h f.2)
 
-pub store_length : (bytes : List ℕ) (count : ℕ) → length (store_of bytes count) ≡ count
-unfolding store_of
-store_length bytes count = tabulate-length count (node_of bytes)
+-- ---- laws: a fine node
 
-pub store_from : (bytes : List ℕ) (count i : ℕ) → i < count → drop i (store_of bytes count) ≡ node_of bytes i ∷ drop (i + 1) (store_of bytes count)
-store_from bytes count i h =
-    let l = store_length bytes count in
-    drop-node (store_of bytes count) i (omega arith)
-    ∙ ap (λ n. n ∷ drop (suc i) (store_of bytes count)) (at_store bytes i count h)
-    ∙ ap (λ k. node_of bytes i ∷ drop k (store_of bytes count)) (sym (add-one i))
+fine_sources : (i : ℕ) (ts : List Term) → FineTerms i ts → (j : ℕ) → member j (sources ts) ≡ true → j < i
+unfolding FineTerms sources member
+fine_sources i [] f j h = absurd (true≢false (sym h))
+fine_sources i (t ∷ ts) f j h =
+    ⊎_elim (λ (e : j ≡ t.node). let l = f.1 in omega arith) (λ (e : member j (sources ts) ≡ true). fine_sources i ts f.2 j e)
+    (member_cons j t.node (sources ts) h)
 
-pub is_node : (bytes : List ℕ) (count i : ℕ) → IsStore bytes count → i < count → IsNode bytes i
-is_node bytes count i s h = record { long = s.long; inside = omega (arith, s.most); fine = s.fine i h; kept = s.kept i h }
+-- its sources come before it
+pub fine_needs : (i : ℕ) (n : LutNode) → Fine i n → (j : ℕ) → member j (needs n) ≡ true → j < i
+unfolding Fine needs member
+fine_needs i (Input g) f j h = absurd (true≢false (sym h))
+fine_needs i (Linear c ts) f j h = fine_sources i ts f.2 j h
+fine_needs i (Bootstrap s table) f j h =
+    ⊎_elim (λ (e : j ≡ s). let l = f.0 in omega arith) (λ (e : member j [] ≡ true). absurd (true≢false (sym e))) (member_cons j s [] h)
 
-pub last_node : (bytes : List ℕ) (i : ℕ) → IsStore bytes (i + 1) → IsNode bytes i
-last_node bytes i s = is_node bytes (i + 1) i s (omega arith)
+-- its terms are fine where it stands
+pub terms_fine : (i : ℕ) (n : LutNode) → Fine i n → FineTerms i (terms_of n)
+unfolding Fine FineTerms terms_of
+terms_fine i (Input g) f = tt
+terms_fine i (Linear c ts) f = f.2
+terms_fine i (Bootstrap j table) f = tt
 
-pub no-nodes : (bytes : List ℕ) → length bytes ≡ 27552 → IsStore bytes 0
-no-nodes bytes e = record { long = e; most = omega arith; fine = λ i l. absurd (omega arith); kept = λ i l. absurd (omega arith); deep = λ i l. absurd (omega arith) }
+pub few_terms : (i : ℕ) (n : LutNode) → Fine i n → length (terms_of n) ≤ 11
+unfolding Fine terms_of
+few_terms i (Input g) f = omega arith
+few_terms i (Linear c ts) f = f.0
+few_terms i (Bootstrap j table) f = omega arith
 
-pub store_below : (bytes : List ℕ) (count k : ℕ) → IsStore bytes count → k ≤ count → IsStore bytes k
-store_below bytes count k s h =
-    record {
-      long = s.long;
-      most = omega (arith, s.most);
-      fine = λ i l. s.fine i (omega arith);
-      kept = λ i l. s.kept i (omega arith);
-      deep = λ i l. s.deep i (omega arith);
-    }
+pub weight_good : (i : ℕ) (n : LutNode) → Fine i n → GoodWeight (weight_of n)
+unfolding Fine weight_of GoodWeight
+weight_good i (Input g) f = f.2
+weight_good i (Linear c ts) f = (omega arith, omega arith)
+weight_good i (Bootstrap j table) f = (omega arith, omega arith)
 
--- ---- laws: a record put at a place
+-- ---- laws: fine nodes
 
-pub part_drop : (m a : ℕ) (l : List ℕ) → take m (drop a l) ≡ drop a (take (a + m) l)
-part_drop m zero l = rw zero-add
-part_drop m (suc a) [] = rw (take-nil m, take-nil (suc a + m))
-part_drop m (suc a) (x ∷ l) = rw (suc-add a m) (part_drop m a l)
+pub fine_ordered : (nodes : List LutNode) → AllFine nodes → Ordered nodes
+unfolding AllFine
+fine_ordered nodes f i l j h = fine_needs i (node_at nodes i) (f i l) j h
 
-unfoldable pub put_at : List ℕ → ℕ → List ℕ → List ℕ
-put_at bytes i r = paste bytes (41 * i) r 38
-
-unfoldable pub put_depth : List ℕ → ℕ → ℕ → List ℕ
-put_depth bytes i d = set (set bytes (41 * i + 38) (d / 256)) (41 * i + 39) (d % 256)
-
-abbrev pub put_centre : List ℕ → ℕ → ℕ → List ℕ
-put_centre bytes i c = set bytes (41 * i + 40) c
-
-module _ (bytes : List ℕ) (i : ℕ) (r : List ℕ) (e : length bytes ≡ 27552) (h : i < 672) (l : length r ≡ 38) where
-  pub put_length : length (put_at bytes i r) ≡ 27552
-  unfolding put_at
-  put_length = length-paste bytes (41 * i) r 38 (omega arith) (omega arith) ∙ e
-
-  pub put_same : record_at (put_at bytes i r) i ≡ r
-  unfolding put_at record_at
-  put_same =
-      let a : length (take (41 * i) bytes) ≡ 41 * i = length-take-le (41 * i) bytes (omega arith) in
-      rw (append_assoc, drop_at (take (41 * i) bytes) (take 38 r ++ drop (41 * i + 38) bytes) (41 * i) a, take_all 38 r (omega arith)) (take_at r _ 38 l)
-
-  -- at an earlier place
-  pub put_before : (j : ℕ) → j < i → record_at (put_at bytes i r) j ≡ record_at bytes j
-  unfolding put_at record_at
-  put_before j k =
-      let a : 41 * j + 38 ≤ length (take (41 * i) bytes) = rw (length-take-le (41 * i) bytes (omega arith)) (omega arith) in
-      let t : take (41 * j + 38) (take (41 * i) bytes ++ take 38 r ++ drop (41 * i + 38) bytes) ≡ take (41 * j + 38) bytes
-      = rw append_assoc
-      (take-append-le (41 * j + 38) (take (41 * i) bytes) _ a ∙ take-take (41 * j + 38) (41 * i) bytes (omega arith)) in
-      part_drop 38 (41 * j) _ ∙ ap (λ (x : List ℕ). drop (41 * j) x) t ∙ sym (part_drop 38 (41 * j) bytes)
+-- one more
+pub fine_push : (nodes : List LutNode) (n : LutNode) → AllFine nodes → Fine (length nodes) n → AllFine (nodes ++ (n ∷ []))
+unfolding AllFine
+fine_push nodes n f g i l =
+    ⊎_elim
+    (λ (h : i < length nodes). subst (Fine i) (sym (node-before nodes (n ∷ []) i h)) (f i h))
+    (λ (h : length nodes ≤ i). let e : length nodes ≡ i = omega (arith, length-append nodes (n ∷ [])) in subst (Fine i) (sym (node_next nodes n [] i e)) (subst (λ k. Fine k n) e g))
+    (lt_or_le i (length nodes))

@@ -1,44 +1,36 @@
 // The depth of a node: how many bootstraps lie one behind another up to it.
-ghost use Rattle.std.specs.Prelude.{◌≡◌, ◌≤◌};
-ghost use Rattle.rules.specs.Network.{largest, node_depth};
-ghost use Rattle.rules.specs.Store.{needs};
-ghost use Rattle.nodes.specs.View.{node_of, depth_in, put_depth, IsNode, IsStore};
+ghost use Rattle.std.specs.Prelude.{◌≡◌, ◌≤◌, length};
+ghost use Rattle.rules.specs.Network.{node_depth, largest, depth};
+ghost use Rattle.nodes.specs.View.{Fine, FineTerms, lut_node, terms_seen};
+ghost use Rattle.nodes.specs.Store.{store_of};
 
-use crate::node::{Kind, depth_of, kind_of, size_of, source_of};
+use crate::node::{LutNode, Term};
+use crate::store::Store;
 
-// The depth of the deepest of its sources, which stand before it.
-#[tactic(auto, using(crate::specs::Depth::deepest_steps))]
-fn deepest_source(nodes: &[u8; 27552], i: usize) -> usize
-    requires { IsStore nodes.now i × IsNode nodes.now i }
-    ensures { result ≡ largest (depth_in nodes.now) (needs (node_of nodes.now i)) }
-{
-    let mut deepest = 0;
-    for k in (0..size_of(nodes, i)).rev() {
-        deepest = depth_of(nodes, source_of(nodes, i, k)).max(deepest);
+impl Store {
+    // The depth of the deepest of these terms' nodes.
+    #[tactic(auto, using(crate::specs::Depth::deepening))]
+    fn deepest(&self, terms: &[Term]) -> usize
+        requires { FineTerms (length (store_of self.now)) (terms_seen terms.now) }
+        ensures { (result ≡ largest (λ t. depth (store_of self.now) t.node) (terms_seen terms.now)) × (result ≤ length (store_of self.now)) }
+    {
+        let mut deepest = 0;
+        for term in terms {
+            deepest = self.depth(term.node as usize).max(deepest);
+        }
+        deepest
     }
-    deepest
-}
 
-// What its sources give: one more for a bootstrap.
-#[tactic(auto, using(crate::specs::Depth::depth_steps))]
-fn depth_from(nodes: &[u8; 27552], i: usize) -> usize
-    requires { IsStore nodes.now i × IsNode nodes.now i }
-    ensures { (result ≡ node_depth (depth_in nodes.now) (node_of nodes.now i)) × (result ≤ i) }
-{
-    let deepest = deepest_source(nodes, i);
-    match kind_of(nodes, i) {
-        Kind::Bootstrap => deepest + 1,
-        _ => deepest,
+    // What a node's sources give: one more for a bootstrap.
+    #[tactic(auto, using(crate::specs::Depth::next_small, crate::specs::Depth::depth_small, crate::specs::Store::store_few), unfolding(crate::specs::View::lut_node, crate::specs::View::Fine, rules::specs::Network::node_depth))]
+    pub fn depth_of(&self, node: &LutNode) -> usize
+        requires { Fine (length (store_of self.now)) (lut_node node.now) }
+        ensures { (result ≡ node_depth (depth (store_of self.now)) (lut_node node.now)) × (result ≤ length (store_of self.now)) }
+    {
+        match node {
+            LutNode::Input { .. } => 0,
+            LutNode::Linear { terms, .. } => self.deepest(terms),
+            LutNode::Bootstrap { source, .. } => self.depth(*source as usize) + 1,
+        }
     }
-}
-
-// Asks that the nodes before it have their depths.
-#[tactic(auto, unfolding(crate::specs::View::put_depth))]
-pub fn put_depth(nodes: &mut [u8; 27552], i: usize)
-    requires { IsStore nodes.old i × IsNode nodes.old i }
-    ensures { nodes.new ≡ put_depth nodes.old i (node_depth (depth_in nodes.old) (node_of nodes.old i)) }
-{
-    let depth = depth_from(nodes, i);
-    nodes[41 * i + 38] = (depth / 256) as u8;
-    nodes[41 * i + 39] = (depth % 256) as u8;
 }

@@ -1,110 +1,118 @@
-// A node read from its record. Each asks that the node stands in the store (`is_node` says so of the nodes below the count).
-ghost use Rattle.std.specs.Prelude.{◌≡◌, true, false, ◌<◌, pos, length, get_or};
-ghost use Rattle.rules.specs.Network.{is_linear, weight_of};
-ghost use Rattle.rules.specs.Store.{needs, terms_of};
-ghost use Rattle.nodes.specs.Nodes.{kind_of, constant_of, bytes_in};
-ghost use Rattle.nodes.specs.View.{unbiased, term, node_of, depth_in, centre_in, IsNode};
+// A node of the store, and one made of what a text or the mapper gives.
+ghost use Rattle.std.specs.Prelude.{◌≡◌, ◌≤◌, ◌<◌, length};
+ghost use Rattle.rules.specs.Network as rules;
+ghost use Rattle.theorems.specs.Weights.{GoodWeight};
+ghost use Rattle.nodes.specs.Terms.{terms_in, GoodTerms};
+ghost use Rattle.nodes.specs.View.{given, lut_node, terms_seen};
 
-// What a node is, by the first byte of its record.
-#[derive(Clone, Copy, PartialEq, Eq)]
-pub enum Kind {
-    Input = 0,
-    Linear = 1,
-    Bootstrap = 2,
+use crate::terms::Terms;
+use arrayvec::ArrayVec;
+
+// One term of a sum: a coefficient and the number of its node.
+#[derive(Clone, Copy, PartialEq, Eq, Default)]
+pub struct Term {
+    pub coef: i8,
+    pub node: u16,
 }
 
-// A coefficient or a constant from its byte.
-#[tactic(auto, unfolding(crate::specs::View::unbiased))]
-fn signed(x: u8) -> i64
-    ensures { result ≡ unbiased x }
-{
-    (x as i64) - 32
+// A node (LutNode): numbers are small, so that many nodes lie close together.
+#[derive(PartialEq, Eq, Drop)]
+pub enum LutNode {
+    Input {
+        name: ArrayVec<u8, 16>,
+        weight: u8,
+    },
+    Linear {
+        constant: i8,
+        terms: ArrayVec<Term, 11>,
+    },
+    Bootstrap {
+        source: u16,
+        table: ArrayVec<u8, 32>,
+    },
 }
 
-#[tactic(auto, using(crate::specs::Nodes::kind_bytes))]
-pub fn kind_of(nodes: &[u8; 27552], i: usize) -> Kind
-    requires { IsNode nodes.now i }
-    ensures { result ≡ kind_of (node_of nodes.now i) }
-{
-    match nodes[41 * i] {
-        0 => Kind::Input,
-        1 => Kind::Linear,
-        _ => Kind::Bootstrap,
+// What the unused places of a store hold.
+impl Default for LutNode {
+    fn default() -> LutNode {
+        LutNode::Input {
+            name: ArrayVec::new(),
+            weight: 0,
+        }
     }
 }
 
-// An input's weight; of any other node 1.
-#[tactic(auto, using(crate::specs::Nodes::weight_bytes))]
-pub fn weight_of(nodes: &[u8; 27552], i: usize) -> usize
-    requires { IsNode nodes.now i }
-    ensures { result ≡ weight_of (node_of nodes.now i) }
+// A name's or a table's bytes as a list.
+fn list_of<const N: usize>(bytes: &[u8]) -> ArrayVec<u8, N>
+    requires { length bytes.now ≤ N }
+    ensures { result.items ≡ bytes.now }
 {
-    match kind_of(nodes, i) {
-        Kind::Input => nodes[41 * i + 3] as usize,
-        _ => 1,
+    let mut list = ArrayVec::new();
+    for &byte in bytes {
+        list.push(byte);
     }
+    list
 }
 
-// How many sources a node has.
-#[tactic(auto, using(crate::specs::Nodes::size_at))]
-pub fn size_of(nodes: &[u8; 27552], i: usize) -> usize
-    requires { IsNode nodes.now i }
-    ensures { result ≡ length (needs (node_of nodes.now i)) }
+// A sum's terms as a list.
+#[tactic(auto, using(crate::specs::Made::made))]
+fn terms_of(t: Terms) -> ArrayVec<Term, 11>
+    requires { GoodTerms 672 t }
+    ensures { terms_seen result.items ≡ terms_in t }
 {
-    nodes[41 * i + 1] as usize
+    let mut terms = ArrayVec::new();
+    for k in 0..t.n {
+        terms.push(Term {
+            coef: t.coefs[k] as i8,
+            node: t.sources[k] as u16,
+        });
+    }
+    terms
 }
 
-// The constant of a sum.
-#[tactic(auto, using(crate::specs::Nodes::constant_at))]
-pub fn constant_of(nodes: &[u8; 27552], i: usize) -> i64
-    requires { IsNode nodes.now i × (is_linear (node_of nodes.now i) ≡ true) }
-    ensures { result ≡ constant_of (node_of nodes.now i) }
-{
-    signed(nodes[41 * i + 2])
-}
+impl LutNode {
+    #[tactic(auto, unfolding(crate::specs::View::lut_node))]
+    pub fn of_input(name: &[u8], weight: u8) -> LutNode
+        requires { length name.now ≤ 16 }
+        ensures { lut_node result ≡ rules.Input (given name.now weight) }
+    {
+        LutNode::Input {
+            name: list_of(name),
+            weight,
+        }
+    }
 
-// The coefficient of a sum's term k.
-#[tactic(auto, using(crate::specs::Nodes::term_bytes))]
-pub fn coef_of(nodes: &[u8; 27552], i: usize, k: usize) -> i64
-    requires { IsNode nodes.now i × (k < length (terms_of (node_of nodes.now i))) }
-    ensures { result ≡ (get_or (terms_of (node_of nodes.now i)) k (term (pos 0) 0)).coef }
-{
-    signed(nodes[41 * i + (3 + 3 * k)])
-}
+    #[tactic(auto, unfolding(crate::specs::View::lut_node))]
+    pub fn of_terms(t: Terms) -> LutNode
+        requires { GoodTerms 672 t }
+        ensures { lut_node result ≡ rules.Linear t.constant (terms_in t) }
+    {
+        LutNode::Linear {
+            constant: t.constant as i8,
+            terms: terms_of(t),
+        }
+    }
 
-// Source k of a sum or a bootstrap.
-#[tactic(auto, using(crate::specs::Nodes::source_bytes_at))]
-pub fn source_of(nodes: &[u8; 27552], i: usize, k: usize) -> usize
-    requires { IsNode nodes.now i × (k < length (needs (node_of nodes.now i))) }
-    ensures { result ≡ get_or (needs (node_of nodes.now i)) k 0 }
-{
-    256 * (nodes[41 * i + (4 + 3 * k)] as usize) + (nodes[41 * i + (5 + 3 * k)] as usize)
-}
+    #[tactic(auto, unfolding(crate::specs::View::lut_node))]
+    pub fn of_table(source: usize, table: &[u8]) -> LutNode
+        requires { (source < 672) × (length table.now ≤ 32) }
+        ensures { lut_node result ≡ rules.Bootstrap source table.now }
+    {
+        LutNode::Bootstrap {
+            source: source as u16,
+            table: list_of(table),
+        }
+    }
 
-// How many bootstraps lie one behind another up to it.
-#[tactic(auto, unfolding(crate::specs::View::depth_in))]
-pub fn depth_of(nodes: &[u8; 27552], i: usize) -> usize
-    requires { IsNode nodes.now i }
-    ensures { result ≡ depth_in nodes.now i }
-{
-    256 * (nodes[41 * i + 38] as usize) + (nodes[41 * i + 39] as usize)
-}
-
-// The centre of a bootstrap's table; of any other node 0.
-#[tactic(auto, unfolding(crate::specs::View::centre_in))]
-pub fn centre_of(nodes: &[u8; 27552], i: usize) -> usize
-    requires { IsNode nodes.now i }
-    ensures { result ≡ centre_in nodes.now i }
-{
-    nodes[41 * i + 40] as usize
-}
-
-// An input's name or a bootstrap's table, as a part of the pool.
-#[tactic(auto, using(crate::specs::Nodes::table_bytes_at))]
-pub fn table_of<'a>(nodes: &'a [u8; 27552], i: usize) -> &'a [u8]
-    requires { IsNode nodes.now i × (is_linear (node_of nodes.now i) ≡ false) }
-    ensures { result.now ≡ bytes_in (node_of nodes.now i) }
-{
-    let at = 41 * i + 6;
-    &nodes[at..at + nodes[41 * i + 2] as usize]
+    // An input's weight; of any other node 1.
+    #[tactic(auto, unfolding(crate::specs::View::lut_node, rules::specs::Network::weight_of))]
+    pub fn weight(&self) -> usize
+        ensures { result ≡ rules.weight_of (lut_node self.now) }
+    {
+        match self {
+            LutNode::Input { weight, .. } => *weight as usize,
+            LutNode::Linear { .. } => 1,
+            LutNode::Bootstrap { .. } => 1,
+        }
+    }
 }

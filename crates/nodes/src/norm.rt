@@ -1,11 +1,11 @@
 // The norm of a node: each squared coefficient of a sum times its source's weight, added; of an input or a bootstrap its weight.
-ghost use Rattle.std.specs.Prelude.{◌≡◌, ◌+◌, ◌*◌, ◌≤◌, ◌<◌, pos, nat_abs, length, get_or};
-ghost use Rattle.rules.specs.Network.{weight_of, node_norm};
-ghost use Rattle.rules.specs.Store.{terms_of};
-ghost use Rattle.nodes.specs.View.{term, node_of, store_of, IsNode, IsStore};
-ghost use Rattle.nodes.specs.Norm.{term_norm};
+ghost use Rattle.std.specs.Prelude.{◌≡◌, ◌*◌, ◌≤◌, ◌<◌, nat_abs, length};
+ghost use Rattle.rules.specs.Network.{weight_of, norm, node_at, node_norm};
+ghost use Rattle.nodes.specs.View.{FineTerms, terms_seen};
+ghost use Rattle.nodes.specs.Store.{store_of};
 
-use crate::node::{Kind, coef_of, kind_of, size_of, source_of, weight_of};
+use crate::node::{LutNode, Term};
+use crate::store::Store;
 
 fn square(x: i64) -> usize
     requires { nat_abs x ≤ 31 }
@@ -14,37 +14,39 @@ fn square(x: i64) -> usize
     (x * x) as usize
 }
 
-// What a source with this coefficient adds to a norm.
-#[tactic(auto, using(crate::specs::Norm::weighed, crate::specs::Nodes::weight_good))]
-pub fn source_norm(nodes: &[u8; 27552], source: usize, coef: i64) -> usize
-    requires { IsNode nodes.now source × (nat_abs coef ≤ 31) }
-    ensures { (result ≡ (nat_abs coef * nat_abs coef) * weight_of (node_of nodes.now source)) × (result ≤ 61504) }
-{
-    square(coef) * weight_of(nodes, source)
-}
-
-// What term k adds.
-#[tactic(auto, using(crate::specs::Norm::term_steps))]
-fn term_norm(nodes: &[u8; 27552], i: usize, k: usize) -> usize
-    requires { IsStore nodes.now (i + 1) × (k < length (terms_of (node_of nodes.now i))) }
-    ensures { (result ≡ term_norm (store_of nodes.now i) (get_or (terms_of (node_of nodes.now i)) k (term (pos 0) 0))) × (result ≤ 61504) }
-{
-    let source = source_of(nodes, i, k);
-    source_norm(nodes, source, coef_of(nodes, i, k))
-}
-
-// Its sources stand before it (`norm_among`: its norm stays as nodes come after it).
-#[tactic(auto, using(crate::specs::Norm::norm_steps))]
-pub fn node_norm(nodes: &[u8; 27552], i: usize) -> u64
-    requires { IsStore nodes.now (i + 1) }
-    ensures { result ≡ node_norm (store_of nodes.now i) (node_of nodes.now i) }
-{
-    if kind_of(nodes, i) != Kind::Linear {
-        return weight_of(nodes, i) as u64;
+impl Store {
+    // What a source with this coefficient adds to a norm.
+    #[tactic(auto, using(crate::specs::Norm::source_norm_lem))]
+    pub fn source_norm(&self, source: usize, coef: i64) -> usize
+        requires { (source < length (store_of self.now)) × (nat_abs coef ≤ 31) }
+        ensures { (result ≡ (nat_abs coef * nat_abs coef) * weight_of (node_at (store_of self.now) source)) × (result ≤ 61504) }
+    {
+        square(coef) * self.weight(source)
     }
-    let mut sum = 0;
-    for k in (0..size_of(nodes, i)).rev() {
-        sum += term_norm(nodes, i, k) as u64;
+
+    // Those of a sum's terms, added.
+    #[tactic(auto, using(crate::specs::Norm::summing))]
+    fn norm_of(&self, terms: &[Term]) -> u64
+        requires { FineTerms (length (store_of self.now)) (terms_seen terms.now) × (length terms.now ≤ 11) }
+        ensures { result ≡ norm (store_of self.now) (terms_seen terms.now) }
+    {
+        let mut sum = 0;
+        for term in terms {
+            sum += self.source_norm(term.node as usize, term.coef as i64) as u64;
+        }
+        sum
     }
-    sum
+
+    // The norm of node i.
+    #[tactic(auto, unfolding(crate::specs::View::lut_node))]
+    pub fn norm(&self, i: usize) -> u64
+        requires { i < length (store_of self.now) }
+        ensures { result ≡ node_norm (store_of self.now) (node_at (store_of self.now) i) }
+    {
+        match self.node(i) {
+            LutNode::Linear { terms, .. } => self.norm_of(terms),
+            LutNode::Input { weight, .. } => *weight as u64,
+            LutNode::Bootstrap { .. } => 1,
+        }
+    }
 }

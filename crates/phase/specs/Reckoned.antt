@@ -24,9 +24,6 @@ module _ (P : ℕ) (p : is_period P ≡ true) where
   pub circle : Widths P
   circle = widths P (period_divides P p)
 
-  pub step_small : step P < 2 ^ 32
-  step_small = let w = circle in omega (arith, w.half_most, w.two_halves)
-
   -- ---- The tests of v.
 
   pub value_below : (v : ℤ) → int_le (pos 0) v ≡ false → int_le (pos 0) v ≡ is_value P v

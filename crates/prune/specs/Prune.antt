@@ -1,10 +1,14 @@
 -- Wanted nodes as marks in an array, and their new numbers.
-use Rattle.std.specs.Prelude.{◌≡◌, refl, true, false, not, List, ◌∷◌, ◌++◌, ℕ, suc, ◌+◌, ◌-◌, ◌≤◌, ◌<◌, eqb, length, get_or, set, take, drop}
-use Rattle.std.proofs.Common.{sym, ◌∙◌, ⊎_elim, not-suc-le-zero, add-one, arith, eq-eqb, ne_eqb, length-set, length-append, length-drop, length-take-le, drop_of_length-le, drop-cons, get_or-take, get_or-set_same, get_or-set_other}
+use Rattle.std.specs.Prelude.{◌≡◌, refl, Bool, true, false, not, ◌||◌, List, [], ◌∷◌, ◌++◌, ℕ, suc, ◌+◌, ◌-◌, ◌≤◌, ◌<◌, eqb, length, get_or, set, take, drop}
+use Rattle.std.proofs.Common.{sym, ap, ◌∙◌, ⊎_elim, not-suc-le-zero, add-one, arith, eq-eqb, ne_eqb, length-set, length-append, length-drop, length-take-le, take_all, get_or-take, get_or-set_same, get_or-set_other}
 use Rattle.std.proofs.Math.ListN.{get_or-append}
 use Rattle.laws.specs.Test.{if◌then◌otherwise◌, eq-or-ne}
-use Rattle.rules.specs.Network.{member, LutNode, node_at}
+use Rattle.rules.specs.Network.{Term, LutNode, member, node_at}
+use Rattle.rules.specs.NetworkText.{sources}
 use Rattle.rules.specs.Store.{needs, wanted_below, renumbered}
+use Rattle.nodes.specs.declared.node.Term as T
+use Rattle.nodes.specs.Seen.{term_below, terms_next}
+use Rattle.nodes.specs.View.{term, term_of, terms_seen}
 
 -- an entry that is not 0 is wanted, and no other is
 pub record Marks (wanted live : List ℕ) : Type 0 where
@@ -52,19 +56,70 @@ marks_one wanted live j m l h =
           (eq-or-ne i j);
     }
 
--- ---- laws: the sources of a node, from the last to the first
+-- ---- laws: more marks in turn
 
-pub adding_none : (ns live : List ℕ) (k : ℕ) → length ns ≤ k → length live ≡ 672 → Marking (adding (drop k ns)) live live
+pub adding_none : (live : List ℕ) → length live ≡ 672 → Marking (adding []) live live
 unfolding adding
-adding_none ns live k h l = record { long = l; marks = λ wanted m. rw (drop_of_length-le ns {i = k} h) m }
+adding_none live l = record { long = l; marks = λ wanted m. m }
 
-pub adding-one : (ns before after : List ℕ) (k j : ℕ) → Marking (adding (drop k ns)) before after → 0 < k → k ≤ length ns → j ≡ get_or ns (k - 1) 0 → j < 672
-    → Marking (adding (drop (k - 1) ns)) before (set after j 1)
+pub adding_one : (live : List ℕ) (j : ℕ) → length live ≡ 672 → j < 672 → Marking (adding (j ∷ [])) live (set live j 1)
 unfolding adding
-adding-one ns before after k j w h l e b =
-    let s : suc (k - 1) ≡ k = omega arith in
-    let d : drop (k - 1) ns ≡ j ∷ drop k ns = rw (drop-cons ns (k - 1) 0 (omega arith), s, e) in
-    record { long = simp length-set w.long; marks = λ wanted m. rw d (marks_one (drop k ns ++ wanted) after j (w.marks wanted m) w.long b) }
+adding_one live j l h = record { long = simp length-set l; marks = λ wanted m. marks_one wanted live j m l h }
+
+member-or : (m : ℕ) (a s : List ℕ) → member m (a ++ s) ≡ (member m a || member m s)
+unfolding member
+member-or m [] s = refl
+member-or m (x ∷ a) s = by (eqb m x) (member-or m a s)
+  where
+    by : (b : Bool) → member m (a ++ s) ≡ (member m a || member m s) → (b || member m (a ++ s)) ≡ ((b || member m a) || member m s)
+    by true e = refl
+    by false e = e
+
+-- the order in which two lists are marked is the same
+member_swap : (m : ℕ) (a b s : List ℕ) → member m (b ++ (a ++ s)) ≡ member m ((a ++ b) ++ s)
+member_swap m a b s = simp member-or (by (member m b) (member m a))
+  where
+    by : (p q : Bool) → (p || (q || member m s)) ≡ ((q || p) || member m s)
+    by true true = refl
+    by true false = refl
+    by false true = refl
+    by false false = refl
+
+pub adding_both : (ns ms : List ℕ) {before between after : List ℕ} → Marking (adding ns) before between → Marking (adding ms) between after → Marking (adding (ns ++ ms)) before after
+unfolding adding
+adding_both ns ms v w =
+    record {
+      long = w.long;
+      marks = λ wanted m. record { at = λ i h. (w.marks (ns ++ wanted) (v.marks wanted m)).at i h ∙ member_swap i ns ms wanted };
+    }
+
+-- ---- laws: the nodes of a sum's terms, from the first on
+
+-- those of the first k are marked
+pub record MarkedTo (ts : List T.Term) (k : ℕ) (before live : List ℕ) : Type 0 where
+  pub marking : Marking (adding (sources (terms_seen (take k ts)))) before live
+
+sources_more : (ts : List Term) (t : Term) → sources (ts ++ (t ∷ [])) ≡ sources ts ++ (t.node ∷ [])
+unfolding sources
+sources_more [] t = refl
+sources_more (u ∷ ts) t = ap {B = List ℕ} (λ l. u.node ∷ l) (sources_more ts t)
+
+pub marked_none : (ts : List T.Term) (live : List ℕ) → length live ≡ 672 → MarkedTo ts 0 live live
+unfolding terms_seen sources
+marked_none ts live l = record { marking = adding_none live l }
+
+pub marked_more : (ts : List T.Term) (k : ℕ) (t : T.Term) (before live : List ℕ) → k < length ts → MarkedTo ts k before live → (get_or ts k t).node < 672
+    → MarkedTo ts (k + 1) before (set live (get_or ts k t).node 1)
+unfolding terms_seen sources term
+marked_more ts k t before live h m b =
+    let e : sources (terms_seen (take (k + 1) ts)) ≡ sources (terms_seen (take k ts)) ++ ((get_or ts k t).node ∷ []) =
+    ap sources (terms_next ts k t h) ∙ sources_more (terms_seen (take k ts)) (term_of (get_or ts k t)) in
+    record { marking = rw e (adding_both _ _ m.marking (adding_one live (get_or ts k t).node m.marking.long b)) }
+
+pub marked_all : (ts : List T.Term) (k : ℕ) (before live : List ℕ) → length ts ≤ k → MarkedTo ts k before live → Marking (adding (sources (terms_seen ts))) before live
+marked_all ts k before live h m = rw (take_all k ts h) at m.marking
+
+pub ruleset marking_terms = (marked_all, term_below)
 
 -- ---- laws: those of a node that is marked
 
@@ -90,26 +145,23 @@ pub record Reaching (nodes : List LutNode) (count i : ℕ) (before live : List �
   pub long : length live ≡ 672
   pub left : (wanted : List ℕ) → Marks wanted before → Left nodes (wanted_below count nodes wanted) i live
 
-pub reaching_turn : (nodes : List LutNode) (count i : ℕ) (n : LutNode) (before live after : List ℕ) → Reaching nodes count i before live → 0 < i → node_at nodes (i - 1) ≡ n
-    → Marking (adding_needed (i - 1) n) live after → Reaching nodes count (i - 1) before after
+pub reaching_turn : (nodes : List LutNode) (count i : ℕ) (before live after : List ℕ) → Reaching nodes count i before live → 0 < i
+    → Marking (adding_needed (i - 1) (node_at nodes (i - 1))) live after → Reaching nodes count (i - 1) before after
 unfolding adding_needed
-reaching_turn nodes count i n before live after r h e w =
+reaching_turn nodes count i before live after r h w =
     record {
       long = w.long;
       left = λ wanted m.
           let p = r.left wanted m in
           record {
-            so_far = adding_needed (i - 1) n p.so_far;
+            so_far = adding_needed (i - 1) (node_at nodes (i - 1)) p.so_far;
             marked = w.marks p.so_far p.marked;
-            leads = step p.so_far ∙ p.leads;
+            leads = below (i - 1) p.so_far (omega arith) ∙ p.leads;
           };
     }
   where
     below : (j : ℕ) (so_far : List ℕ) → suc j ≡ i → wanted_below j nodes (if member j so_far then needs (node_at nodes j) ++ so_far otherwise so_far) ≡ wanted_below i nodes so_far
     below j so_far s = rw (← s) (sym (wanted_suc j nodes so_far))
-
-    step : (so_far : List ℕ) → wanted_below (i - 1) nodes (if member (i - 1) so_far then needs n ++ so_far otherwise so_far) ≡ wanted_below i nodes so_far
-    step so_far = rw (← e) (below (i - 1) so_far (omega arith))
 
 pub reaching_done : (nodes : List LutNode) (count i : ℕ) (before live : List ℕ) → Reaching nodes count i before live → i ≡ 0 → Marking (wanted_below count nodes) before live
 reaching_done nodes count i before live r e =
@@ -168,7 +220,3 @@ numbers_done count before marks l h e i next k w =
       long = length-append marks (drop count before) ∙ omega (arith, length-drop count before);
       at = λ kept m j b. get_or-append marks (drop count before) 0 j (omega arith) ∙ (w kept m).done j (omega arith);
     }
-
-pub numbers_after : (keeping : List ℕ → List ℕ) (count : ℕ) (before between after : List ℕ) → Marking keeping before between → Numbers (λ kept. kept) count between after
-    → Numbers keeping count before after
-numbers_after keeping count before between after m w = record { long = w.long; at = λ wanted q. w.at (keeping wanted) (m.marks wanted q) }

@@ -63,25 +63,7 @@ module _ (f : ℕ → Bool) where
   unfolding any
   none_here l i h t e = rw (drop-cons l i 0 h) (neither (f (get_or l i 0)) (any f (drop (suc i) l)) t (rw add-one at e))
 
-pub any_none : (f : ℕ → Bool) (l : List ℕ) → ((j : ℕ) → f j ≡ false) → any f l ≡ false
-unfolding any
-any_none f [] h = refl
-any_none f (y ∷ l) h = neither (f y) (any f l) (h y) (any_none f l h)
-
-any_same : (f g : ℕ → Bool) (l : List ℕ) → ((j : ℕ) → member j l ≡ true → f j ≡ g j) → any f l ≡ any g l
-unfolding any
-any_same f g [] h = refl
-any_same f g (y ∷ l) h = rw (h y (member_head y l), any_same f g l (λ j m. h j (member-tail j y l m)))
-
--- the same where the tests agree on these
-pub behind_same : (f g : ℕ → Bool) (x : ℕ) (l : List ℕ) → ((j : ℕ) → member j l ≡ true → f j ≡ g j) → behind f x l ≡ behind g x l
-unfolding behind
-behind_same f g x [] h = refl
-behind_same f g x (y ∷ l) h =
-    by (f y) (g y) (any f l) (any g l) (h y (member_head y l)) (any_same f g l (λ j m. h j (member-tail j y l m))) (behind_same f g x l (λ j m. h j (member-tail j y l m)))
-  where
-    by : (a b c d : Bool) → a ≡ b → c ≡ d → behind f x l ≡ behind g x l → (if a && not c then y ∷ x ∷ l otherwise y ∷ behind f x l) ≡ (if b && not d then y ∷ x ∷ l otherwise y ∷ behind g x l)
-    by a b c d p q r = rw (p, q, r) refl
+pub ruleset scanning = (at-end, at_place, none_yet, none_here)
 
 -- ---- One number more.
 

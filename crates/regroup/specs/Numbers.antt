@@ -1,27 +1,19 @@
 -- The new number of each node, and one more.
-use Rattle.std.specs.Prelude.{◌≡◌, true, ℕ, suc, ◌+◌, ◌-◌, ◌<◌, ◌≤◌, length, set, take}
-use Rattle.std.proofs.Common.{sym, ap, subst, ◌∙◌, true≢false, ⊎_elim, add-one, arith, eq-eqb, ne_eqb, drop-cons, length-take-le, get_or-take, get_or-set_other}
+use Rattle.std.specs.Prelude.{◌≡◌, true, ℕ, suc, ◌+◌, ◌-◌, ◌<◌, ◌≤◌, length, set}
+use Rattle.std.proofs.Common.{sym, subst, ◌∙◌, true≢false, ⊎_elim, add-one, arith, eq-eqb, ne_eqb, drop-cons, get_or-set_other}
 use mathlib.Core.List.{List, ◌∷◌}
 use Rattle.std.proofs.Math.ListN.{get_or, drop, length-set}
 use Rattle.std.proofs.Math.Seq.{drop-length, get_or-set_same}
 use Rattle.laws.specs.Test.{eq-or-ne}
 use Rattle.rules.specs.Network.{member}
-use Rattle.rules.specs.Regroup.{place_in, order_up_to, order}
+use Rattle.rules.specs.Regroup.{place_in}
 use Rattle.theorems.specs.Members.{member_cons}
-use Rattle.nodes.specs.View.{store_of, store_length}
-use Rattle.regroup.specs.Order.{order_is, order-all, Below, Arranged, arranged_below}
+use Rattle.regroup.specs.Order.{Below}
 
 -- the numbers in o have their places
 pub record Numbers (o live : List ℕ) : Type 0 where
   pub long : length live ≡ 672
   pub at : (j : ℕ) → member j o ≡ true → get_or live j 0 ≡ place_in o j + 1
-
--- What is made: the definition's order, and each node's place in it.
-pub record Regrouped (bytes : List ℕ) (count : ℕ) (o live : List ℕ) : Type 0 where
-  pub below : Below o count
-  pub is : take count o ≡ order (store_of bytes count)
-  pub long : length live ≡ 672
-  pub numbers : (j : ℕ) → j < count → get_or live j 0 ≡ place_in (order (store_of bytes count)) j + 1
 
 -- ---- laws: a loop from the end on, those from i on have theirs
 
@@ -34,7 +26,7 @@ module _ (o : List ℕ) where
   unfolding member
   numbering_none live e i q = rw q (record { long = e; at = λ j m. absurd (true≢false (sym (rw (drop-length o) at m))) })
 
-  pub numbering_step : (live : List ℕ) (i : ℕ) → i < length o → Numbering o (i + 1) live → get_or o i 0 < 672 → Numbering o i (set live (get_or o i 0) (i + 1))
+  numbering_step : (live : List ℕ) (i : ℕ) → i < length o → Numbering o (i + 1) live → get_or o i 0 < 672 → Numbering o i (set live (get_or o i 0) (i + 1))
   unfolding place_in
   numbering_step live i h n b =
       record {
@@ -51,37 +43,13 @@ module _ (o : List ℕ) where
           let r : get_or live j 0 ≡ i + 1 + place_in (drop (suc i) o) j + 1 = subst (λ m. get_or live j 0 ≡ i + 1 + place_in (drop m o) j + 1) (add-one i) (n.at j (rw add-one k)) in
           rw (ne_eqb (get_or o i 0) j e, get_or-set_other live (get_or o i 0) j (i + 1) 0 (λ q. e (sym q))) (r ∙ omega arith)
 
+  pub numbering_turn : (live : List ℕ) (i : ℕ) → 0 < i → i ≤ length o → Below 672 o → Numbering o i live → Numbering o (i - 1) (set live (get_or o (i - 1) 0) (i - 1 + 1))
+  numbering_turn live i h k b n =
+      let z : i ≡ i - 1 + 1 = omega arith in
+      numbering_step live (i - 1) (omega arith) (subst (λ j. Numbering o j live) z n) (b.at (i - 1) (omega arith))
+
   pub numbering_done : (live : List ℕ) (i : ℕ) → i ≤ 0 → Numbering o i live → Numbers o live
   numbering_done live i h n =
       let z : i ≡ 0 = omega arith in
       let m : Numbering o 0 live = subst (λ k. Numbering o k live) z n in
       record { long = m.long; at = λ j q. m.at j q ∙ omega arith }
-
-module _ {order : List ℕ} {count : ℕ} (b : Below order count) (m : count ≤ 672) where
-  pub number_start : (live : List ℕ) → length live ≡ 672 → Numbering (take count order) count live
-  number_start live e = numbering_none (take count order) live e count (sym (length-take-le count order (omega (arith, b.long))))
-
-  pub number-turn : (live : List ℕ) (i : ℕ) {x : ℕ} → 0 < i → i ≤ count → x ≡ get_or order (i - 1) 0 → Numbering (take count order) i live
-      → Numbering (take count order) (i - 1) (set live x (i - 1 + 1))
-  number-turn live i {x} h k e n =
-      let g : get_or (take count order) (i - 1) 0 ≡ x = get_or-take count order (i - 1) 0 (omega arith) ∙ sym e in
-      let z : i ≡ i - 1 + 1 = omega arith in
-      let l = length-take-le count order (omega (arith, b.long)) in
-      subst (λ y. Numbering (take count order) (i - 1) (set live y (i - 1 + 1))) g
-      (numbering_step (take count order) live (i - 1) (omega arith) (subst (λ j. Numbering (take count order) j live) z n)
-      (let q = b.below (i - 1) (omega arith) in omega arith))
-
--- ---- laws: both
-
-pub regroup_is : {bytes o live : List ℕ} {count : ℕ} → Arranged bytes count o → Numbers (take count o) live → Regrouped bytes count o live
-unfolding order
-regroup_is {bytes} {o} {live} {count} a n =
-    record {
-      below = arranged_below a;
-      is = e;
-      long = n.long;
-      numbers = λ j h. subst (λ (l : List ℕ). get_or live j 0 ≡ place_in l j + 1) e (n.at j (subst (λ (l : List ℕ). member j l ≡ true) (sym a.is) (order-all bytes count j h)));
-    }
-  where
-    e : take count o ≡ order (store_of bytes count)
-    e = a.is ∙ order_is bytes count count (omega arith) ∙ ap (λ k. order_up_to (store_of bytes count) k) (sym (store_length bytes count))

@@ -1,18 +1,67 @@
 // All tables of one node together: the new order of a network's nodes, and their new numbers. It leans on `nodes`.
 #![tactic(auto)]
 
-pub mod order;
-pub mod place;
+ghost use Rattle.std.specs.Prelude.{◌≡◌, ◌<◌, ◌≤◌, length};
+ghost use Rattle.rules.specs.Regroup as rules;
+ghost use Rattle.nodes.specs.Store.{store_of};
+ghost use Rattle.nodes.specs.View.{lut_node};
+ghost use Rattle.regroup.specs.Behind.{Behind};
+ghost use Rattle.regroup.specs.Order.{shares, Below};
+ghost use Rattle.regroup.specs.Numbers.{Numbers};
 
-ghost use Rattle.std.specs.Prelude.{◌≡◌, length};
-ghost use Rattle.nodes.specs.View.{IsStore};
-ghost use Rattle.regroup.specs.Numbers.{Regrouped};
+use arrayvec::ArrayVec;
+use nodes::node::LutNode;
+use nodes::store::Store;
 
-// `order` gets the nodes' numbers in their new order, `live` each node's new number and one more.
-pub fn regroup(nodes: &[u8; 27552], count: usize, order: &mut [u16; 672], live: &mut [u16; 672])
-    requires { IsStore nodes.now count × ((length order.old ≡ 672) × (length live.old ≡ 672)) }
-    ensures { Regrouped nodes.now count order.new live.new }
+// Whether both are tables of one node.
+#[tactic(auto, unfolding(nodes::specs::View::lut_node, rules::specs::Regroup::same_group))]
+fn same_group(x: &LutNode, y: &LutNode) -> bool
+    ensures { result ≡ rules.same_group (lut_node x.now) (lut_node y.now) }
 {
-    order::arrange(nodes, count, order);
-    order::number(order, count, live);
+    match (x, y) {
+        (LutNode::Bootstrap { source, .. }, LutNode::Bootstrap { source: other, .. }) => {
+            source == other
+        }
+        _ => false,
+    }
+}
+
+// Where node k stands among those in order: behind the last table of its node, or at the end.
+#[tactic(auto, using(crate::specs::Behind::scanning), unfolding(crate::specs::Order::shares))]
+fn place(store: &Store, order: &[u16], k: usize) -> usize
+    requires { (k < length (store_of store.now)) × Below (length (store_of store.now)) order.now }
+    ensures { Behind (shares (store_of store.now) k) order.now result }
+{
+    for i in (0..order.len()).rev() {
+        if same_group(store.node(k), store.node(order[i] as usize)) {
+            return i + 1;
+        }
+    }
+    order.len()
+}
+
+// The nodes' numbers in their new order: each in turn is put in its place.
+#[tactic(auto, using(crate::specs::Order::arranging, nodes::specs::Store::store_few))]
+pub fn arrange(store: &Store) -> ArrayVec<u16, 672>
+    ensures { result.items ≡ rules.order (store_of store.now) }
+{
+    let mut order = ArrayVec::new();
+    for k in 0..store.len() {
+        let at = place(store, &order, k);
+        order.insert(at, k as u16);
+    }
+    order
+}
+
+// The place of each number, and one more. The last ones first: of two that are equal the first one's place stays.
+#[tactic(auto, using(crate::specs::Numbers::numbering_done))]
+pub fn number(order: &[u16]) -> [u16; 672]
+    requires { (length order.now ≤ 672) × Below 672 order.now }
+    ensures { Numbers order.now result }
+{
+    let mut live = [0; 672];
+    for i in (0..order.len()).rev() {
+        live[order[i] as usize] = i as u16 + 1;
+    }
+    live
 }

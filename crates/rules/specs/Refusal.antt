@@ -1,5 +1,6 @@
 -- The refusals by their numbers (document 01, "Refused with"; document 02).
-use Rattle.std.specs.Prelude.{ℕ, Result, Ok, Err}
+use Rattle.std.specs.Prelude.{ℕ, ◌<◌, Result, Ok, Err}
+use Rattle.std.proofs.Common.{arith}
 use Rattle.rules.specs.declared.Reason.{Reason}
 use Rattle.rules.specs.declared.Reason.TheVariants.{NoForm, BadSettings, TooMany, OutOfOrder, RepeatedName, NoEarlierNode, BadGate, OverNorm, NoComposition, ShortBuffer, BadLine, BadSource, BadLength, NoRotation, SumOverNorm, NoBit, BadLengths, SpanOverM, Conflict, NoCompletion, ShortTable, NoSum, BadPeriod, BadValue, OtherCentre, SecondLine}
 
@@ -30,6 +31,9 @@ reason_number BadPeriod = 36
 reason_number BadValue = 37
 reason_number OtherCentre = 38
 reason_number SecondLine = 39
+
+pub reason_positive : (r : Reason) → 0 < reason_number r
+reason_positive r = grind arith
 
 -- The number that a test ends with: 0 where it turns nothing away.
 abbrev pub number_met : {A : Type 0} → Result A Reason → ℕ

@@ -74,7 +74,7 @@ fn weigh(
     b: i64,
     divisor: i64,
 ) -> Option<Pair>
-    requires { (length coefs.now ≤ 11) × ((length weights.now ≡ 11) × Within 1984 coefs.now) }
+    requires { (length coefs.now ≤ 11) × Within 1984 coefs.now }
     ensures { result ≡ weighed s weights.now a b divisor coefs.now }
 {
     let span = linear::linear_span(coefs);
@@ -94,7 +94,7 @@ fn weigh(
 
 #[tactic(auto, using(crate::specs::Pair::sizes), unfolding(crate::specs::Pair::measured))]
 fn measure(coefs: &mut [i64], weights: &[u8; 11], s: Settings, a: i64, b: i64) -> Option<Pair>
-    requires { (length coefs.old ≤ 11) × ((length weights.now ≡ 11) × Within 1984 coefs.old) }
+    requires { (length coefs.old ≤ 11) × Within 1984 coefs.old }
     ensures { result ≡ measured s weights.now a b coefs.old }
 {
     let divisor = normalise(coefs);
@@ -111,7 +111,7 @@ fn candidate(
     a: i64,
     b: i64,
 ) -> Option<Pair>
-    requires { Rows left.now right.now × ((length weights.now ≡ 11) × Scaling a b) }
+    requires { Rows left.now right.now × Scaling a b }
     ensures { result ≡ pair_of s weights.now left.now right.now a b }
 {
     if !scale::is_candidate_scale_pair(a, b) {
@@ -131,7 +131,7 @@ pub fn candidate_at(
     v: usize,
     origin: usize,
 ) -> Option<Pair>
-    requires { Rows left.now right.now × ((length weights.now ≡ 11) × ((u ≤ 32) × ((origin ≤ 32) × (v ≤ origin + 32)))) }
+    requires { Rows left.now right.now × ((u ≤ 32) × ((origin ≤ 32) × (v ≤ origin + 32))) }
     ensures { result ≡ pair_of s weights.now left.now right.now (pos u) (pos v -ℤ pos origin) }
 {
     candidate(left, right, weights, s, u as i64, v as i64 - origin as i64)
@@ -144,7 +144,7 @@ fn quotient(v: i64, d: i64) -> i64
     ensures is { result ≡ quot_z v d }
     ensures small { nat_abs result ≤ 1984 }
 {
-    if d == 1 { v } else { scale::divide(v, d) }
+    if d == 1 { v } else { v / d }
 }
 
 // A row's value under the pair.

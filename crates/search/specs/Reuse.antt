@@ -13,19 +13,15 @@ use Rattle.rules.specs.Store.{has_bootstrap, linear_terms, linear_of}
 use Rattle.scale.specs.Limits.{Within}
 use Rattle.linear.specs.Span.{within_total}
 use Rattle.theorems.specs.LinearTables.{span_table}
-use Rattle.nodes.specs.declared.record.Terms.{Terms}
-use Rattle.nodes.specs.View.{IsStore, GoodTerms, FineTerms, term, terms_over, terms_in}
-use Rattle.cone.specs.Sources.{Near}
+use Rattle.nodes.specs.declared.terms.Terms.{Terms}
+use Rattle.nodes.specs.Terms.{GoodTerms, terms_over, terms_in}
+use Rattle.nodes.specs.View.{FineTerms, term}
+use Rattle.cone.specs.Sources.{AllBelow}
 use Rattle.merged_rows.specs.declared.energy.Moments.{Moments}
 use Rattle.rules.specs.Composition.{reuse_cost}
 use Rattle.scale_pair.specs.declared.pair.Pair.{Pair}
 use Rattle.scale_pair.specs.Pair.{Rows, merged}
 use Rattle.search.specs.Search.{context, reuse_of, cone_by, Scored, Merges}
-
--- A node store that has the sources.
-pub record Stored (bytes : List ℕ) (count : ℕ) (sources : List ℕ) : Type 0 where
-  pub store : IsStore bytes count
-  pub near : Near count sources
 
 -- The terms of the pair's sum.
 pub record SumOf (left right : List ℤ) (sources : List ℕ) (c : Pair) (t : Terms) : Type 0 where
@@ -35,7 +31,7 @@ pub record SumOf (left right : List ℤ) (sources : List ℕ) (c : Pair) (t : Te
   pub sources_are : t.sources ≡ sources
 
 -- ---- laws
-pub fine_zip : (count : ℕ) (cs : List ℤ) (ns : List ℕ) → Within 31 cs → Near count ns → FineTerms count (zip_with term cs ns)
+pub fine_zip : (count : ℕ) (cs : List ℤ) (ns : List ℕ) → Within 31 cs → AllBelow count ns → FineTerms count (zip_with term cs ns)
 unfolding FineTerms zip_with term
 fine_zip count [] ns w h = tt
 fine_zip count (c ∷ cs) [] w h = tt
@@ -51,13 +47,13 @@ module _ (left right : List ℤ) (sources : List ℕ) (c : Pair) (t : Terms) (is
       ap (λ n. zip_with term (take n t.coefs) (take n t.sources)) is.count
       ∙ ap₂ (λ l s. zip_with term l (take (length left) s)) is.coefficients is.sources_are
 
-  pub sum_good : (bytes : List ℕ) (count : ℕ) → Rows left right → Scored c → Merges left right c → Stored bytes count (take (length left) sources) → GoodTerms count t
-  sum_good bytes count r s m h =
+  pub sum_good : (count : ℕ) → Rows left right → Scored c → Merges left right c → AllBelow count (take (length left) sources) → GoodTerms count t
+  sum_good count r s m h =
       let near : Within 31 cs = λ i. omega (arith, within_total cs i, span_table cs, m.span_is, s.narrow) in
       record {
         few = rw is.count r.few;
         near = rw (is.constant, abs_neg c.low) s.low_small;
-        fine = rw terms_are (fine_zip count cs (take (length left) sources) near h.near);
+        fine = rw terms_are (fine_zip count cs (take (length left) sources) near h);
       }
 
   -- with many tables a sum, the sum is the one of the pair's cone

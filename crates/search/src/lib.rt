@@ -9,8 +9,9 @@ ghost use Rattle.merged_rows.specs.EnergyRows.{Small};
 ghost use Rattle.merged_rows.specs.EnergyMoments.{by_moments};
 ghost use Rattle.scale_pair.specs.Pair.{Rows, Scaling};
 ghost use Rattle.search.specs.Policies.{one_pair, ranges_of, Attempted, Finds};
-ghost use Rattle.nodes.specs.View.{store_of};
-ghost use Rattle.search.specs.Reuse.{Stored, SumOf};
+ghost use Rattle.cone.specs.Sources.{AllBelow};
+ghost use Rattle.nodes.specs.Store.{store_of};
+ghost use Rattle.search.specs.Reuse.{SumOf};
 ghost use Rattle.search.specs.Options.{option_by};
 ghost use Rattle.search.specs.Search.{context, considered as consideredBy, energy_by, reuse_of, step_at, entered_from, Levels, Ready, Weighs, InSpans, Scored, Merges};
 ghost use Rattle.search.specs.Walk.{walk};
@@ -18,7 +19,8 @@ ghost use Rattle.search.specs.Walk.{walk};
 use compose::Basis;
 use cone::weights::weights_of;
 use merged_rows::energy::Moments;
-use nodes::record::Terms;
+use nodes::store::Store;
+use nodes::terms::Terms;
 use rules::{Policy, Settings};
 use scale_pair::pair::{Pair, candidate_at, level, prepare_coefficients};
 use scale_pair::score::{Rank, Score, better};
@@ -99,14 +101,13 @@ fn reuse_cost(
     left: &[i64],
     right: &[i64],
     sources: [usize; 11],
-    nodes: &[u8; 27552],
-    count: usize,
+    store: &Store,
     c: Pair,
 ) -> usize
-    requires { Rows left.now right.now × (Scored c × (Merges left.now right.now c × Stored nodes.now count (take (length left.now) sources))) }
-    ensures { (m : Moments) → result ≡ reuse_of (context s (store_of nodes.now count) (take (length left.now) sources) left.now right.now m) c }
+    requires { Rows left.now right.now × (Scored c × (Merges left.now right.now c × AllBelow (length (store_of store.now)) (take (length left.now) sources))) }
+    ensures { (m : Moments) → result ≡ reuse_of (context s (store_of store.now) (take (length left.now) sources) left.now right.now m) c }
 {
-    if s.many && lut::reuse::has_bootstrap(nodes, count, sum_of(left, right, sources, c)) {
+    if s.many && lut::reuse::has_bootstrap(store, sum_of(left, right, sources, c)) {
         0
     } else {
         1
@@ -129,19 +130,18 @@ fn considered(
     left: &[i64],
     right: &[i64],
     sources: [usize; 11],
-    nodes: &[u8; 27552],
-    count: usize,
+    store: &Store,
     c: Pair,
     known: [u8; 32],
 ) -> Option<Score>
-    requires { Rows left.now right.now × (Small m × (Scored c × (Merges left.now right.now c × (Stored nodes.now count (take (length left.now) sources) × Entries known)))) }
-    ensures { result ≡ consideredBy (context s (store_of nodes.now count) (take (length left.now) sources) left.now right.now m) c best (some known) }
+    requires { Rows left.now right.now × (Small m × (Scored c × (Merges left.now right.now c × (AllBelow (length (store_of store.now)) (take (length left.now) sources) × Entries known)))) }
+    ensures { result ≡ consideredBy (context s (store_of store.now) (take (length left.now) sources) left.now right.now m) c best (some known) }
 {
     if !is_completable(known, c.span, s.p) {
         return best;
     }
     let rank = Rank {
-        reuse: reuse_cost(s, left, right, sources, nodes, count, c),
+        reuse: reuse_cost(s, left, right, sources, store, c),
         span: c.span,
         norm: c.norm,
         energy: energy_of(m, c),
@@ -160,14 +160,13 @@ pub fn search(
     right: &[i64],
     weights: &[u8; 11],
     sources: [usize; 11],
-    nodes: &[u8; 27552],
-    count: usize,
+    store: &Store,
     xs: &[i32],
     ys: &[i32],
     truth: &[u8],
 ) -> Option<Score>
-    requires { Ready s left.now right.now xs.now ys.now truth.now m × (InSpans r × (Stored nodes.now count (take (length left.now) sources) × Weighs (store_of nodes.now count) (take (length left.now) sources) weights.now)) }
-    ensures { result ≡ walk (step_at (context s (store_of nodes.now count) (take (length left.now) sources) left.now right.now m) xs.now ys.now truth.now r.origin) r.start (r.end - r.start) r.bottom (r.top - r.bottom) None }
+    requires { Ready s left.now right.now xs.now ys.now truth.now m × (InSpans r × (AllBelow (length (store_of store.now)) (take (length left.now) sources) × Weighs (store_of store.now) (take (length left.now) sources) weights.now)) }
+    ensures { result ≡ walk (step_at (context s (store_of store.now) (take (length left.now) sources) left.now right.now m) xs.now ys.now truth.now r.origin) r.start (r.end - r.start) r.bottom (r.top - r.bottom) None }
 {
     let mut best = None;
     for u in r.bottom..r.top {
@@ -184,7 +183,7 @@ pub fn search(
                 }
                 known[at] = truth[i];
             }
-            best = considered(best, s, m, left, right, sources, nodes, count, c, known);
+            best = considered(best, s, m, left, right, sources, store, c, known);
         }
     }
     best
@@ -210,26 +209,25 @@ fn ranges_of(same: bool, policy: Policy, left: usize, right: usize) -> Ranges
 }
 
 // find_candidate: for two cones of these spans laid over their sources together, the score of the best scale pair.
-// Asks for rows that are rows of both tables, and what the node store asks for.
+// Asks for rows that are rows of both tables, and sources that are nodes of the store.
 pub fn find_candidate(
     s: Settings,
     first: usize,
     second: usize,
     basis: Basis,
     m: Moments,
-    nodes: &[u8; 27552],
-    count: usize,
+    store: &Store,
     xs: &[i32],
     ys: &[i32],
     truth: &[u8],
 ) -> Option<Score>
-    requires { (basis.n ≤ 11) × ((first ≤ 32) × ((second ≤ 32) × (Ready s (take basis.n basis.left) (take basis.n basis.right) xs.now ys.now truth.now m × Stored nodes.now count (take basis.n basis.support)))) }
-    ensures { (left right : Cone) (all counts : List ℕ) → Attempted left right all counts basis first second xs.now ys.now truth.now m → Finds s (store_of nodes.now count) left right all result }
+    requires { (basis.n ≤ 11) × ((first ≤ 32) × ((second ≤ 32) × (Ready s (take basis.n basis.left) (take basis.n basis.right) xs.now ys.now truth.now m × AllBelow (length (store_of store.now)) (take basis.n basis.support)))) }
+    ensures { (left right : Cone) (all counts : List ℕ) → Attempted left right all counts basis first second xs.now ys.now truth.now m → Finds s (store_of store.now) left right all result }
 {
     let left = &basis.left[..basis.n];
     let right = &basis.right[..basis.n];
     let r = ranges_of(left == right, s.policy, first, second);
-    let weights = weights_of(nodes, &basis.support[..basis.n]);
+    let weights = weights_of(store, &basis.support[..basis.n]);
     search(
         s,
         r,
@@ -238,8 +236,7 @@ pub fn find_candidate(
         right,
         &weights,
         basis.support,
-        nodes,
-        count,
+        store,
         xs,
         ys,
         truth,

@@ -4,14 +4,17 @@
 
 mod search;
 
-ghost use Rattle.std.specs.Prelude.{◌≡◌, true};
-ghost use Rattle.rules.specs.Network.{is_linear, node_at};
+ghost use Rattle.std.specs.Prelude.{◌≡◌, ◌≤◌, nat_abs};
+ghost use Rattle.rules.specs.Network.{Linear, node_at};
 ghost use Rattle.rules.specs.SumReading.{reading_at, sum_reading, sum_reply, sum_answer};
-ghost use Rattle.nodes.specs.View.{node_of, store_of, IsNode, IsStore};
+ghost use Rattle.nodes.specs.Store.{store_of};
+ghost use Rattle.nodes.specs.View.{terms_seen};
+ghost use Rattle.sum_reading.specs.Nodes.{GoodTerms};
 ghost use Rattle.sum_reading.specs.Reply.{FewShown};
 
-use crate::search::{coefs_of, first_row, shown, wide};
-use nodes::node::{Kind, constant_of, kind_of, size_of};
+use crate::search::{coefs_of, first_row, shown};
+use nodes::node::{LutNode, Term};
+use nodes::store::Store;
 use rules::{Reason, Refusal, Shown};
 
 // The chosen node is no `lin`; no line.
@@ -20,38 +23,31 @@ const NO_SUM: Refusal = Refusal {
     line: 0,
 };
 
-// Node i, a sum.
-fn reading_on(nodes: &[u8; 27552], i: usize, value: i32) -> Option<Shown>
-    requires { IsNode nodes.now i × (is_linear (node_of nodes.now i) ≡ true) }
+// A sum of this constant and these terms.
+fn reading_on(constant: i8, terms: &[Term], value: i32) -> Option<Shown>
+    requires near { nat_abs constant ≤ 31 }
+    requires good { GoodTerms terms.now }
     ensures few { FewShown (Ok result) }
-    ensures is { sum_reply (Ok result) ≡ sum_answer (reading_at (node_of nodes.now i) value) }
+    ensures is { sum_reply (Ok result) ≡ sum_answer (reading_at (Linear constant (terms_seen terms.now)) value) }
 {
-    let n = size_of(nodes, i);
-    let coefs = coefs_of(nodes, i, n);
-    let wanted = wide(value);
-    let rest = wanted - constant_of(nodes, i);
-    let row = first_row(coefs, n, rest);
-    shown(n, row)
+    let wanted = value as i64 - constant as i64;
+    let row = first_row(&coefs_of(terms), wanted);
+    shown(terms.len(), row)
 }
 
 // The node of a number, where there is one.
-fn reading_at(
-    nodes: &[u8; 27552],
-    count: usize,
-    node: usize,
-    value: i32,
-) -> Result<Option<Shown>, Refusal>
-    requires { IsStore nodes.now count }
+#[tactic(auto, using(crate::specs::Nodes::refusing), unfolding(nodes::specs::View::lut_node))]
+fn reading_at(store: &Store, node: usize, value: i32) -> Result<Option<Shown>, Refusal>
     ensures few { FewShown result }
-    ensures is { sum_reply result ≡ sum_answer (reading_at (node_at (store_of nodes.now count) node) value) }
+    ensures is { sum_reply result ≡ sum_answer (reading_at (node_at (store_of store.now) node) value) }
 {
-    if count <= node {
+    if store.len() <= node {
         return Err(NO_SUM);
     }
-    match kind_of(nodes, node) {
-        Kind::Input => Err(NO_SUM),
-        Kind::Linear => Ok(reading_on(nodes, node, value)),
-        Kind::Bootstrap => Err(NO_SUM),
+    match store.node(node) {
+        LutNode::Input { .. } => Err(NO_SUM),
+        LutNode::Linear { constant, terms } => Ok(reading_on(*constant, terms, value)),
+        LutNode::Bootstrap { .. } => Err(NO_SUM),
     }
 }
 
@@ -61,7 +57,6 @@ pub fn sum_reading(text: &[u8], node: usize, value: i32) -> Result<Option<Shown>
     ensures few { FewShown result }
     ensures is { sum_reply result ≡ sum_answer (sum_reading text.now node value) }
 {
-    let mut nodes = [0u8; 27552];
-    let w = network::read(text, true, &mut nodes)?;
-    reading_at(&nodes, w.count, node, value)
+    let w = network::read(text, true)?;
+    reading_at(&w.store, node, value)
 }

@@ -1,36 +1,32 @@
 // All assignments of a sum's terms, and the first that gives a value.
-ghost use Rattle.std.specs.Prelude.{◌≡◌, ◌≤◌, ◌<◌, length, take, replicate};
-ghost use Rattle.laws.specs.Digits.{bit, digits};
+ghost use Rattle.std.specs.Prelude.{◌≡◌, ◌≤◌, ◌<◌, length, replicate};
+ghost use Rattle.laws.specs.Digits.{digits};
 ghost use Rattle.laws.specs.Over.{over};
 ghost use Rattle.rules.specs.Cone.{linear_table};
-ghost use Rattle.rules.specs.Store.{terms_of};
 ghost use Rattle.rules.specs.SumReading.{shown, sum_reply, sum_answer};
 ghost use Rattle.theorems.specs.Terms.{coefs};
 ghost use Rattle.scale.specs.Limits.{Within};
-ghost use Rattle.nodes.specs.View.{node_of, IsNode};
+ghost use Rattle.nodes.specs.View.{terms_seen};
+ghost use Rattle.sum_reading.specs.Nodes.{GoodTerms};
 ghost use Rattle.sum_reading.specs.Reply.{FewShown};
 ghost use Rattle.sum_reading.specs.Rows.{first_place, row_reading};
 
-use linear::{rows_of, values_of};
-use nodes::node::coef_of;
+use arrayvec::ArrayVec;
+use linear::rows_of;
+use nodes::node::Term;
 use rules::Shown;
 
-// The coefficients of node i's n terms; 0 behind them.
-pub fn coefs_of(nodes: &[u8; 27552], i: usize, n: usize) -> [i64; 11]
-    requires { IsNode nodes.now i × (n ≤ 11) × (n ≡ length (terms_of (node_of nodes.now i))) }
-    ensures { take n result ≡ coefs (terms_of (node_of nodes.now i)) }
+// The terms' coefficients.
+#[tactic(auto, using(crate::specs::Nodes::coefs_none, crate::specs::Nodes::coefs_done))]
+pub fn coefs_of(terms: &[Term]) -> ArrayVec<i64, 11>
+    requires { GoodTerms terms.now }
+    ensures { result.items ≡ coefs (terms_seen terms.now) }
 {
-    let mut coefs = [0i64; 11];
-    for k in 0..n {
-        coefs[k] = coef_of(nodes, i, k);
+    let mut coefs = ArrayVec::new();
+    for term in terms {
+        coefs.push(term.coef as i64);
     }
     coefs
-}
-
-pub fn wide(v: i32) -> i64
-    ensures { result ≡ v }
-{
-    v as i64
 }
 
 // Where a value stands first; as many as there are where it does not. A loop, since `position` was tried and its proof did not close:
@@ -38,8 +34,8 @@ pub fn wide(v: i32) -> i64
 fn first_place(values: &[i32], wanted: i64) -> usize
     ensures { result ≡ first_place wanted values.now }
 {
-    for i in 0..values.len() {
-        if wide(values[i]) == wanted {
+    for (i, &value) in values.iter().enumerate() {
+        if value as i64 == wanted {
             return i;
         }
     }
@@ -47,21 +43,13 @@ fn first_place(values: &[i32], wanted: i64) -> usize
 }
 
 // The number of the first assignment that gives a value; as many as there are where none does.
-pub fn first_row(coefs: [i64; 11], n: usize, wanted: i64) -> usize
-    requires { (n ≤ 11) × Within 1984 (take n coefs) }
-    ensures { result ≡ first_place wanted (linear_table (take n coefs)) }
+pub fn first_row(coefs: &[i64], wanted: i64) -> usize
+    requires { (length coefs.now ≤ 11) × Within 1984 coefs.now }
+    ensures { result ≡ first_place wanted (linear_table coefs.now) }
 {
     let mut table = [0i32; 2048];
-    values_of(coefs, n, &mut table);
-    let rows = rows_of(n);
-    first_place(&table[..rows], wanted)
-}
-
-fn digit(row: usize, k: usize) -> u8
-    requires { k < 64 }
-    ensures { result ≡ bit k row }
-{
-    ((row >> k) % 2) as u8
+    linear::linear_table(coefs, &mut table);
+    first_place(&table[..rows_of(coefs.len())], wanted)
 }
 
 // The bits of an assignment's number, the first term's the highest.
@@ -71,7 +59,7 @@ fn bits_of(n: usize, row: usize) -> [u8; 11]
 {
     let mut bits = [0u8; 11];
     for k in 0..n {
-        bits[k] = digit(row, n - 1 - k);
+        bits[k] = ((row >> (n - 1 - k)) % 2) as u8;
     }
     bits
 }

@@ -2,7 +2,6 @@
 use Rattle.std.specs.Prelude.{◌≡◌, refl, Bool, true, false, not, cond, ◌||◌, Option, Some, None, MatchOption, ℕ, suc, ◌+◌, ◌≤◌, ◌<◌, ltb, eqb, count_by, ℤ, pos, get_or, drop}
 use Rattle.std.specs.List.{list_any, position_or_len}
 use Rattle.std.specs.List.{position as first_place}
-use Rattle.std.specs.Option.{unwrap_or}
 use Rattle.std.proofs.Common.{ap, ap₂, ◌∙◌, add-one, drop_of_length-le, length-append, drop-cons, ltb-true, ltb-false}
 use Rattle.std.proofs.lemmas.List.Sums.{sum_by-cons}
 use mathlib.Core.List.{List, [], ◌∷◌, ◌++◌, zip_with}
@@ -38,13 +37,6 @@ placed l n r e = rw (e, found l n) (by (ltb (position l n) (length l)) refl)
   where
     by : (t : Bool) → ltb (position l n) (length l) ≡ t → MatchOption (cond t (Some (position l n)) None) (position l n ≡ length l) (λ i. (i ≡ position l n) × (i < length l))
     by true h = (refl, ltb-true _ _ h)
-    by false h = omega (arith, ltb-false _ _ h, position_le l n)
-
-pub position_is : (l : List ℕ) (n : ℕ) → unwrap_or (first_place (λ m. eqb m n) l) (length l) ≡ position l n
-position_is l n = rw (found l n) (by (ltb (position l n) (length l)) refl)
-  where
-    by : (t : Bool) → ltb (position l n) (length l) ≡ t → unwrap_or (cond t (Some (position l n)) None) (length l) ≡ position l n
-    by true h = refl
     by false h = omega (arith, ltb-false _ _ h, position_le l n)
 
 -- ---- the right sources that are no left ones

@@ -6,9 +6,9 @@ ghost use Rattle.std.specs.List.{position as first_place};
 ghost use Rattle.rules.specs.Composition.{union_support};
 ghost use Rattle.rules.specs.Store.{coefficient_of};
 ghost use Rattle.theorems.specs.Terms.{terms_over};
-ghost use Rattle.support.specs.Rows.{position, hit_mask, toggle_mask};
+ghost use Rattle.support.specs.Rows.{hit_mask, toggle_mask};
 
-// The sources of a cone, or of two together: the first n; 0 past them.
+// The sources of a cone, or of two together: the first n; 0 past them. No ArrayVec, since compose's Basis has one count for three such arrays.
 #[derive(Clone, Copy)]
 pub struct Support {
     pub n: usize,
@@ -20,13 +20,6 @@ fn place(nodes: &[usize], node: usize) -> Option<usize>
     ensures { result ≡ first_place (λ n. n == node) nodes.now }
 {
     nodes.iter().position(|&n| n == node)
-}
-
-// The same as a number, as many as there are where it does not stand: so the definition `position` has it, which the test program vectors_cones goes by.
-pub fn position(nodes: &[usize], node: usize) -> usize
-    ensures { result ≡ position nodes.now node }
-{
-    place(nodes, node).unwrap_or(nodes.len())
 }
 
 // union_support_size

@@ -8,4 +8,3 @@ pub mod Cap
 pub mod Number
 pub mod Decimal
 pub mod Name
-pub mod Same

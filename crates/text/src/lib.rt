@@ -26,13 +26,6 @@ pub fn read_word<'a>(s: &'a [u8], w: &[u8]) -> Option<&'a [u8]>
     s.strip_prefix(w)
 }
 
-#[tactic(auto, unfolding(rules::specs::Form::is_digit))]
-fn is_digit(b: u8) -> bool
-    ensures { result ≡ is_digit b }
-{
-    b.is_ascii_digit()
-}
-
 #[tactic(auto, unfolding(rules::specs::Form::is_name_byte))]
 fn is_name_byte(b: u8) -> bool
     ensures { result ≡ is_name_byte b }
@@ -101,10 +94,11 @@ pub fn read_bits(s: &[u8]) -> Option<(&[u8], &[u8])>
 }
 
 // The digits of a number: 0, or digits without a leading zero.
+#[tactic(auto, unfolding(rules::specs::Form::is_digit))]
 pub fn read_digits(s: &[u8]) -> Option<(&[u8], &[u8])>
     ensures { part result ≡ run_of is_digit is_number s.now }
 {
-    read_run(s, is_digit, is_number)
+    read_run(s, |b| b.is_ascii_digit(), is_number)
 }
 
 // The value of some digits, up to 65536.

@@ -13,7 +13,7 @@ use Rattle.rules.specs.Edition2.{Line2, Plain, Many, line2, text_conditions2, sa
 use Rattle.rules.specs.Form.{Condition, Reading, Good, Refused}
 use Rattle.rules.specs.CircuitText.{CircuitLine, FbsLine, InLine, GateLine, OutLine, Prefix, circuit_line, conditions, with_line, ended, with_settings, nothing}
 use Rattle.rules.specs.Network.{Input, Linear, Bootstrap, Network, member, stats}
-use Rattle.rules.specs.NetworkText.{Net, NetworkLine, NetLine, NodeLine, NetPrefix, started, network_line, text_conditions, safety_conditions, admission_conditions, with_network_line, with_net, network_ended, no_network, read_network, read_admitted}
+use Rattle.rules.specs.NetworkText.{Net, NetworkLine, NetLine, NodeLine, NetPrefix, started, network_line, text_conditions, safety_conditions, admission_conditions, with_network_line, with_net, network_ended, no_network}
 use Rattle.theorems.specs.Refusals.{Kind, Holds, First}
 use Rattle.theorems.specs.Readings.{LowestFirst, NoneMet, Regular, numbers, holds_one_of}
 use Rattle.rules.specs.NetworkText as NetworkText

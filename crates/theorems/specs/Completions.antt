@@ -1,8 +1,8 @@
 -- Known entries and their completions: one of the three is found exactly where some completion can be rotated, and the pair test on known entries tells.
 use Rattle.std.specs.Prelude.{◌≡◌, refl, Bool, true, ◌||◌, ◌⊎◌, ◌≢◌, ℕ, zero, suc, ◌+◌, ◌*◌, ◌-◌, ◌<◌, ◌≤◌, leb, ltb}
-use Rattle.std.proofs.Math.Path.{sym, ap₂, subst}
-use Rattle.std.proofs.Common.{ap, ◌∙◌, inl, inr, ⊎_elim, add-one, arith}
-use Rattle.std.proofs.Math.Bool.{false, ◌&&◌}
+use Rattle.std.proofs.Math.Path.{sym, subst}
+use Rattle.std.proofs.Common.{ap, ◌∙◌, inl, inr, ⊎_elim, arith}
+use Rattle.std.proofs.Math.Bool.{false}
 use mathlib.Core.List.{List}
 use Rattle.std.proofs.Math.Option.{Option, none, some}
 use borrow.Author.Tests.{lt-ltb, le-ltb, le-leb, lt-leb, eq-eqb, ne_eqb}
@@ -10,8 +10,7 @@ use Rattle.std.proofs.Math.Dec.{T}
 use Rattle.std.proofs.Math.ListN.{length, get_or, get_or-map}
 use Rattle.std.proofs.lemmas.List.{length-map}
 use Rattle.laws.specs.Tabulate.{tabulate-at, tabulate-length}
-use Rattle.laws.specs.Test.{if◌then◌otherwise◌, is_some, lt_or_le, eq-or-ne, T-is, T-not_is, is_T, decide, if_both, allb, allb-at, allb-all, allb_none, neither_left, neither_right}
-use Rattle.rules.specs.declared.Entry.{Entry}
+use Rattle.laws.specs.Test.{if◌then◌otherwise◌, is_some, lt_or_le, eq-or-ne, T-is, T-not_is, is_T, decide, if_both, allb-at, allb-all}
 use Rattle.rules.specs.Rotation.{pair_sum, rotatable}
 use Rattle.rules.specs.Builder.{Entries, known_or, filled, against, opposed_at, opposed, completion, completable, entry_of, remains, remains_at, remains_for_all}
 use Rattle.rules.specs.Runs.{all_bits}
@@ -142,53 +141,7 @@ opposed_high P known i k h =
     ∙ opposed_at_high P known (i + P) (omega arith) (omega arith)
     ∙ ap (λ j. against 1 (get_or known j 0) (get_or known (i + P) 0)) e
 
--- ---- the sums that remain for every pair, by the tests of a loop over the pairs
-allb_next : (n : ℕ) (f : ℕ → Bool) → allb (n + 1) f ≡ (f n && allb n f)
-unfolding allb
-allb_next n f = rw add-one
-
-allb-less : (i n : ℕ) (f : ℕ → Bool) → i ≤ n → allb i f ≡ false → allb n f ≡ false
-allb-less i n f h e = T-not_is (allb n f) (λ t. subst T e (allb-all i f (λ k l. allb-at n f t k (omega arith))))
-
--- those of 0, 1 and 2 that remain for each pair before i
-pub record SumsTo (P : ℕ) (known : List ℕ) (i : ℕ) (a b c : Bool) : Type 0 where
-  pub zeros : a ≡ allb i (remains_at 0 P known)
-  pub ones : b ≡ allb i (remains_at 1 P known)
-  pub twos : c ≡ allb i (remains_at 2 P known)
-
--- those that remain for all pairs
-abbrev pub SumsLeft : (P : ℕ) (known : List ℕ) (a b c : Bool) → Type 0
-SumsLeft P known a b c = (a ≡ remains_for_all 0 P known) × (b ≡ remains_for_all 1 P known) × (c ≡ remains_for_all 2 P known)
-
-module _ (P : ℕ) (known : List ℕ) where
-  pub sums_none : SumsTo P known 0 true true true
-  sums_none = record { zeros = sym (allb_none _); ones = sym (allb_none _); twos = sym (allb_none _) }
-
-  module _ (i : ℕ) (a b c : Bool) (l : SumsTo P known i a b c) where
-    -- the pair i has the entries x and y, for which u, v and w remain
-    pub sums_more : (x y : Entry) (u v w p q r : Bool) → x ≡ entry_of (get_or known i 0) → y ≡ entry_of (get_or known (i + P) 0)
-        → (u ≡ remains 0 x y) × (v ≡ remains 1 x y) × (w ≡ remains 2 x y) → (p ≡ (u && a)) × (q ≡ (v && b)) × (r ≡ (w && c)) → SumsTo P known (i + 1) p q r
-    unfolding remains_at
-    sums_more x y u v w p q r e f here is =
-        record { zeros = more 0 here.0 l.zeros is.0; ones = more 1 here.1 l.ones is.1; twos = more 2 here.2 l.twos is.2 }
-      where
-        more : (s : ℕ) {m n o : Bool} → m ≡ remains s x y → n ≡ allb i (remains_at s P known) → o ≡ (m && n) → o ≡ allb (i + 1) (remains_at s P known)
-        more s g h j = j ∙ ap₂ ◌&&◌ (g ∙ ap₂ (remains s) e f) h ∙ sym (allb_next i (remains_at s P known))
-
-    pub sums_all : i ≡ length known - P → SumsLeft P known a b c
-    unfolding remains_for_all
-    sums_all e = rw (← e) (l.zeros, l.ones, l.twos)
-
-    -- where none is left, none remains for every pair
-    pub sums_gone : i ≤ length known - P → (a || b || c) ≡ false → SumsLeft P known a b c
-    unfolding remains_for_all
-    sums_gone h e =
-        let front = neither_left (a || b) c e in
-        (gone 0 l.zeros (neither_left a b front), gone 1 l.ones (neither_right a b front), gone 2 l.twos (neither_right (a || b) c e))
-      where
-        gone : (s : ℕ) {u : Bool} → u ≡ allb i (remains_at s P known) → u ≡ false → u ≡ allb (length known - P) (remains_at s P known)
-        gone s is e = e ∙ sym (allb-less i (length known - P) (remains_at s P known) h (sym is ∙ e))
-
+-- ---- the sums that remain for every pair
 module _ (P : ℕ) (known : List ℕ) (entries : Entries known) (short : length known ≤ 2 * P) where
   remains-at : (s : ℕ) → T (remains_for_all s P known) → (i : ℕ) → i < length known - P → T (remains s (entry_of (get_or known i 0)) (entry_of (get_or known (i + P) 0)))
   unfolding remains_for_all remains_at
@@ -355,11 +308,14 @@ module _ (P : ℕ) (known : List ℕ) where
             not-one (pair_sum P w.0 0) (sum_bound P known w.0 is.0 is.1 h) (sum-remains_for_all P known w.0 is.0 is.1)
 
     -- there is a completion that can be rotated exactly when one of the three sums remains for every pair
-    pub completable-left : (a b c : Bool) → SumsLeft P known a b c → P < length known → (a || b || c) ≡ completable P known
-    completable-left true b c l h = sym (completable-remains 0 (omega arith) (sym l.0))
-    completable-left false true c l h = sym (completable-remains 1 (omega arith) (sym l.1))
-    completable-left false false true l h = sym (completable-remains 2 (omega arith) (sym l.2))
-    completable-left false false false l h = sym (completable_none h (sym l.0) (sym l.1) (sym l.2))
+    pub completable-left : P < length known → (remains_for_all 0 P known || remains_for_all 1 P known || remains_for_all 2 P known) ≡ completable P known
+    completable-left h = by (remains_for_all 0 P known) (remains_for_all 1 P known) (remains_for_all 2 P known) refl refl refl
+      where
+        by : (a b c : Bool) → remains_for_all 0 P known ≡ a → remains_for_all 1 P known ≡ b → remains_for_all 2 P known ≡ c → (a || b || c) ≡ completable P known
+        by true b c e f g = sym (completable-remains 0 (omega arith) e)
+        by false true c e f g = sym (completable-remains 1 (omega arith) f)
+        by false false true e f g = sym (completable-remains 2 (omega arith) g)
+        by false false false e f g = sym (completable_none h e f g)
 
 -- ---- a table without unknowns, judged as known entries: four of the nine cases
 pub full_entries : (t : List ℕ) → T (all_bits t) → Entries t

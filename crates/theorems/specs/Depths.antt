@@ -78,7 +78,7 @@ depth-stays nodes more i l =
     ap (λ d. get_or d i 0) (depths-append [] nodes more) ∙ depths-front (depths_from [] nodes) more i (omega (arith, depths_long [] nodes))
 
 -- one more node has the depth that its sources give
-depths_snoc : (nodes : List LutNode) (x : LutNode) → depths (nodes ++ (x ∷ [])) ≡ depths nodes ++ (node_depth (depth nodes) x ∷ [])
+pub depths_snoc : (nodes : List LutNode) (x : LutNode) → depths (nodes ++ (x ∷ [])) ≡ depths nodes ++ (node_depth (depth nodes) x ∷ [])
 unfolding depth depths depths_from
 depths_snoc nodes x = depths-append [] nodes (x ∷ [])
 

@@ -1,6 +1,6 @@
 -- A node interned: it is among the nodes at its number, and the nodes have grown by that node or not at all.
-use Rattle.std.specs.Prelude.{◌≡◌, refl, true, ◌&&◌, Bool, false, List, [], ◌∷◌, ◌++◌, ◌⊎◌, ℕ, suc, ◌<◌, ◌≤◌, ◌+◌, eqb, length, drop}
-use Rattle.std.proofs.Common.{ap₂, ap, sym, inl, inr, ⊎_elim, not-suc-le-zero, le_of_suc-le-suc, arith, eq-eqb, eqb-true, lt-ltb, le-ltb, add-one, length-append, drop_of_length-le}
+use Rattle.std.specs.Prelude.{◌≡◌, refl, true, ◌&&◌, Bool, false, List, [], ◌∷◌, ◌++◌, ◌⊎◌, suc, ◌<◌, ◌≤◌, ◌+◌, eqb, length}
+use Rattle.std.proofs.Common.{ap₂, ap, sym, inl, inr, ⊎_elim, not-suc-le-zero, le_of_suc-le-suc, arith, eq-eqb, eqb-true, lt-ltb, le-ltb, length-append}
 use Rattle.laws.specs.Integer.{eq_z_of, eq_z, eq_z_true}
 use Rattle.laws.specs.Test.{zero≢one, both_left, both_right, if◌then◌otherwise◌, lt_or_le}
 use Rattle.rules.specs.Network.{Term, LutNode, Input, Linear, Bootstrap, count, is_linear, node_at}
@@ -8,7 +8,6 @@ use Rattle.rules.specs.Store.{same_terms, same_node, number_of, intern}
 use Rattle.rules.specs.CircuitText.{same_name}
 use Rattle.theorems.specs.Names.{name_self, name_is}
 use Rattle.theorems.specs.Counts.{count_snoc}
-use Rattle.theorems.specs.NodesAt.{drop-node}
 
 terms_self : (ts : List Term) → same_terms ts ts ≡ true
 unfolding same_terms
@@ -103,21 +102,6 @@ interned_sums x nodes =
     ⊎_elim (λ (h : intern x nodes ≡ nodes). omega (arith, ap (count is_linear) h))
     (λ (h : intern x nodes ≡ nodes ++ (x ∷ [])). omega (arith, ap (count is_linear) h, count_snoc is_linear nodes x))
     (interned x nodes).is
-
--- ---- A turn of a loop that looks for a node.
-
-module _ (n : LutNode) (ms : List LutNode) (i : ℕ) where
-  pub number_here : i < length ms → same_node n (node_at ms i) ≡ true → number_of n (drop i ms) ≡ 0
-  unfolding number_of
-  number_here h e = rw (drop-node ms i h, e)
-
-  pub number_on : i < length ms → same_node n (node_at ms i) ≡ false → number_of n (drop i ms) ≡ suc (number_of n (drop (i + 1) ms))
-  unfolding number_of
-  number_on h e = rw (drop-node ms i h, e, add-one)
-
-  pub number_end : length ms ≤ i → number_of n (drop i ms) ≡ 0
-  unfolding number_of
-  number_end h = rw (drop_of_length-le ms {i = i} h)
 
 -- a node that was not there stands last
 pub number-new : (n : LutNode) (ms : List LutNode) → length ms ≤ number_of n ms → number_of n (ms ++ (n ∷ [])) ≡ length ms

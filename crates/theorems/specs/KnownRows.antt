@@ -1,6 +1,6 @@
 -- Known entries by their places: a row's truth stands at its value, and an entry that no row has stays unknown.
-use Rattle.std.specs.Prelude.{◌≡◌, Bool, ◌||◌, ◌≢◌, eqb, ℤ, ◌-ℤ◌, length, take, set, replicate}
-use Rattle.std.proofs.Math.Path.{refl, sym, ap}
+use Rattle.std.specs.Prelude.{◌≡◌, Bool, ◌≢◌, eqb, ℤ, ◌-ℤ◌, length, take, set, replicate}
+use Rattle.std.proofs.Math.Path.{sym, ap}
 use Rattle.std.proofs.Common.{◌∙◌, not-suc-le-zero, le_of_suc-le-suc, eq-eqb, ne_eqb, ext_get_or, length-take-le, get_or-take}
 use Rattle.std.proofs.Math.Bool.{true, false, true≢false}
 use mathlib.Core.List.{List, [], ◌∷◌}
@@ -33,16 +33,6 @@ module _ (low : ℤ) where
       (λ (e : nat_abs (v -ℤ low) ≡ j). (0, omega arith, e))
       (λ e. let r = hit_row values j (rw (ne_eqb (nat_abs (v -ℤ low)) j e) at h) in (suc r.0, omega (arith, r.1), r.2))
       (eq-or-ne (nat_abs (v -ℤ low)) j)
-
-  pub row_hit : (values : List ℤ) (i : ℕ) → i < length values → hits low values (offset low values i) ≡ true
-  unfolding hits any is_at
-  row_hit [] i h = absurd (not-suc-le-zero h)
-  row_hit (v ∷ values) zero h = rw (eq-eqb (nat_abs (v -ℤ low)) (nat_abs (v -ℤ low)) refl)
-  row_hit (v ∷ values) (suc i) h = either (is_at low (offset low values i) v) (row_hit values i (le_of_suc-le-suc h))
-    where
-      either : (a : Bool) → any (is_at low (offset low values i)) values ≡ true → (a || any (is_at low (offset low values i)) values) ≡ true
-      either true r = refl
-      either false r = r
 
 -- ---- what entering rows does to an entry
 module _ (low : ℤ) where

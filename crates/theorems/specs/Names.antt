@@ -1,11 +1,20 @@
 -- Names that are the same, and the names of the inputs among nodes.
-use Rattle.std.specs.Prelude.{◌≡◌, refl, true, false, List, [], ◌∷◌, ◌++◌, map, ℕ, eqb, length}
+use Rattle.std.specs.Prelude.{◌≡◌, refl, true, false, List, [], ◌∷◌, ◌++◌, map, ℕ, ◌&&◌, eqb, length}
 use Rattle.std.proofs.Common.{ap₂, sym, ap, ◌∙◌, true≢false, ⊎_elim, arith, eq-eqb, eqb-true}
+use lib.Pointwise.{pointwise}
 use Rattle.laws.specs.Test.{zero≢one, both_left, both_right, decide}
 use Rattle.rules.specs.CircuitText.{same_name}
 use Rattle.rules.specs.Circuit.{Name, Given, given_names}
 use Rattle.rules.specs.Network.{LutNode, Input, Linear, Bootstrap, is_input, count}
 use Rattle.rules.specs.NetworkText.{names, all_inputs}
+
+-- `==` of bytes is the definition's
+pub same_bytes : (w v : List ℕ) → pointwise eqb w v ≡ same_name w v
+unfolding same_name
+same_bytes [] [] = refl
+same_bytes [] (c ∷ v) = refl
+same_bytes (b ∷ w) [] = refl
+same_bytes (b ∷ w) (c ∷ v) = ap (λ r. eqb b c && r) (same_bytes w v)
 
 pub name_self : (w : List ℕ) → same_name w w ≡ true
 unfolding same_name

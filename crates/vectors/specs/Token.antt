@@ -1,5 +1,5 @@
 -- One number of a text.
-use Rattle.std.specs.Prelude.{Bool, ◌||◌, List, [], ◌∷◌, ℕ, ◌+◌, ◌*◌, ◌%◌, ◌-◌, ◌^◌, min, ltb, eqb, ℤ, pos, negsuc, neg_ℤ, get_or, drop, Option, None, Some, position}
+use Rattle.std.specs.Prelude.{Bool, ◌||◌, List, [], ◌∷◌, ℕ, ◌+◌, ◌*◌, ◌-◌, ◌^◌, min, ltb, eqb, ℤ, pos, negsuc, neg_ℤ, get_or, drop, Option, None, Some, position}
 use Rattle.std.specs.Char.{is_ascii_digit}
 use Rattle.laws.specs.Test.{if◌then◌otherwise◌}
 use Rattle.vectors.specs.declared.Token.{Token}
@@ -8,9 +8,9 @@ use Rattle.vectors.specs.declared.Token.{Token}
 abbrev pub starts_number : ℕ → Bool
 starts_number b = eqb b 45 || is_ascii_digit b
 
--- One digit more, which is the byte modulo 16; what does not fit is the largest value.
+-- One digit more; what does not fit is the largest value.
 abbrev pub with_digit : ℕ → ℕ → ℕ
-with_digit v b = min (10 * v + b % 16) (2 ^ 64 - 1)
+with_digit v b = min (10 * v + (b - 48)) (2 ^ 64 - 1)
 
 -- The digits in front of a text, behind those that make v, and what is left of it.
 pub record Read : Type 0 where

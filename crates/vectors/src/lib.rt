@@ -4,7 +4,7 @@
 ghost use Rattle.std.specs.Prelude.{◌≡◌, ◌<◌, ◌≤◌, length, position, OnSome};
 ghost use Rattle.std.specs.Iterator.{at_most};
 ghost use Rattle.vectors.specs.Numbers.{numbers, Filled};
-ghost use Rattle.vectors.specs.Token.{starts_number, with_digit, read, digits, next_token, told, signed_of};
+ghost use Rattle.vectors.specs.Token.{starts_number, read, digits, next_token, told, signed_of};
 
 use std::io::Read;
 
@@ -29,15 +29,6 @@ impl Token {
     }
 }
 
-// One digit more, whose low four bits are its value.
-fn with_digit(value: u64, digit: u8) -> u64
-    ensures { result ≡ with_digit value digit }
-{
-    value
-        .saturating_mul(10)
-        .saturating_add(u64::from(digit % 16))
-}
-
 // Where the next digit or minus stands.
 fn next_start(text: &[u8]) -> Option<usize>
     ensures { result ≡ position starts_number text.now }
@@ -50,12 +41,14 @@ fn number(text: &[u8]) -> (u64, &[u8])
     ensures read { read result.0 result.1.now ≡ digits 0 text.now }
     ensures shorter { length result.1.now ≤ length text.now }
 {
-    let mut value = 0;
+    let mut value = 0u64;
     let mut rest = text;
     while let [b, after @ ..] = rest
         && b.is_ascii_digit()
     {
-        value = with_digit(value, *b);
+        value = value
+            .saturating_mul(10)
+            .saturating_add(u64::from(*b - b'0'));
         rest = after;
     }
     (value, rest)
@@ -127,11 +120,7 @@ pub fn read_full<R: Read>(input: &mut R, buffer: &mut [u8]) -> usize
     ensures { result ≤ length buffer.new }
 {
     let mut done = 0;
-    while done < buffer.len() {
-        let got = input.read(&mut buffer[done..]).unwrap_or(0);
-        if got == 0 {
-            break;
-        }
+    while let got @ 1.. = input.read(&mut buffer[done..]).unwrap_or(0) {
         done += got;
     }
     done

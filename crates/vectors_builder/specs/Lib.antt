@@ -1,4 +1,3 @@
 -- What a case of the list says, and how a reply is shown.
 pub mod Shown
 pub mod Case
-pub mod Mapped

@@ -11,7 +11,7 @@ ghost use Rattle.vectors_builder.specs.Shown.{byte_of, shown_byte};
 use std::io;
 use vectors::{Token, Tokens};
 
-// The first `count` of these are the numbers of a list.
+// The first `count` of these are the numbers of a list. No ArrayVec: `fill` and `map` take the whole array, where it would want loops.
 #[derive(Drop)]
 struct Numbers {
     count: usize,
@@ -146,6 +146,7 @@ fn replay_all(rt: &impl Print, mut input: Tokens<'_>) -> io::Result<()> {
     Ok(())
 }
 
+// The replaying programs' `main`s are alike; a common one would only take `replay_all` as a closure.
 fn main(rt: HostRuntime) -> io::Result<()> {
     let mut buffer = [0u8; 65536];
     replay_all(&rt, Tokens::read(&mut rt.stdin(), &mut buffer))

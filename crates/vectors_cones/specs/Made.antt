@@ -2,7 +2,7 @@
 use Rattle.std.specs.Prelude.{◌≡◌, Bool, true, false, ℕ, ◌≤◌, ◌<◌, ◌^◌, ℤ, pos, nat_abs, replicate, eqb}
 use Rattle.std.specs.List.{list_any}
 use Rattle.std.proofs.Math.Path.{refl, sym, ap}
-use Rattle.std.proofs.Common.{◌∙◌, arith, pow_mono, length-take-le, get_or-take}
+use Rattle.std.proofs.Common.{◌∙◌, arith, length-take-le, get_or-take}
 use mathlib.Core.List.{List, [], ◌∷◌, map}
 use Rattle.std.proofs.Math.Option.{some, none}
 use Rattle.std.proofs.Math.ListN.{length, get_or, take, length-map}
@@ -14,21 +14,24 @@ use Rattle.rules.specs.Builder.{known_entries, enter}
 use Rattle.rules.specs.Composition.{union_support}
 use Rattle.rules.specs.Cone as rules
 use Rattle.rules.specs.Cone.{linear_table}
-use Rattle.rules.specs.Network.{member}
+use Rattle.rules.specs.Network.{LutNode, Input, member}
 use Rattle.rules.specs.NetworkText.{all_different}
 use Rattle.rules.specs.Span.{least, span}
 use Rattle.scale.specs.Limits.{Within}
+use Rattle.theorems.specs.Weights.{GoodWeight}
+use Rattle.nodes.specs.View.{given, Fine}
 use Rattle.theorems.specs.KnownRows.{known-hit, known_unhit}
 use Rattle.theorems.specs.Rows.{offset, known_exact}
 use Rattle.theorems.specs.Spans.{offset_lt}
 use Rattle.laws.specs.Lists.{map_at}
 use Rattle.cone.specs.declared.Cone.{Cone}
 use Rattle.compose.specs.declared.Basis.{Basis}
-use Rattle.compose.specs.Basis.{IsBasis, Room, coefficients_over, coefficients_over_within}
+use Rattle.compose.specs.Basis.{IsBasis, few_rows, coefficients_over, coefficients_over_within}
 use Rattle.linear.specs.Span.{within_total}
 use Rattle.theorems.specs.LinearTables.{span_table}
 use Rattle.theorems.specs.ConeValues.{linear_table-length}
 use Rattle.cone.specs.View.{cone_of, entry_at, truth_at, is_cone, IsCone, small}
+use Rattle.cone.specs.Sources.{Below}
 use Rattle.vectors_cones.specs.declared.rows.ConeRows.{ConeRows}
 
 -- the first node stands among the others, or not
@@ -56,14 +59,14 @@ pub record IsForm (n : ℕ) (support : List ℕ) (coefs : List ℤ) : Type 0 whe
   pub narrow : span (linear_table (take n coefs)) ≤ 32
 
 -- where each value has one truth, the entries at the values are the truths
-module _ (n : ℕ) (support : List ℕ) (coefs : List ℤ) (truth known : List ℕ) (form : IsForm n support coefs) (c11 : length coefs ≡ 11) (t2048 : length truth ≡ 2048)
+module _ (n : ℕ) (support : List ℕ) (coefs : List ℤ) (truth known : List ℕ) (form : IsForm n support coefs) (s11 : length support ≡ 11) (c11 : length coefs ≡ 11) (t2048 : length truth ≡ 2048)
     (one : known_entries (linear_table (take n coefs)) (take (2 ^ n) truth) ≡ some (take (span (linear_table (take n coefs))) known)) where
   rows_are : length (linear_table (take n coefs)) ≡ 2 ^ n
   rows_are = linear_table-length (take n coefs) ∙ ap (λ k. 2 ^ k) (length-take-le n coefs (omega (arith, form.few)))
 
   same : length (linear_table (take n coefs)) ≡ length (take (2 ^ n) truth)
   same =
-      let p : 2 ^ n ≤ 2048 = pow_mono {j = 11} form.few in
+      let p : 2 ^ n ≤ 2048 = few_rows n form.few in
       rows_are ∙ sym (length-take-le (2 ^ n) truth (omega arith))
 
   at : (i : ℕ) → i < length (linear_table (take n coefs)) → get_or known (offset (least (linear_table (take n coefs))) (linear_table (take n coefs)) i) 0 ≡ get_or (take (2 ^ n) truth) i 0
@@ -90,15 +93,12 @@ module _ (n : ℕ) (support : List ℕ) (coefs : List ℤ) (truth known : List �
   unfolding rows_of rules.values
   made long =
       let values = linear_table (take n coefs) in (
-        is_cone (record { n = n; support = support; coefs = coefs; known = known }) (rows_of (record { n = n; support = support; coefs = coefs; truth = truth })) seen long
+        is_cone (record { n = n; support = support; coefs = coefs; known = known }) (rows_of (record { n = n; support = support; coefs = coefs; truth = truth })) seen s11 c11 long
             form.few form.different (omega (arith, form.narrow, span_table (take n coefs))) form.near
             ((known_exact values (take (2 ^ n) truth) same).0 (take (span values) known, one)).bits
             (λ j l h. sym (get_or-take (span values) known j 0 l) ∙ known_unhit values (take (2 ^ n) truth) same (take (span values) known) one j l h),
         seen,
       )
-
-pub few_rows : (n : ℕ) → n ≤ 11 → 2 ^ n ≤ 2048
-few_rows n h = pow_mono {j = 11} h
 
 pub taken_rows : {A : Type 0} (rows n : ℕ) (l : List A) → rows ≡ 2 ^ n → n ≤ 11 → length l ≡ 2048 → rows ≡ length (take rows l)
 taken_rows rows n l e h k = sym (length-take-le rows l (omega (arith, few_rows n h)))
@@ -127,7 +127,7 @@ pub record IsSmall (b : Basis) : Type 0 where
 side_small : (n : ℕ) (l : List ℤ) (U : List ℕ) (c : rules.Cone) → take n l ≡ coefficients_over U c → Within 31 c.coefficients → (i : ℕ) → i < n → nat_abs (get_or l i (pos 0)) ≤ 31
 side_small n l U c e w i h = rw (← get_or-take n l i (pos 0) h, e) (coefficients_over_within 31 U c w i)
 
--- two cones over a basis: at most 11 sources have at most 2,048 rows
+-- two cones over a basis
 module _ (left right : Cone) (b : Basis) (l : IsCone left) (r : IsCone right) (is : IsBasis (cone_of left) (cone_of right) b) where
   pub basis_small : IsSmall b
   basis_small =
@@ -138,9 +138,11 @@ module _ (left right : Cone) (b : Basis) (l : IsCone left) (r : IsCone right) (i
         rights = side_small b.n b.right U (cone_of right) is.rights (small right r);
       }
 
-pub basis_rows : (left right : rules.Cone) (b : Basis) → IsBasis left right b → 2 ^ b.n ≤ 2048
-basis_rows left right b is = few_rows b.n is.few
+-- each source is one of 672 nodes
+pub all_below : (count : ℕ) (c : Cone) → count ≡ 672 → IsCone c → Below count (cone_of c)
+all_below count c e is = record { at = λ i h. (let n = is.near i in omega arith) }
 
-pub basis_room : (left right : rules.Cone) (b : Basis) (xs ys : List ℤ) (truth : List ℕ) → IsBasis left right b → length xs ≡ 2048 → length ys ≡ 2048 → length truth ≡ 2048
-    → Room b.n xs ys truth
-basis_room left right b xs ys truth is x y t = let f = few_rows b.n is.few in record { x = omega (arith, f); y = omega (arith, f); t = omega (arith, f) }
+-- what the store asks of an input without a name
+pub unit_fine : (i : ℕ) (n : LutNode) → n ≡ Input (given [] 1) → Fine i n
+unfolding Fine GoodWeight
+unit_fine i n e = rw e (omega arith, (λ k. omega arith), (omega arith, omega arith))

@@ -4,10 +4,10 @@
 
 mod rows;
 
-ghost use Rattle.std.specs.Prelude.{◌≤◌, ◌<◌, length, OnSome};
+ghost use Rattle.std.specs.Prelude.{◌≡◌, ◌≤◌, ◌<◌, length, OnSome};
 ghost use Rattle.rules.specs.Composition.{union_support};
 ghost use Rattle.cone.specs.View.{cone_of, IsCone};
-ghost use Rattle.nodes.specs.View.{IsStore};
+ghost use Rattle.nodes.specs.Store.{store_of};
 ghost use Rattle.vectors_cones.specs.Made.{IsSmall};
 
 use crate::rows::ConeRows;
@@ -17,6 +17,8 @@ use cone::Cone;
 use cone::table::truths_of;
 use cone::valid::{is_lut_valid, validate_cone};
 use linear::rows_of;
+use nodes::node::LutNode;
+use nodes::store::Store;
 use rules::{Limit, Policy, Settings};
 use std::io;
 use vectors::Tokens;
@@ -100,21 +102,23 @@ fn show_basis(rt: &impl Print, basis: Basis) -> io::Result<()>
 }
 
 // Span, norm and divisor.
-fn show_measures(rt: &impl Print, nodes: &[u8; 27552], cone: Cone) -> io::Result<()>
-    requires { IsStore nodes.now 672 × IsCone cone }
+#[tactic(auto, using(crate::specs::Made::all_below))]
+fn show_measures(rt: &impl Print, store: &Store, cone: Cone) -> io::Result<()>
+    requires { (length (store_of store.now) ≡ 672) × IsCone cone }
 {
     let divisor = scale::coefficient_normalization_divisor(cone.coefficients());
-    print!(rt; "{} {} {divisor} ", cone.span(), cone.norm2(nodes))
+    print!(rt; "{} {} {divisor} ", cone.span(), cone.norm2(store))
 }
 
 // What the Rust's validate_cone says: 10 where the encoding is invalid, as of no cone of a mapping.
-fn judged(s: Settings, nodes: &[u8; 27552], cone: Cone) -> usize
-    requires { IsStore nodes.now 672 × IsCone cone }
+#[tactic(auto, using(crate::specs::Made::all_below))]
+fn judged(s: Settings, store: &Store, cone: Cone) -> usize
+    requires { (length (store_of store.now) ≡ 672) × IsCone cone }
 {
     if !is_lut_valid(s, cone) {
         return 10;
     }
-    match validate_cone(s, nodes, cone) {
+    match validate_cone(s, store, cone) {
         Ok(()) => 0,
         Err(reason) => reason as usize,
     }
@@ -122,8 +126,8 @@ fn judged(s: Settings, nodes: &[u8; 27552], cone: Cone) -> usize
 
 // A cone, and what validate_cone says of it.
 #[tactic(auto, using(cone::specs::View::rows_fit, crate::specs::Made::taken_rows))]
-fn show_judged(rt: &impl Print, s: Settings, nodes: &[u8; 27552], cone: Cone) -> io::Result<()>
-    requires { IsStore nodes.now 672 × IsCone cone }
+fn show_judged(rt: &impl Print, s: Settings, store: &Store, cone: Cone) -> io::Result<()>
+    requires { (length (store_of store.now) ≡ 672) × IsCone cone }
 {
     print!(rt; "{} ", cone.n)?;
     for (source, coef) in cone.sources().iter().zip(cone.coefficients()) {
@@ -133,17 +137,17 @@ fn show_judged(rt: &impl Print, s: Settings, nodes: &[u8; 27552], cone: Cone) ->
     let mut truth = [0; 2048];
     truths_of(cone, &mut values, &mut truth);
     show_truth(rt, &truth[..rows_of(cone.n)])?;
-    print!(rt; "{}", judged(s, nodes, cone))
+    print!(rt; "{}", judged(s, store, cone))
 }
 
 // ---- running
 
 // The cone normalised and without unused sources.
-fn show_simplified(rt: &impl Print, s: Settings, nodes: &[u8; 27552], cone: Cone) -> io::Result<()>
-    requires { IsStore nodes.now 672 × IsCone cone }
+fn show_simplified(rt: &impl Print, s: Settings, store: &Store, cone: Cone) -> io::Result<()>
+    requires { (length (store_of store.now) ≡ 672) × IsCone cone }
 {
     match ConeRows::normalised(cone).cone() {
-        Some(cone) => show_judged(rt, s, nodes, simplify_cone(cone)),
+        Some(cone) => show_judged(rt, s, store, simplify_cone(cone)),
         None => print!(rt; "no cone"),
     }
 }
@@ -163,12 +167,12 @@ fn merged_coefs(basis: Basis, a: usize) -> [i64; 11]
 fn show_merged(
     rt: &impl Print,
     s: Settings,
-    nodes: &[u8; 27552],
+    store: &Store,
     basis: Basis,
     a: usize,
     truth: [u8; 2048],
 ) -> io::Result<()>
-    requires { IsStore nodes.now 672 × (IsSmall basis × (a ≤ 32)) }
+    requires { (length (store_of store.now) ≡ 672) × (IsSmall basis × (a ≤ 32)) }
 {
     let coefs = merged_coefs(basis, a);
     let Basis { n, support, .. } = basis;
@@ -179,22 +183,22 @@ fn show_merged(
         truth,
     };
     match merged.cone() {
-        Some(cone) => show_simplified(rt, s, nodes, cone),
+        Some(cone) => show_simplified(rt, s, store, cone),
         None => print!(rt; "no cone"),
     }
 }
 
 // The union with both rows of coefficients, the three tables, and four cones simplified: both, and both merged, the left one once and as often as the right span.
-#[tactic(auto, using(crate::specs::Made::basis_rows, crate::specs::Made::basis_room, crate::specs::Made::basis_small, crate::specs::Made::taken_rows))]
+#[tactic(auto, using(compose::specs::Basis::few_rows, compose::specs::Basis::few_room, crate::specs::Made::basis_small, crate::specs::Made::taken_rows))]
 fn run(
     rt: &impl Print,
     s: Settings,
-    nodes: &[u8; 27552],
+    store: &Store,
     left: Cone,
     right: Cone,
     gate: [u8; 4],
 ) -> io::Result<()>
-    requires { IsStore nodes.now 672 × (IsCone left × (IsCone right × (length (union_support (cone_of left).support (cone_of right).support) ≤ 11))) }
+    requires { (length (store_of store.now) ≡ 672) × (IsCone left × (IsCone right × (length (union_support (cone_of left).support (cone_of right).support) ≤ 11))) }
 {
     let basis = compose::basis_of(left, right);
     let mut xs = [0; 2048];
@@ -206,17 +210,17 @@ fn run(
     show_values(rt, &xs[..rows])?;
     show_values(rt, &ys[..rows])?;
     show_truth(rt, &truth[..rows])?;
-    show_simplified(rt, s, nodes, left)?;
+    show_simplified(rt, s, store, left)?;
     print!(rt; " ")?;
-    show_simplified(rt, s, nodes, right)?;
+    show_simplified(rt, s, store, right)?;
     print!(rt; " ")?;
-    show_merged(rt, s, nodes, basis, 1, truth)?;
+    show_merged(rt, s, store, basis, 1, truth)?;
     print!(rt; " ")?;
-    show_merged(rt, s, nodes, basis, right.span(), truth)
+    show_merged(rt, s, store, basis, right.span(), truth)
 }
 
-fn replay(rt: &impl Print, nodes: &[u8; 27552], case: &Case) -> io::Result<()>
-    requires { IsStore nodes.now 672 }
+fn replay(rt: &impl Print, store: &Store, case: &Case) -> io::Result<()>
+    requires { (length (store_of store.now) ≡ 672) }
 {
     let (Some(left), Some(right)) = (case.left.cone(), case.right.cone()) else {
         return print!(rt; "no cone");
@@ -224,28 +228,30 @@ fn replay(rt: &impl Print, nodes: &[u8; 27552], case: &Case) -> io::Result<()>
     if support::union_support_size(left.sources(), right.sources()) > 11 {
         return print!(rt; "no cone");
     }
-    show_measures(rt, nodes, left)?;
-    show_measures(rt, nodes, right)?;
-    run(rt, case.settings, nodes, left, right, case.gate)
+    show_measures(rt, store, left)?;
+    show_measures(rt, store, right)?;
+    run(rt, case.settings, store, left, right, case.gate)
 }
 
 // ---- all cases
 
 // A store of 672 inputs, each of weight 1.
-#[tactic(auto, unfolding(theorems::specs::Weights::GoodWeight))]
-fn put_inputs(nodes: &mut [u8; 27552])
-    ensures { IsStore nodes.new 672 }
+#[tactic(auto, using(crate::specs::Made::unit_fine))]
+fn unit_inputs() -> Store
+    ensures { length (store_of result) ≡ 672 }
 {
-    for i in 0..672 {
-        lut::store::put_input(nodes, i, b"", 1);
+    let mut store = Store::new();
+    for _ in 0..672usize {
+        store.push(LutNode::of_input(b"", 1), 0);
     }
+    store
 }
 
-fn replay_all(rt: &impl Print, nodes: &[u8; 27552], mut input: Tokens<'_>) -> io::Result<()>
-    requires { IsStore nodes.now 672 }
+fn replay_all(rt: &impl Print, store: &Store, mut input: Tokens<'_>) -> io::Result<()>
+    requires { (length (store_of store.now) ≡ 672) }
 {
     while let Some(case) = Case::read(&mut input) {
-        replay(rt, nodes, &case)?;
+        replay(rt, store, &case)?;
         println!(rt)?;
     }
     Ok(())
@@ -253,7 +259,6 @@ fn replay_all(rt: &impl Print, nodes: &[u8; 27552], mut input: Tokens<'_>) -> io
 
 fn main(rt: HostRuntime) -> io::Result<()> {
     let mut buffer = [0; 65536];
-    let mut nodes = [0; 27552];
-    put_inputs(&mut nodes);
-    replay_all(&rt, &nodes, Tokens::read(&mut rt.stdin(), &mut buffer))
+    let store = unit_inputs();
+    replay_all(&rt, &store, Tokens::read(&mut rt.stdin(), &mut buffer))
 }

@@ -71,7 +71,7 @@ fn known_at(values: &[i32], truth: &[u8], size: usize) -> Option<[u8; 32]>
 }
 
 // The same at the values of coefficients.
-#[tactic(auto, using(crate::specs::Made::few_rows, crate::specs::Made::taken_rows, crate::specs::Made::narrow_small, crate::specs::Made::values_first))]
+#[tactic(auto, using(compose::specs::Basis::few_rows, crate::specs::Made::taken_rows, crate::specs::Made::narrow_small, crate::specs::Made::values_first))]
 fn known_of(coefs: &[i64], truth: &[u8]) -> Option<[u8; 32]>
     requires { (length coefs.now ≤ 11) × ((length truth.now ≡ 2 ^ length coefs.now) × (span (linear_table coefs.now) ≤ 32)) }
     ensures { IfSome result (λ known. known_entries (linear_table coefs.now) truth.now ≡ some (take (span (linear_table coefs.now)) known)) }
@@ -115,7 +115,7 @@ impl ConeRows {
     }
 
     // The cone, where the rows are those of one.
-    #[tactic(auto, using(crate::specs::Made::few_rows))]
+    #[tactic(auto, using(compose::specs::Basis::few_rows))]
     pub fn cone(&self) -> Option<Cone>
         ensures { IfSome result (λ c. IsCone c × (cone_of c ≡ rows_of self.now)) }
     {

@@ -26,6 +26,7 @@ fn replay_all(rt: &impl Print, mut input: Tokens<'_>) -> io::Result<()> {
     Ok(())
 }
 
+// The replaying programs' `main`s are alike; a common one would only take `replay_all` as a closure.
 fn main(rt: HostRuntime) -> io::Result<()> {
     let mut buffer = [0u8; 131072];
     replay_all(&rt, Tokens::read(&mut rt.stdin(), &mut buffer))

@@ -8,27 +8,24 @@ use Rattle.laws.specs.Test.{if◌then◌otherwise◌, decide}
 use Rattle.rules.specs.Network.{Term, LutNode, Input, Linear, Bootstrap, member, node_at}
 use Rattle.rules.specs.NetworkText.{sources}
 use Rattle.rules.specs.Store.{needs, wanted_below, renumbered, renumbered_term, renumbered_node, kept_from}
-use Rattle.theorems.specs.Members.{member_head, member-tail, member-at}
+use Rattle.theorems.specs.Members.{member_head, member-tail}
 use Rattle.theorems.specs.Wanted.{wanted_closed}
-use Rattle.nodes.specs.Nodes.{fine_needs, store_ordered}
-use Rattle.nodes.specs.View.{node_of, store_of, IsStore, at_store, store_length}
-use Rattle.writer.specs.Live.{new_number, new_term, new_node, live_from, live_nodes, Ready, Sourced}
+use Rattle.nodes.specs.declared.store.Store.{Store}
+use Rattle.nodes.specs.Store.{store_of, store_ordered}
+use Rattle.writer.specs.Live.{new_number, new_term, new_node, live_from, live_nodes, Sourced}
 
 -- `live` numbers the nodes that are kept
 unfoldable pub Numbered : List ℕ → List ℕ → ℕ → Type 0
 Numbered kept live count = (i : ℕ) → i < count → get_or live i 0 ≡ (if member i kept then renumbered kept i + 1 otherwise 0)
 
 -- what a kept node needs is kept
-pub record Closed (kept bytes : List ℕ) (count : ℕ) : Type 0 where
-  pub needed : (i : ℕ) → i < count → member i kept ≡ true → (j : ℕ) → member j (needs (node_of bytes i)) ≡ true → member j kept ≡ true
+pub record Closed (kept : List ℕ) (store : Store) : Type 0 where
+  pub needed : (i : ℕ) → i < length (store_of store) → member i kept ≡ true → (j : ℕ) → member j (needs (node_at (store_of store) i)) ≡ true → member j kept ≡ true
 
 -- what pruning keeps is closed
-pub closed : (bytes : List ℕ) (count : ℕ) (wanted : List ℕ) → IsStore bytes count → Closed (wanted_below count (store_of bytes count) wanted) bytes count
-closed bytes count wanted s =
-    record {
-      needed = λ i h m j k.
-          wanted_closed (store_of bytes count) (store_ordered bytes count s) count wanted (omega (arith, store_length bytes count)) i h m j (rw (at_store bytes i count h) k);
-    }
+pub closed : (store : Store) (wanted : List ℕ) → Closed (wanted_below (length (store_of store)) (store_of store) wanted) store
+closed store wanted =
+    record { needed = λ i h m j k. wanted_closed (store_of store) (store_ordered store) (length (store_of store)) wanted (omega arith) i h m j k }
 
 -- ---- laws: the numbers
 
@@ -86,28 +83,25 @@ same_from kept live i (x ∷ xs) f g =
     by true m e s r = rw (ne_eqb (get_or live i 0) 0 (λ z. omega arith)) (ap₂ {C = List LutNode} (λ y l. y ∷ l) (s m) r)
     by false m e s r = rw (eq-eqb (get_or live i 0) 0 e) r
 
-module _ (kept live bytes : List ℕ) (count : ℕ) (s : IsStore bytes count) (n : Numbered kept live count) (c : Closed kept bytes count) where
-  needed_number : (i : ℕ) → i < count → member i kept ≡ true → (j : ℕ) → member j (needs (node_of bytes i)) ≡ true → new_number live j ≡ renumbered kept j
+module _ (kept live : List ℕ) (store : Store) (n : Numbered kept live (length (store_of store))) (c : Closed kept store) where
+  needed_number : (i : ℕ) → i < length (store_of store) → member i kept ≡ true → (j : ℕ) → member j (needs (node_at (store_of store) i)) ≡ true → new_number live j ≡ renumbered kept j
   needed_number i h m j k =
-      let l = fine_needs i (node_of bytes i) (s.fine i h) j k in
-      new-kept kept live count n j (omega arith) (c.needed i h m j k)
+      let l = store_ordered store i h j k in
+      new-kept kept live (length (store_of store)) n j (omega arith) (c.needed i h m j k)
 
   -- the live nodes are those that pruning keeps, renumbered as it does
-  pub kept-nodes : live_nodes live bytes count ≡ kept_from kept 0 (store_of bytes count)
+  pub kept-nodes : live_nodes live store ≡ kept_from kept 0 (store_of store)
   unfolding live_nodes Numbered
   kept-nodes =
-      same_from kept live 0 (store_of bytes count)
-      (λ k h. rw zero-add (n k (rw (store_length bytes count) at h)))
-      (λ k h m. let g : k < count = rw (store_length bytes count) at h in rw (at_store bytes k count g) (same_node kept live (node_of bytes k) (needed_number k g (rw zero-add at m))))
+      same_from kept live 0 (store_of store) (λ k h. rw zero-add (n k h))
+      (λ k h m. same_node kept live (node_at (store_of store) k) (needed_number k h (rw zero-add at m)))
 
-  pub kept_sourced : length live ≡ 672 → Sourced live bytes count
-  unfolding Ready
-  kept_sourced l = record { store = s; long = l; ready = λ i h p. number i h p }
-    where
-      number : (i : ℕ) → i < count → 0 < get_or live i 0 → Ready live (node_of bytes i)
-      number i h p k q =
-          let j = get_or (needs (node_of bytes i)) k 0 in
-          let m = member-at (needs (node_of bytes i)) k q in
-          let g = fine_needs i (node_of bytes i) (s.fine i h) j m in
-          let e = kept-number kept live count n j (omega arith) (c.needed i h (live-kept kept live count n i h p) j m) in
-          omega arith
+  pub kept_sourced : length live ≡ 672 → Sourced live store
+  kept_sourced l =
+      record {
+        long = l;
+        needed = λ i h p j m.
+            let g = store_ordered store i h j m in
+            let e = kept-number kept live (length (store_of store)) n j (omega arith) (c.needed i h (live-kept kept live (length (store_of store)) n i h p) j m) in
+            omega arith;
+      }

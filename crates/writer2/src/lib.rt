@@ -12,22 +12,22 @@ ghost use Rattle.writer2.specs.Node2.{Ordered};
 ghost use Rattle.writer2.specs.Whole2.{text2};
 
 use forms::{Net, Output};
+use nodes::store::Store;
 
 // The text, as far as the buffer reaches; answers its length.
 pub fn write(
     out: &mut [u8],
     net: Net,
     outputs: &[Output<'_>],
-    nodes: &[u8; 27552],
-    count: usize,
+    store: &Store,
     live: &[u16; 672],
-    order: &[u16; 672],
+    order: &[u16],
 ) -> usize
-    requires ordered { Ordered net.p live.now nodes.now order.now count × AllLive live.now (map output_of outputs.now) }
-    requires room { Room 0 (text2 net (map output_of outputs.now) nodes.now count live.now order.now) }
-    ensures { Put 0 (text2 net (map output_of outputs.now) nodes.now count live.now order.now) out.old result out.new }
+    requires ordered { Ordered net.p live.now store.now order.now × AllLive live.now (map output_of outputs.now) }
+    requires room { Room 0 (text2 net (map output_of outputs.now) store.now live.now order.now) }
+    ensures { Put 0 (text2 net (map output_of outputs.now) store.now live.now order.now) out.old result out.new }
 {
     let a = lines::line::put_net(out, 0, b"(net2 ", net.p, net.m, net.norm);
-    let b = many::put_lines(out, a, net.p, nodes, live, order, count);
+    let b = many::put_lines(out, a, net.p, store, live, order);
     writer::outputs::put_outs(out, b, outputs, live)
 }

@@ -1,36 +1,39 @@
 // The nodes' lines, the tables of one node in one `many` line.
-ghost use Rattle.std.specs.Prelude.{take};
-ghost use Rattle.nodes.specs.View.{node_of};
+ghost use Rattle.nodes.specs.Store.{store_of};
+ghost use Rattle.nodes.specs.View.{lut_node};
 ghost use Rattle.lines.specs.Put.{Put, Room};
 ghost use Rattle.writer.specs.Live.{new_node};
 ghost use Rattle.writer2.specs.Node2.{Known, Ordered, ordered};
 ghost use Rattle.writer2.specs.Stream.{piece, stream};
 
-use crate::tables::{open_behind, put_closing, put_opening, put_table_of};
-use writer::node_lines::put_node;
+use crate::tables::{open_behind, put_closing, put_opening, put_turned};
+use nodes::node::LutNode;
+use nodes::store::Store;
+use writer::node_lines::{number_of, put_node};
 
-// Node i behind what is open.
+// A node behind what is open.
+#[tactic(auto, using(lines::specs::Put::pieces), unfolding(nodes::specs::View::lut_node, writer::specs::Live::new_node, crate::specs::Stream::piece, crate::specs::Node2::Turns))]
 fn put_piece(
     out: &mut [u8],
     at: usize,
     p: usize,
-    nodes: &[u8; 27552],
+    node: &LutNode,
     live: &[u16; 672],
     opened: Option<usize>,
-    i: usize,
 ) -> usize
-    requires known { Known p live.now nodes.now i }
-    requires room { Room at (piece p opened (new_node live.now (node_of nodes.now i))) }
-    ensures { Put at (piece p opened (new_node live.now (node_of nodes.now i))) out.old result out.new }
+    requires known { Known p live.now (lut_node node.now) }
+    requires room { Room at (piece p opened (new_node live.now (lut_node node.now))) }
+    ensures { Put at (piece p opened (new_node live.now (lut_node node.now))) out.old result out.new }
 {
-    match open_behind(nodes, live, i) {
-        Some(source) => {
+    match node {
+        LutNode::Bootstrap { source, table } => {
+            let source = number_of(live, *source as usize);
             let b = put_opening(out, at, opened, source);
-            put_table_of(out, b, p, nodes, i)
+            put_turned(out, b, p, table)
         }
-        None => {
+        _ => {
             let a = put_closing(out, at, opened);
-            put_node(out, a, nodes, live, i)
+            put_node(out, a, node, live)
         }
     }
 }
@@ -40,21 +43,20 @@ pub fn put_lines(
     out: &mut [u8],
     at: usize,
     p: usize,
-    nodes: &[u8; 27552],
+    store: &Store,
     live: &[u16; 672],
-    order: &[u16; 672],
-    count: usize,
+    order: &[u16],
 ) -> usize
-    requires ordered { Ordered p live.now nodes.now order.now count }
-    requires room { Room at (stream p None (ordered live.now nodes.now (take count order.now))) }
-    ensures { Put at (stream p None (ordered live.now nodes.now (take count order.now))) out.old result out.new }
+    requires ordered { Ordered p live.now store.now order.now }
+    requires room { Room at (stream p None (ordered live.now (store_of store.now) order.now)) }
+    ensures { Put at (stream p None (ordered live.now (store_of store.now) order.now)) out.old result out.new }
 {
     let mut to = at;
     let mut opened = None;
-    for &node in &order[..count] {
-        let i = node as usize;
-        to = put_piece(out, to, p, nodes, live, opened, i);
-        opened = open_behind(nodes, live, i);
+    for &i in order {
+        let node = store.node(i as usize);
+        to = put_piece(out, to, p, node, live, opened);
+        opened = open_behind(node, live);
     }
     put_closing(out, to, opened)
 }

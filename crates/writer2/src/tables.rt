@@ -1,25 +1,25 @@
 // The parts of a `many` line. What is open is the node of such a line, if there is one.
-ghost use Rattle.std.specs.Prelude.{◌≡◌, T};
-ghost use Rattle.rules.specs.Rotation.{rotatable};
-ghost use Rattle.nodes.specs.Nodes.{kind_of, bytes_in};
-ghost use Rattle.nodes.specs.View.{node_of, IsNode};
+ghost use Rattle.std.specs.Prelude.{◌≡◌, ℕ, ◌≤◌, T, get_or};
+ghost use Rattle.rules.specs.Rotation.{rotatable, centre_of};
+ghost use Rattle.nodes.specs.View.{lut_node};
+ghost use Rattle.lines.specs.Lines2.{table_text};
 ghost use Rattle.lines.specs.Put.{Put, Room};
-ghost use Rattle.writer.specs.Live.{new_node, ReadyAt};
-ghost use Rattle.writer2.specs.Node2.{table_of};
+ghost use Rattle.writer.specs.Live.{new_node, Ready};
 ghost use Rattle.writer2.specs.Stream.{closing, opening, open_behind};
 
 use lines::line2::{put_many, put_table};
 use lines::put::put_all;
-use nodes::node::{Kind, kind_of, table_of};
-use writer::node_lines::new_source;
+use nodes::node::LutNode;
+use writer::node_lines::number_of;
 
-// What is open behind node i.
-pub fn open_behind(nodes: &[u8; 27552], live: &[u16; 672], i: usize) -> Option<usize>
-    requires { ReadyAt live.now nodes.now i }
-    ensures { result ≡ open_behind (new_node live.now (node_of nodes.now i)) }
+// What is open behind a node.
+#[tactic(auto, unfolding(nodes::specs::View::lut_node, writer::specs::Live::new_node, crate::specs::Stream::open_behind))]
+pub fn open_behind(node: &LutNode, live: &[u16; 672]) -> Option<usize>
+    requires { Ready live.now (lut_node node.now) }
+    ensures { result ≡ open_behind (new_node live.now (lut_node node.now)) }
 {
-    match kind_of(nodes, i) {
-        Kind::Bootstrap => Some(new_source(nodes, live, i, 0)),
+    match node {
+        LutNode::Bootstrap { source, .. } => Some(number_of(live, *source as usize)),
         _ => None,
     }
 }
@@ -47,12 +47,13 @@ pub fn put_opening(out: &mut [u8], at: usize, opened: Option<usize>, source: usi
     put_many(out, to, source)
 }
 
-// ` (BITS CENTRE)` of node i, which is a table.
-pub fn put_table_of(out: &mut [u8], at: usize, p: usize, nodes: &[u8; 27552], i: usize) -> usize
-    requires node { IsNode nodes.now i × ((kind_of (node_of nodes.now i) ≡ Kind.Bootstrap) × T (rotatable p (bytes_in (node_of nodes.now i)))) }
-    requires room { Room at (table_of p (node_of nodes.now i)) }
-    ensures { Put at (table_of p (node_of nodes.now i)) out.old result out.new }
+// ` (BITS CENTRE)` of a table that turns.
+#[tactic(auto, using(crate::specs::Node2::bits_of))]
+pub fn put_turned(out: &mut [u8], at: usize, p: usize, table: &[u8]) -> usize
+    requires bits { (k : ℕ) → get_or table.now k 0 ≤ 1 }
+    requires turns { T (rotatable p table.now) }
+    requires room { Room at (table_text table.now (centre_of p table.now)) }
+    ensures { Put at (table_text table.now (centre_of p table.now)) out.old result out.new }
 {
-    let table = table_of(nodes, i);
     put_table(out, at, table, rotation::centre(table, p) as usize)
 }

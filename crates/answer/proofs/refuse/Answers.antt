@@ -7,5 +7,5 @@ put_end-requires c = refusal_ends c.put_refusal-n.ensures (search rules) (search
 
 pub returns : goal.returns
 returns c =
-    let e = c.number_of.ensures in
-    front-refusal (rw e at c.put_refusal-n.ensures) (rw e at c.number_of.type_inv) (search rules) c.requires c.put_end.ensures
+    let e = c.number.ensures in
+    front-refusal (rw e at c.put_refusal-n.ensures) (rw e at c.number.type_inv) (search rules) c.requires c.put_end.ensures

@@ -1,7 +1,7 @@
 use Rattle.std.proofs.Common.{◌≡◌, ◌∙◌, ap₂, arith, length}
 use Rattle.rules.specs.Composition.{union_support}
 use Rattle.cone.specs.View.{cone_of}
-use Rattle.nodes.specs.View.{store_of}
+use Rattle.nodes.specs.Store.{store_of}
 use Rattle.attempt.specs.Pair.{compose-over, compose_within}
 use Rattle.theorems.specs.SettingLimits.{limits_t}
 use Rattle.attempt.proofs.attempt.Goals as goal
@@ -17,14 +17,14 @@ overflow_add-s c = omega (arith, limits_t c.args.s c.requires.0)
 pub returns-then-s-union_support_size-clause-is : goal.returns-then-s-union_support_size-clause-is
 returns-then-s-union_support_size-clause-is c =
     let A = c.args in
-    compose-over A.s (store_of A.nodes.now A.count) (cone_of A.left) (cone_of A.right) A.gate (omega (arith, c.if-s-union_support_size.true, size (goal.at.returns-then-s-union_support_size-clause-is c).After-union_support_size))
+    compose-over A.s (store_of A.store.now) (cone_of A.left) (cone_of A.right) A.gate (omega (arith, c.if-s-union_support_size.true, size (goal.at.returns-then-s-union_support_size-clause-is c).After-union_support_size))
 
 pub basis_of-requires : goal.basis_of-requires
 basis_of-requires c =
-    (c.requires.1.1.0.cone, (c.requires.1.1.1.0.cone, omega (arith, c.if-s-union_support_size.false, size (goal.at.basis_of-requires c).After-union_support_size, limits_t c.args.s c.requires.0)))
+    (c.requires.1.cone, (c.requires.2.cone, omega (arith, c.if-s-union_support_size.false, size (goal.at.basis_of-requires c).After-union_support_size, limits_t c.args.s c.requires.0)))
 
 pub returns-clause-is : goal.returns-clause-is
 returns-clause-is c =
     let A = c.args in
     c.composed.ensures.is
-    ∙ compose_within A.s (store_of A.nodes.now A.count) (cone_of A.left) (cone_of A.right) A.gate (omega (arith, c.if-s-union_support_size.false, size (goal.at.returns-clause-is c).After-union_support_size))
+    ∙ compose_within A.s (store_of A.store.now) (cone_of A.left) (cone_of A.right) A.gate (omega (arith, c.if-s-union_support_size.false, size (goal.at.returns-clause-is c).After-union_support_size))

@@ -21,7 +21,7 @@ module _ (c : After-prepare_coefficients-coefs) where
 pub simplify_cone-requires : goal.simplify_cone-requires
 simplify_cone-requires c =
     let p = (goal.at.simplify_cone-requires c).After-prepare_coefficients-coefs in
-    made_cone c.args.basis c.args.best c.requires c.prepare_coefficients-coefs.result (many p) (coefs_are p)
+    made_cone c.args.basis c.args.best c.requires c.prepare_coefficients-coefs.result (many p) (coefs_are p) (search rules) (search rules) (search rules)
 
 pub returns : goal.returns
 returns c =

@@ -6,22 +6,15 @@ use Rattle.cone.specs.View.{cone_of}
 use Rattle.compose.specs.Compose.{gate_truth-length}
 use Rattle.compose.proofs.Turn.{Feeds, left_within, in_lefts, in_rights, bits, turn}
 use Rattle.compose.proofs.composed_truth.Goals as goal
-use Rattle.compose.proofs.composed_truth.Goals.{After-toggle_masks-masks, In-loop-i, Start}
+use Rattle.compose.proofs.composed_truth.Goals.{After-toggle_masks-masks, In-loop-i}
 
 -- `compose::composed_truth` meets its contract.
-left_long : (c : Start) → length c.args.left.support ≡ 11
-left_long c = search rules
-
 -- what the loop works on is the two cones'
 feeds : (c : After-toggle_masks-masks) → Feeds c.args.left c.args.right c.args.lefts.now c.args.rights.now c.args.support.now c.toggle_masks-masks.result (length c.args.support.now - c.args.left.n)
 feeds c =
     record {
       is_left = c.requires.cones.0;
       is_right = c.requires.cones.1.0;
-      left_long = search rules;
-      right_long = search rules;
-      left_rows = search rules;
-      right_rows = search rules;
       union = c.requires.cones.1.1.0;
       few = c.requires.cones.1.1.1.0;
       lefts_are = c.requires.truths.0;
@@ -42,7 +35,7 @@ reads c w =
     (in_lefts w (below c) row, (in_rights w (below c) row, bits w (below c) row))
 
 pub overflow_sub-new : goal.overflow_sub-new
-overflow_sub-new c = left_within c.args.left c.args.right c.args.support.now c.requires.cones.0 (left_long (goal.at.overflow_sub-new c).Start) c.requires.cones.1.1.0
+overflow_sub-new c = left_within c.args.left c.args.right c.args.support.now c.requires.cones.0 c.requires.cones.1.1.0
 
 pub loop-i-init : goal.loop-i-init
 loop-i-init c = (sym (row_over_zero _ _), filling_start _ _)

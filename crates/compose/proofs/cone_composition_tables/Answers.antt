@@ -1,4 +1,4 @@
-use Rattle.std.proofs.Common.{◌≡◌, sym, ap, ◌∙◌, List, ℕ, ◌≤◌, arith, rules, ℤ, length, pow_mono}
+use Rattle.std.proofs.Common.{◌≡◌, sym, ap, ◌∙◌, List, ℕ, ◌≤◌, arith, ℤ, length, pow_mono}
 use lib.ListN.{length-map}
 use Rattle.rules.specs.Cone as rules
 use Rattle.laws.specs.Over.{over, over-over}
@@ -16,7 +16,7 @@ use Rattle.compose.proofs.cone_composition_tables.Goals.{After-gate_truths, Star
 
 -- `compose::cone_composition_tables` meets its contract, from what its calls ensure.
 -- a cone over the union U of n sources, and its coefficients over them
-module _ (U : List ℕ) (k : Cone) (is : IsCone k) (long : length k.coefs ≡ 11) (n : ℕ) (count : n ≡ length U) (within : k.n ≤ n) (cs : List ℤ) (are : cs ≡ coefficients_over U (cone_of k)) where
+module _ (U : List ℕ) (k : Cone) (is : IsCone k) (n : ℕ) (count : n ≡ length U) (within : k.n ≤ n) (cs : List ℤ) (are : cs ≡ coefficients_over U (cone_of k)) where
   cs_long : length cs ≡ n
   unfolding coefficients_over
   cs_long = ap length are ∙ length-map U _ ∙ sym count
@@ -28,41 +28,38 @@ module _ (U : List ℕ) (k : Cone) (is : IsCone k) (long : length k.coefs ≡ 11
   written : (t x d : List ℤ) → x ≡ over (rules.values (cone_of k)) d → t ≡ over (linear_table cs) x → t ≡ over (linear_table (coefficients_over U (cone_of k))) d
   written t x d f g =
       g ∙ ap (over (linear_table cs)) f
-      ∙ over-over (rules.values (cone_of k)) (linear_table cs) d (rw (rows_are k, linear_table-length cs, view_coefs k is long, cs_long) (pow_mono within))
+      ∙ over-over (rules.values (cone_of k)) (linear_table cs) d (rw (rows_are k, linear_table-length cs, view_coefs k is, cs_long) (pow_mono within))
       ∙ ap (λ l. over (linear_table l) d) are
 
 is_basis : (c : Start) → IsBasis (cone_of c.args.left) (cone_of c.args.right) c.args.basis
 is_basis c = c.requires.1.1.0
 
-arrays : (c : Start) → ((length c.args.left.support ≡ 11) × (length c.args.left.coefs ≡ 11)) × ((length c.args.right.support ≡ 11) × (length c.args.right.coefs ≡ 11))
-arrays c = ((search rules, search rules), (search rules, search rules))
-
 left_in : (c : Start) → c.args.left.n ≤ c.args.basis.n
-left_in c = omega (arith, (is_basis c).count, union_length (cone_of c.args.left).support (cone_of c.args.right).support, view_sources c.args.left c.requires.0 (arrays c).0.0)
+left_in c = omega (arith, (is_basis c).count, union_length (cone_of c.args.left).support (cone_of c.args.right).support, view_sources c.args.left c.requires.0)
 
 right_in : (c : Start) → c.args.right.n ≤ c.args.basis.n
-right_in c = omega (arith, (is_basis c).count, right_le (cone_of c.args.left).support (cone_of c.args.right).support c.requires.1.0.different, view_sources c.args.right c.requires.1.0 (arrays c).1.0)
+right_in c = omega (arith, (is_basis c).count, right_le (cone_of c.args.left).support (cone_of c.args.right).support c.requires.1.0.different, view_sources c.args.right c.requires.1.0)
 
 pub linear_table-requires : goal.linear_table-requires
 linear_table-requires c =
     let s = (goal.at.linear_table-requires c).Start in
     let b = is_basis s in
-    let n = cs_long _ c.args.left c.requires.0 (arrays s).0.1 _ b.count (left_in s) _ b.lefts in
-    (omega (arith, n, b.few), (rw n (omega (arith, c.requires.1.1.1.x, c.gate_truths.auto.xs)), small_over _ c.args.left c.requires.0 (arrays s).0.1 _ b.count (left_in s) _ b.lefts))
+    let n = cs_long _ c.args.left c.requires.0 _ b.count (left_in s) _ b.lefts in
+    (omega (arith, n, b.few), (rw n (omega (arith, c.requires.1.1.1.x, c.gate_truths.auto.xs)), small_over _ c.args.left c.requires.0 _ b.count (left_in s) _ b.lefts))
 
 pub linear_table-requires-2 : goal.linear_table-requires-2
 linear_table-requires-2 c =
     let s = (goal.at.linear_table-requires-2 c).Start in
     let b = is_basis s in
-    let n = cs_long _ c.args.right c.requires.1.0 (arrays s).1.1 _ b.count (right_in s) _ b.rights in
-    (omega (arith, n, b.few), (rw n (omega (arith, c.requires.1.1.1.y, c.gate_truths.auto.ys)), small_over _ c.args.right c.requires.1.0 (arrays s).1.1 _ b.count (right_in s) _ b.rights))
+    let n = cs_long _ c.args.right c.requires.1.0 _ b.count (right_in s) _ b.rights in
+    (omega (arith, n, b.few), (rw n (omega (arith, c.requires.1.1.1.y, c.gate_truths.auto.ys)), small_over _ c.args.right c.requires.1.0 _ b.count (right_in s) _ b.rights))
 
 pub returns : goal.returns
 returns c =
     let s = (goal.at.returns c).Start in
     let b = is_basis s in
     record {
-      x = written _ c.args.left c.requires.0 (arrays s).0.1 _ b.count (left_in s) _ b.lefts _ _ _ c.gate_truths.ensures.0 c.linear_table.ensures;
-      y = written _ c.args.right c.requires.1.0 (arrays s).1.1 _ b.count (right_in s) _ b.rights _ _ _ c.gate_truths.ensures.1.0 c.linear_table-2.ensures;
+      x = written _ c.args.left c.requires.0 _ b.count (left_in s) _ b.lefts _ _ _ c.gate_truths.ensures.0 c.linear_table.ensures;
+      y = written _ c.args.right c.requires.1.0 _ b.count (right_in s) _ b.rights _ _ _ c.gate_truths.ensures.1.0 c.linear_table-2.ensures;
       t = c.gate_truths.ensures.1.1 ∙ ap (λ U. over (gate_truth U (cone_of c.args.left) (cone_of c.args.right) c.args.gate) c.args.truth.now) b.sources;
     }

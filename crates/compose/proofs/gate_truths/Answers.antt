@@ -1,4 +1,4 @@
-use Rattle.std.proofs.Common.{◌≡◌, sym, ap, ◌∙◌, List, ℕ, ◌≤◌, ◌^◌, le_trans, arith, rules, length, take, pow_mono}
+use Rattle.std.proofs.Common.{◌≡◌, sym, ap, ◌∙◌, List, ℕ, ◌≤◌, ◌^◌, le_trans, arith, length, take, pow_mono}
 use Rattle.laws.specs.Over.{over, take-over}
 use Rattle.laws.specs.Tail.{head_length}
 use Rattle.theorems.specs.Unions.{right_le}
@@ -9,22 +9,16 @@ use Rattle.compose.proofs.gate_truths.Goals as goal
 use Rattle.compose.proofs.gate_truths.Goals.{After-rows_of, After-rows_of-2, Start}
 
 -- `compose::gate_truths` meets its contract, from what its calls ensure.
-support_long : (c : Start) → (length c.args.left.support ≡ 11) × (length c.args.right.support ≡ 11)
-support_long c = (search rules, search rules)
-
-coefs_long : (c : Start) → (length c.args.left.coefs ≡ 11) × (length c.args.right.coefs ≡ 11)
-coefs_long c = (search rules, search rules)
-
 room : (c : Start) → Room (length c.args.support.now) c.args.xs.now c.args.ys.now c.args.truth.now
 room c = c.requires.1.1.1.1
 
 -- each cone's rows are no more than the union's
 left_rows : (c : Start) → 2 ^ c.args.left.n ≤ 2 ^ length c.args.support.now
-left_rows c = pow_mono (omega (arith, ap length c.requires.1.1.0, union_length (cone_of c.args.left).support (cone_of c.args.right).support, view_sources c.args.left c.requires.0 (support_long c).0))
+left_rows c = pow_mono (omega (arith, ap length c.requires.1.1.0, union_length (cone_of c.args.left).support (cone_of c.args.right).support, view_sources c.args.left c.requires.0))
 
 right_rows : (c : Start) → 2 ^ c.args.right.n ≤ 2 ^ length c.args.support.now
 right_rows c =
-    pow_mono (omega (arith, ap length c.requires.1.1.0, right_le (cone_of c.args.left).support (cone_of c.args.right).support c.requires.1.0.different, view_sources c.args.right c.requires.1.0 (support_long c).1))
+    pow_mono (omega (arith, ap length c.requires.1.1.0, right_le (cone_of c.args.left).support (cone_of c.args.right).support c.requires.1.0.different, view_sources c.args.right c.requires.1.0))
 
 lefts_in : (c : After-rows_of) → c.rows_of.result ≤ length c.truths_of.new.truth
 lefts_in c = omega (arith, c.rows_of.ensures, rows_fit c.args.left c.requires.0, c.truths_of.auto.truth)
@@ -54,8 +48,7 @@ pub slice_bounds-rights-end-2 : goal.slice_bounds-rights-end-2
 slice_bounds-rights-end-2 c = head_length _ c.rows_of-2.result (rights_in (goal.at.slice_bounds-rights-end-2 c).After-rows_of-2)
 
 pub composed_truth-requires-clause-truths : goal.composed_truth-requires-clause-truths
-composed_truth-requires-clause-truths c =
-    let l = coefs_long (goal.at.composed_truth-requires-clause-truths c).Start in (
-      taken (cone_of c.args.left).truth _ _ c.rows_of.result c.truths_of.ensures.1 (view_rows c.args.left c.requires.0 l.0 ∙ sym c.rows_of.ensures),
-      taken (cone_of c.args.right).truth _ _ c.rows_of-2.result c.truths_of-2.ensures.1 (view_rows c.args.right c.requires.1.0 l.1 ∙ sym c.rows_of-2.ensures),
-    )
+composed_truth-requires-clause-truths c = (
+  taken (cone_of c.args.left).truth _ _ c.rows_of.result c.truths_of.ensures.1 (view_rows c.args.left c.requires.0 ∙ sym c.rows_of.ensures),
+  taken (cone_of c.args.right).truth _ _ c.rows_of-2.result c.truths_of-2.ensures.1 (view_rows c.args.right c.requires.1.0 ∙ sym c.rows_of-2.ensures),
+)

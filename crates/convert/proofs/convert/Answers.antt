@@ -8,12 +8,12 @@ returns-in_err-w c = refused_is c.args.text.now c.args.out.now _ c.from_residual
 
 pub to_second-requires-clause-turn : goal.to_second-requires-clause-turn
 to_second-requires-clause-turn c =
-    plain-turns c.args.text.now c.read.new.nodes c.in_ok-w.w c.in_ok-w.ensures.is c.is_edition_2.ensures c.if-is_edition_2.false
+    plain-turns c.args.text.now c.in_ok-w.w c.in_ok-w.ensures.is c.is_edition_2.ensures c.if-is_edition_2.false
 
 pub returns-then-is_edition_2 : goal.returns-then-is_edition_2
 returns-then-is_edition_2 c =
-    plain_is c.args.text.now (network_of c.read.new.nodes c.in_ok-w.w) c.in_ok-w.ensures.is c.is_edition_2.ensures _ c.args.out.now c.if-is_edition_2.true c.to_plain.ensures
+    plain_is c.args.text.now (network_of c.in_ok-w.w) c.in_ok-w.ensures.is c.is_edition_2.ensures _ c.args.out.now c.if-is_edition_2.true c.to_plain.ensures
 
 pub returns-else-is_edition_2 : goal.returns-else-is_edition_2
 returns-else-is_edition_2 c =
-    second_is c.args.text.now (network_of c.read.new.nodes c.in_ok-w.w) c.in_ok-w.ensures.is c.is_edition_2.ensures _ c.args.out.now c.if-is_edition_2.false c.to_second.ensures
+    second_is c.args.text.now (network_of c.in_ok-w.w) c.in_ok-w.ensures.is c.is_edition_2.ensures _ c.args.out.now c.if-is_edition_2.false c.to_second.ensures

@@ -4,7 +4,7 @@ use Rattle.edition.specs.Put.{Puts}
 use Rattle.edition.proofs.put_tables.Given as goal
 
 abbrev pub invariant-loop-table : goal.invariant-loop-table
-invariant-loop-table l = Puts l.fn.nodes l.fn.w l.source (tables_in l.tables) l.p l.rest l.nodes l.w
+invariant-loop-table l = Puts l.fn.w l.source (tables_in l.tables) l.p l.rest l.w
 
 abbrev pub decreases-loop-table : goal.decreases-loop-table
 decreases-loop-table l = length l.rest

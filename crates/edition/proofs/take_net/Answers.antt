@@ -3,4 +3,4 @@ use Rattle.edition.specs.Put.{net_put}
 use Rattle.edition.proofs.take_net.Goals as goal
 
 pub returns-clause-added : goal.returns-clause-added
-returns-clause-added c = λ nodes k. net_put nodes c.args.w.now _ c.args.net c.requires (search rules) k (record { net = refl; count = refl; inputs = refl; outs = refl })
+returns-clause-added c = net_put c.args.w.now _ c.args.net c.requires.0 (search rules) c.requires.1 (record { net = refl; inputs = refl; outs = refl }, refl)

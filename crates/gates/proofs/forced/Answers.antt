@@ -5,4 +5,4 @@ pub returns-then-force-clause-is : goal.returns-then-force-clause-is
 returns-then-force-clause-is c = forced_yes _ _ _ _ _ c.if-force.true c.bootstrap_cone.ensures.is
 
 pub returns-clause-is : goal.returns-clause-is
-returns-clause-is c = forced_no _ _ _ _ _ c.if-force.false
+returns-clause-is c = forced_no _ _ _ _ c.if-force.false

@@ -1,6 +1,6 @@
 use Rattle.std.proofs.Common.{◌≡◌, refl, Err, rules}
 use Rattle.mapper.specs.Asked.{inputs_asked, gates_asked, outputs_asked}
-use Rattle.mapper.specs.Entry.{text_refused, sound, limits, gates_refused, mapped_is, finishable, room_left, nodes_few}
+use Rattle.mapper.specs.Entry.{text_refused, sound, limits, gates_refused, mapped_is, finishable, inputs_count, inputs_wired, room_left, nodes_few}
 use Rattle.mapper.proofs.map.Goals as goal
 
 pub returns-in_err-c : goal.returns-in_err-c
@@ -9,34 +9,37 @@ returns-in_err-c c =
     text_refused _ _ _ c.read.ensures _ c.in_err-c.was _ e
 
 pub start-requires : goal.start-requires
-start-requires c = (search rules, (search rules, inputs_asked _ (sound _ _ c.read.ensures _ c.in_ok-c.was)))
+start-requires c = (c.new-store.ensures, (c.new-wires.ensures, inputs_asked _ (sound _ _ c.read.ensures _ c.in_ok-c.was)))
 
 pub map_gates-requires : goal.map_gates-requires
 map_gates-requires c =
     let s = sound _ _ c.read.ensures _ c.in_ok-c.was in
-    (limits _ _ c.read.ensures _ c.in_ok-c.was _ c.used-settings.ensures, (c.start.ensures.wired, gates_asked _ s))
+    let h = c.start.ensures in (
+      limits _ _ c.read.ensures _ c.in_ok-c.was _ c.used-settings.ensures,
+      (inputs_count c.in_ok-c.c _ _ h, (inputs_wired c.in_ok-c.c _ _ h, gates_asked _ s)),
+    )
 
-pub returns-in_err-count : goal.returns-in_err-count
-returns-in_err-count c =
-    let e : c.from_residual-in_err-count.result ≡ Err c.in_err-count.field-0.0 = search rules in
-    gates_refused _ _ c.read.ensures _ c.in_ok-c.was _ c.used-settings.ensures _ _ c.start.ensures _ _ _ c.map_gates.ensures.is _ _ c.in_err-count.was _ e
+pub returns-in_err-map_gates : goal.returns-in_err-map_gates
+returns-in_err-map_gates c =
+    let e : c.from_residual-in_err-map_gates.result ≡ Err c.in_err-map_gates.field-0.0 = search rules in
+    gates_refused _ _ c.read.ensures _ c.in_ok-c.was _ c.used-settings.ensures _ _ c.start.ensures _ _ _ c.map_gates.ensures.is _ _ c.in_err-map_gates.was _ e
 
-pub map_outputs-mapped-requires : goal.map_outputs-mapped-requires
-map_outputs-mapped-requires c =
+pub map_outputs-outputs-requires : goal.map_outputs-outputs-requires
+map_outputs-outputs-requires c =
     let s = sound _ _ c.read.ensures _ c.in_ok-c.was in
-    let w = c.in_ok-count.ensures.works in
+    let w = c.in_ok-map_gates.ensures.works in
     record {
       limits = limits _ _ c.read.ensures _ c.in_ok-c.was _ c.used-settings.ensures;
-      room = room_left _ s _ w.most;
+      room = room_left _ _ _ c.start.ensures s w;
       wired = (nodes_few _ s, w.wired);
       wires = outputs_asked _ s;
     }
 
 pub conclude-requires : goal.conclude-requires
 conclude-requires c =
-    finishable _ _ c.read.ensures _ c.in_ok-c.was _ c.used-settings.ensures _ _ c.start.ensures _ _ _ c.map_gates.ensures.is _ c.in_ok-count.was _ _ _ _ c.deref.ensures.0 c.map_outputs-mapped.ensures.is refl
-    c.in_ok-count.ensures.works c.map_outputs-mapped.ensures.outs
+    finishable _ _ c.read.ensures _ c.in_ok-c.was _ c.used-settings.ensures _ _ c.start.ensures _ _ _ c.map_gates.ensures.is _ c.in_ok-map_gates.was _ _ _ c.deref.ensures.0 c.map_outputs-outputs.ensures.is refl
+    c.in_ok-map_gates.ensures.works c.map_outputs-outputs.ensures.outs
 
 pub returns : goal.returns
 returns c =
-    mapped_is _ _ c.read.ensures _ c.in_ok-c.was _ c.used-settings.ensures _ _ c.start.ensures _ _ _ c.map_gates.ensures.is _ c.in_ok-count.was _ _ _ _ c.deref.ensures.0 c.map_outputs-mapped.ensures.is _ _ _ c.conclude.ensures.is
+    mapped_is _ _ c.read.ensures _ c.in_ok-c.was _ c.used-settings.ensures _ _ c.start.ensures _ _ _ c.map_gates.ensures.is _ c.in_ok-map_gates.was _ _ _ c.deref.ensures.0 c.map_outputs-outputs.ensures.is _ _ _ c.conclude.ensures.is

@@ -1,14 +1,14 @@
 use Rattle.std.proofs.Common.{◌∙◌, refl, rules}
 use Rattle.std.proofs.lemmas.Iterator.{YieldsList-from_range}
 use Rattle.std.proofs.lemmas.Iterator.Search.{any_from_yields_List}
-use Rattle.rules.specs.CircuitText.{same_name}
-use Rattle.nodes.specs.Nodes.{bytes_in}
-use Rattle.nodes.specs.View.{node_of}
-use Rattle.network_judge.specs.Scans.{any_name}
+use Rattle.rules.specs.Network.{node_at}
+use Rattle.nodes.specs.Store.{store_of}
+use Rattle.network_judge.specs.Scans.{has_name, any_node, any_name}
 use Rattle.network_judge.proofs.is_known_name.Goals as goal
 
 pub returns : goal.returns
 returns c =
-    any_from_yields_List (λ i. same_name c.args.name.now (bytes_in (node_of c.args.nodes.now i))) _ _ _ c.any.ensures.ran (YieldsList-from_range 0 c.args.count c.args.count refl (search rules))
+    any_from_yields_List (λ i. has_name c.args.name.now (node_at (store_of c.args.store.now) i)) _ _ _ c.any.ensures.ran (YieldsList-from_range 0 c.len.result c.len.result refl (search rules))
     (λ x b q k. search rules)
-    ∙ any_name c.args.name.now c.args.nodes.now c.args.count c.requires.all
+    ∙ any_node (has_name c.args.name.now) (store_of c.args.store.now) _ c.len.ensures.0
+    ∙ any_name c.args.name.now (store_of c.args.store.now)

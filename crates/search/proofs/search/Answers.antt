@@ -10,11 +10,11 @@ use Rattle.search.proofs.search.Invariants.{context_at}
 use Rattle.search.proofs.search.Goals.{In-Some, Start, After-candidate_at}
 
 abbrev step : Start → ℕ → ℕ → Option Score → Option Score
-step c = step_at (context_at c.args.s c.args.m c.args.left.now c.args.right.now c.args.sources c.args.nodes.now c.args.count) c.args.xs.now c.args.ys.now c.args.truth.now c.args.r.origin
+step c = step_at (context_at c.args.s c.args.m c.args.left.now c.args.right.now c.args.sources c.args.store.now) c.args.xs.now c.args.ys.now c.args.truth.now c.args.r.origin
 
 module _ (c : After-candidate_at) where
   abbrev context : Context
-  context = context_at c.args.s c.args.m c.args.left.now c.args.right.now c.args.sources c.args.nodes.now c.args.count
+  context = context_at c.args.s c.args.m c.args.left.now c.args.right.now c.args.sources c.args.store.now
 
   abbrev at_pair : ℕ → ℕ → Option Score → Option Score
   at_pair = step_at context c.args.xs.now c.args.ys.now c.args.truth.now c.args.r.origin

@@ -1,49 +1,35 @@
-use Rattle.std.proofs.Common.{◌≡◌, sym, ap₂, subst, ◌∙◌, ◌≤◌, arith, ◌-ℤ◌, length, to_z-of_z, w64, to_z, of_z, SFits}
-use Rattle.laws.specs.Integer.{read_back}
-use Rattle.rules.specs.Store.{terms_of}
+use Rattle.std.proofs.Common.{◌≡◌, ◌≤◌, ◌∙◌, sym, subst, arith, ℤ, nat_abs, neg_ℤ, ◌-ℤ◌, to_z, of_z, to_z-of_z, SFits, w8, w32, w64}
+use Rattle.std.proofs.lemmas.List.{length-map}
+use Rattle.std.specs.Int.Signed.{nat_abs-le}
+use Rattle.laws.specs.Integer.{abs_add, abs_neg, fits_abs}
 use Rattle.scale.specs.Limits.{Within}
-use Rattle.nodes.specs.Nodes.{constant_of, as_many, few_terms, constant_small}
-use Rattle.nodes.specs.View.{node_of}
-use Rattle.sum_reading.specs.Nodes.{sum-answer, coefs_near, rest-fits}
+use Rattle.theorems.specs.Terms.{coefs}
+use Rattle.nodes.specs.View.{terms_seen}
+use Rattle.sum_reading.specs.Nodes.{coefs_near, sum-answer}
 use Rattle.sum_reading.proofs.reading_on.Goals as goal
-use Rattle.sum_reading.proofs.reading_on.Goals.{After-constant_of, After-size_of-n}
+use Rattle.sum_reading.proofs.reading_on.Goals.{After-deref}
 
--- as many coefficients as terms
-many : (c : After-size_of-n) → c.size_of-n.result ≡ length (terms_of (node_of c.args.nodes.now c.args.i))
-many c = c.size_of-n.ensures ∙ as_many (node_of c.args.nodes.now c.args.i) c.requires.1
+-- what the machine takes off
+rest_is : (v c : ℤ) → SFits w32 v → nat_abs c ≤ 31 → to_z w64 (of_z w64 (to_z w64 (of_z w64 (to_z w32 (of_z w32 v))) -ℤ to_z w64 (of_z w64 (to_z w8 (of_z w8 c))))) ≡ v -ℤ c
+rest_is v c f h =
+    let value : to_z w64 (of_z w64 v) ≡ v = to_z-of_z {w = w64} (fits_abs v (omega (arith, nat_abs-le v f.sfits))) in
+    let byte : to_z w8 (of_z w8 c) ≡ c = to_z-of_z {w = w8} (fits_abs c (omega (arith, h))) in
+    let word : to_z w64 (of_z w64 c) ≡ c = to_z-of_z {w = w64} (fits_abs c (omega (arith, h))) in
+    simp (to_z-of_z f, value, byte, word) (to_z-of_z {w = w64} (fits_abs (v -ℤ c) (omega (arith, abs_add v (neg_ℤ c), abs_neg c, nat_abs-le v f.sfits))))
 
-few : (c : After-size_of-n) → c.size_of-n.result ≤ 11
-few c = omega (arith, many c, few_terms c.args.i (node_of c.args.nodes.now c.args.i) c.requires.0.fine)
-
-rest-is : (c : After-constant_of) → to_z w64 (of_z w64 c.wide-wanted.result) -ℤ to_z w64 (of_z w64 c.constant_of.result) ≡ c.args.value -ℤ constant_of (node_of c.args.nodes.now c.args.i)
-rest-is c =
-    ap₂ (λ a b. a -ℤ b) (read_back _ c.wide-wanted.type_inv ∙ c.wide-wanted.ensures ∙ to_z-of_z c.ranges.value) (read_back _ c.constant_of.type_inv ∙ c.constant_of.ensures)
-
-pub coefs_of-coefs-requires : goal.coefs_of-coefs-requires
-coefs_of-coefs-requires c = (c.requires.0, few c, many c)
-
-pub constant_of-requires : goal.constant_of-requires
-constant_of-requires c = c.requires
-
-pub overflow_sub-rest : goal.overflow_sub-rest
-overflow_sub-rest c =
-    let x = node_of c.args.nodes.now c.args.i in
-    subst (SFits w64) (sym (rest-is c)) (rest-fits c.args.value (constant_of x) c.ranges.value (constant_small c.args.i x c.requires.0.fine c.requires.1))
+held : (c : After-deref) → c.deref.result.now ≡ coefs (terms_seen c.args.terms.now)
+held c = c.deref.ensures.0 ∙ c.coefs_of.ensures
 
 pub first_row-row-requires : goal.first_row-row-requires
+unfolding terms_seen
 first_row-row-requires c =
-    (few (goal.at.first_row-row-requires c).After-size_of-n, subst (Within 1984) (sym c.coefs_of-coefs.ensures) (coefs_near c.args.i (node_of c.args.nodes.now c.args.i) c.requires.0.fine))
+    let e = held (goal.at.first_row-row-requires c).After-deref in
+    (rw (e, length-map, length-map) c.requires.good.few, subst (Within 1984) (sym e) (coefs_near c.requires.good))
 
 pub shown-requires : goal.shown-requires
-shown-requires c = few (goal.at.shown-requires c).After-size_of-n
+shown-requires c = c.requires.good.few
 
-pub returns : goal.returns
-returns c =
-    let x = node_of c.args.nodes.now c.args.i in
-    let e = rest-is (goal.at.returns c).After-constant_of in
-    let fits = subst (SFits w64) (sym e) (rest-fits c.args.value (constant_of x) c.ranges.value (constant_small c.args.i x c.requires.0.fine c.requires.1)) in
-    record {
-      few = c.shown.ensures.few;
-      is = c.shown.ensures.is
-          ∙ sum-answer x c.args.value _ c.size_of-n.result c.first_row-row.result _ c.requires.1 (many (goal.at.returns c).After-size_of-n) c.coefs_of-coefs.ensures (to_z-of_z {w = w64} fits ∙ e) c.first_row-row.ensures;
-    }
+pub returns-clause-is : goal.returns-clause-is
+returns-clause-is c =
+    let e = held (goal.at.returns-clause-is c).After-deref in
+    c.shown.ensures.is ∙ sum-answer c.args.constant c.args.terms.now c.args.value c.first_row-row.result (rw (e, rest_is c.args.value c.args.constant c.ranges.value c.requires.near) at c.first_row-row.ensures)

@@ -1,7 +1,8 @@
-use Rattle.std.proofs.Common.{take, None}
+use Rattle.std.proofs.Common.{None}
 use Rattle.std.specs.Prelude.{map}
 use Rattle.forms.specs.Forms.{output_of}
 use Rattle.rules.specs.Writing.{outputs_text}
+use Rattle.nodes.specs.Store.{store_of}
 use Rattle.lines.specs.Lines2.{net2_text}
 use Rattle.lines.specs.Put.{put_both, room, shorter}
 use Rattle.writer.specs.Outputs.{live_outputs}
@@ -13,7 +14,7 @@ use Rattle.writer2.proofs.write.Goals as goal
 pub put_net-a-requires : goal.put_net-a-requires
 unfolding text2 net2_text
 put_net-a-requires c =
-    shorter (stream c.args.net.p None (ordered c.args.live.now c.args.nodes.now (take c.args.count c.args.order.now))) (shorter (outputs_text (live_outputs c.args.live.now (map output_of c.args.outputs.now))) c.requires.room)
+    shorter (stream c.args.net.p None (ordered c.args.live.now (store_of c.args.store.now) c.args.order.now)) (shorter (outputs_text (live_outputs c.args.live.now (map output_of c.args.outputs.now))) c.requires.room)
 
 pub put_lines-b-requires : goal.put_lines-b-requires
 unfolding text2 net2_text

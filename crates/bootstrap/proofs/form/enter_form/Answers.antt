@@ -11,20 +11,17 @@ use Rattle.bootstrap.proofs.form.enter_form.Goals as goal
 use Rattle.bootstrap.proofs.form.enter_form.Goals.{After-rows_of-rows}
 
 -- `bootstrap::form::enter_form` meets its contract: the cone's truths, and the values of the other coefficients.
-module _ (k : Cone) (is : IsCone k) (long : length k.coefs ≡ 11) (coefs : List ℤ) (size : length coefs ≡ 11) (n : ℕ) (e : n ≡ 2 ^ k.n) where
+module _ (k : Cone) (is : IsCone k) (coefs : List ℤ) (size : length coefs ≡ 11) (n : ℕ) (e : n ≡ 2 ^ k.n) where
   values_are : (vs d : List ℤ) → vs ≡ over (linear_table (take k.n coefs)) d → take n vs ≡ linear_table (take k.n coefs)
   values_are vs d f =
       let m : length (take k.n coefs) ≡ k.n = length-take-le k.n coefs (omega (arith, is.few)) in
       rw f (take-over (linear_table (take k.n coefs)) d n (linear_table-length (take k.n coefs) ∙ ap (λ j. 2 ^ j) m ∙ sym e))
 
   truths_are : (ts d : List ℕ) → ts ≡ over (cone_of k).truth d → take n ts ≡ (cone_of k).truth
-  truths_are ts d f = rw f (take-over (cone_of k).truth d n (view_rows k is long ∙ sym e))
+  truths_are ts d f = rw f (take-over (cone_of k).truth d n (view_rows k is ∙ sym e))
 
   some_row : 0 < n
   some_row = rw e (pow_pos k.n)
-
-coefs_long : (c : After-rows_of-rows) → length c.args.c.coefs ≡ 11
-coefs_long c = search rules
 
 form_long : (c : After-rows_of-rows) → length c.args.coefs ≡ 11
 form_long c = search rules
@@ -49,8 +46,8 @@ rows : (c : After-rows_of-rows) → (take c.rows_of-rows.result c.values_of.new.
     × (take c.rows_of-rows.result c.truths_of.new.truth ≡ (cone_of c.args.c).truth)
 rows c =
     let n = c.rows_of-rows.result in (
-      values_are c.args.c c.requires.0 (coefs_long c) c.args.coefs (form_long c) n c.rows_of-rows.ensures _ _ c.values_of.ensures,
-      truths_are c.args.c c.requires.0 (coefs_long c) c.args.coefs (form_long c) n c.rows_of-rows.ensures _ _ c.truths_of.ensures.1,
+      values_are c.args.c c.requires.0 c.args.coefs (form_long c) n c.rows_of-rows.ensures _ _ c.values_of.ensures,
+      truths_are c.args.c c.requires.0 c.args.coefs (form_long c) n c.rows_of-rows.ensures _ _ c.truths_of.ensures.1,
     )
 
 pub truths_of-requires : goal.truths_of-requires
@@ -78,7 +75,7 @@ enter_rows-requires c =
     let p = (goal.at.enter_rows-requires c).After-rows_of-rows in
     let v = head_length _ c.rows_of-rows.result (in_values p) in
     let t = head_length _ c.rows_of-rows.result (in_truth p) in
-    (sym v ∙ t, (rw (sym v) (some_row c.args.c c.requires.0 (coefs_long p) c.args.coefs (form_long p) c.rows_of-rows.result c.rows_of-rows.ensures), (c.requires.1.1.0 ∙ ap span (sym (rows p).0), c.requires.1.1.1)))
+    (sym v ∙ t, (rw (sym v) (some_row c.args.c c.requires.0 c.args.coefs (form_long p) c.rows_of-rows.result c.rows_of-rows.ensures), (c.requires.1.1.0 ∙ ap span (sym (rows p).0), c.requires.1.1.1)))
 
 pub returns : goal.returns
 returns c = c.enter_rows.ensures ∙ ap₂ known_entries (rows (goal.at.returns c).After-rows_of-rows).0 (rows (goal.at.returns c).After-rows_of-rows).1

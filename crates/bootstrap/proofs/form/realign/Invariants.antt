@@ -1,6 +1,6 @@
-use Rattle.nodes.specs.View.{store_of}
+use Rattle.nodes.specs.Store.{store_of}
 use Rattle.bootstrap.specs.FormWalk.{Walked}
 use Rattle.bootstrap.proofs.form.realign.Given as goal
 
 abbrev pub invariant-loop-i : goal.invariant-loop-i
-invariant-loop-i l = Walked l.s (store_of l.nodes l.count) l.c l.i l.best
+invariant-loop-i l = Walked l.s (store_of l.store) l.c l.i l.best

@@ -63,14 +63,11 @@ this c =
     let t = zip_turn (cone_of c.args.cone).support (cone_of c.args.cone).coefficients c.loop-source.yielded _ _ c.next.new.self _ (cc) (cc) c.loop-source.yielded_by _ c.in-Some.is c.next.ensures.steps in
     (t.0, (t.2 0, t.3 (pos 0)))
 
-arrays : (c : Start) → (length c.args.cone.support ≡ 11) × ((length c.args.cone.coefs ≡ 11) × (length c.args.cone.known ≡ 32))
-arrays c = (search rules, (search rules, search rules))
-
 few : (c : Start) → length (cone_of c.args.cone).support ≤ 11
-few c = omega (arith, view_sources c.args.cone c.requires (arrays c).0, c.requires.few)
+few c = omega (arith, view_sources c.args.cone c.requires, c.requires.few)
 
 same : (c : Start) → length (cone_of c.args.cone).coefficients ≡ length (cone_of c.args.cone).support
-same c = view_coefs c.args.cone c.requires (arrays c).1.0 ∙ sym (view_sources c.args.cone c.requires (arrays c).0)
+same c = view_coefs c.args.cone c.requires ∙ sym (view_sources c.args.cone c.requires)
 
 not_zero : (c : Then-coef-ne0) (z : ℤ) → c.in-Some.field-0-1.now ≡ z → 0 < nat_abs z
 not_zero c z e = rw e at (used c.in-Some.field-0-1.now (search rules) c.if-coef-ne0.true)
@@ -103,9 +100,8 @@ loop-source-preserved c =
 pub returns : goal.returns
 returns c =
     let s = (goal.at.returns c).Start in
-    let a = arrays s in
     let o = c.loop-source in
     let v = cone_of c.args.cone in
     let e : length o.yielded ≡ min (length v.support) (length v.coefficients) =
     zip_end v.support v.coefficients o.yielded _ _ c.next.new.self _ (cc) (cc) o.yielded_by c.in-None.is c.next.ensures.steps in
-    rebuilt c.args.cone c.requires a.0 a.1.0 o.kept (done v.coefficients v.support (length o.yielded) o.kept (same s) (omega (arith, same s)) o.invariant.0) o.invariant.1 a.1.1
+    rebuilt c.args.cone c.requires o.kept (done v.coefficients v.support (length o.yielded) o.kept (same s) (omega (arith, same s)) o.invariant.0) o.invariant.1 o.invariant.0.room.0 o.invariant.0.room.1

@@ -11,7 +11,7 @@ use Rattle.cone.proofs.Cone.constant.Goals as goal
 
 -- `cone::Cone::constant` meets its contract.
 -- its one row has the value 0, whose entry is the first
-module _ (c : Cone) (b : ℕ) (bit : b ≤ 1) (long : length c.known ≡ 32) (few : c.n ≡ 0) (seen : cone_of c ≡ rules.constant b) where
+module _ (c : Cone) (b : ℕ) (bit : b ≤ 1) (sources : length c.support ≡ 11) (coefs : length c.coefs ≡ 11) (long : length c.known ≡ 32) (few : c.n ≡ 0) (seen : cone_of c ≡ rules.constant b) where
   one_bit : (i : ℕ) → i < length (rules.values (rules.constant b)) → get_or (rules.constant b).truth i 0 ≤ 1
   unfolding rules.constant
   one_bit zero h = bit
@@ -24,8 +24,8 @@ module _ (c : Cone) (b : ℕ) (bit : b ≤ 1) (long : length c.known ≡ 32) (fe
 
   fine : IsCone c
   unfolding rules.constant all_different total
-  fine = is_cone c (rules.constant b) seen long (omega arith) refl (omega arith) (λ i. omega arith) one_bit one_value
+  fine = is_cone c (rules.constant b) seen sources coefs long (omega arith) refl (omega arith) (λ i. omega arith) one_bit one_value
 
 pub returns : goal.returns
 unfolding cone_of rules.constant rules.linear_table truth_at entry_at least least_from
-returns c = (fine _ c.args.value c.requires refl refl refl, refl)
+returns c = (fine _ c.args.value c.requires refl refl refl refl refl, refl)

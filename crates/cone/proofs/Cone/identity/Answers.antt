@@ -12,7 +12,7 @@ use Rattle.cone.proofs.Cone.identity.Goals as goal
 
 -- `cone::Cone::identity` meets its contract.
 -- its two rows have the values 0 and 1, whose entries are the first two
-module _ (c : Cone) (node : ℕ) (near : node < 672) (long : length c.known ≡ 32) (one : c.n ≡ 1) (seen : cone_of c ≡ rules.identity node) where
+module _ (c : Cone) (node : ℕ) (near : node < 672) (sources : length c.support ≡ 11) (coefs : length c.coefs ≡ 11) (long : length c.known ≡ 32) (one : c.n ≡ 1) (seen : cone_of c ≡ rules.identity node) where
   two_bits : (i : ℕ) → i < length (rules.values (rules.identity node)) → get_or (rules.identity node).truth i 0 ≤ 1
   unfolding rules.identity
   two_bits zero h = omega arith
@@ -32,8 +32,8 @@ module _ (c : Cone) (node : ℕ) (near : node < 672) (long : length c.known ≡ 
 
   fine : IsCone c
   unfolding rules.identity all_different member total
-  fine = is_cone c (rules.identity node) seen long (omega arith) refl (omega arith) one-node two_bits two_values
+  fine = is_cone c (rules.identity node) seen sources coefs long (omega arith) refl (omega arith) one-node two_bits two_values
 
 pub returns : goal.returns
 unfolding cone_of rules.identity rules.linear_table truth_at entry_at least least_from
-returns c = (fine _ c.args.node c.requires refl refl refl, refl)
+returns c = (fine _ c.args.node c.requires refl refl refl refl refl, refl)

@@ -13,5 +13,5 @@ unfolding validity_of validate_cone within_norm
 over-norm s nodes c e = rw e
 
 pub returns-then-is_over : goal.returns-then-is_over
-returns-then-is_over c count b =
-    over-norm c.args.s _ _ (sym (c.is_over.ensures ∙ ap (over c.args.s.norm) (c.norm2.ensures count b)) ∙ c.if-is_over.true)
+returns-then-is_over c =
+    over-norm c.args.s _ _ (sym (c.is_over.ensures ∙ ap (over c.args.s.norm) c.norm2.ensures) ∙ c.if-is_over.true)

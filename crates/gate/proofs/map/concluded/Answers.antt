@@ -3,7 +3,7 @@ use Rattle.gate.proofs.map.concluded.Goals as goal
 
 -- `gate::map::concluded` meets its contract.
 pub returns-then-w-clause-is : goal.returns-then-w-clause-is
-returns-then-w-clause-is c bytes = mapped_switched bytes c.args.count c.args.w c.args.cone c.if-w.true
+returns-then-w-clause-is c store = mapped_switched store c.args.w c.args.cone c.if-w.true
 
 pub returns-else-w-clause-is : goal.returns-else-w-clause-is
-returns-else-w-clause-is c bytes = mapped_kept bytes c.args.count c.args.w c.args.cone c.if-w.false
+returns-else-w-clause-is c store = mapped_kept store c.args.w c.args.cone c.if-w.false

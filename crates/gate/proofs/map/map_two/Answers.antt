@@ -18,28 +18,28 @@ unfolding constant_value
 small k v is e = omega (arith, (bit_of (cone_of k) v e).1, truth-bit k is 0)
 
 pub bounds-gate-at : goal.bounds-gate-at
-bounds-gate-at c = omega (arith, small c.args.left c.in-Some.v c.requires.1.1.1.0.cone c.in-Some.ensures)
+bounds-gate-at c = omega (arith, small c.args.left c.in-Some.v c.requires.2.cone c.in-Some.ensures)
 
 pub bounds-gate-at-in-Some : goal.bounds-gate-at-in-Some
-bounds-gate-at-in-Some c = omega (arith, small c.args.left c.in-Some.v c.requires.1.1.1.0.cone c.in-Some.ensures)
+bounds-gate-at-in-Some c = omega (arith, small c.args.left c.in-Some.v c.requires.2.cone c.in-Some.ensures)
 
 pub map_unary-requires : goal.map_unary-requires
-map_unary-requires c = let p = c.requires.1.1.1 in let t = is_T _ p.1.1 in (c.requires.0, (c.requires.1.0, (p.1.0, (bit_at c.args.gate _ t, bit_at c.args.gate _ t))))
+map_unary-requires c = let t = is_T _ c.requires.4 in (c.requires.0, c.requires.3, bit_at c.args.gate _ t, bit_at c.args.gate _ t)
 
 pub returns-in-Some-clause-is : goal.returns-in-Some-clause-is
 returns-in-Some-clause-is c =
     let a = c.args in
     let b = bit_of (cone_of a.left) _ c.in-Some.ensures in
-    c.map_unary.ensures.is ∙ two_left a.s _ (cone_of a.left) (cone_of a.right) a.gate _ b.0 b.1 (small a.left _ c.requires.1.1.1.0.cone c.in-Some.ensures) (long (goal.at.returns-in-Some-clause-is c).Start)
+    c.map_unary.ensures.is ∙ two_left a.s _ (cone_of a.left) (cone_of a.right) a.gate _ b.0 b.1 (small a.left _ c.requires.2.cone c.in-Some.ensures) (long (goal.at.returns-in-Some-clause-is c).Start)
 
 pub bounds-gate-at-in-Some-constant_value : goal.bounds-gate-at-in-Some-constant_value
-bounds-gate-at-in-Some-constant_value c = omega (arith, small c.args.right c.in-Some-constant_value.v c.requires.1.1.1.1.0.cone c.in-Some-constant_value.ensures)
+bounds-gate-at-in-Some-constant_value c = omega (arith, small c.args.right c.in-Some-constant_value.v c.requires.3.cone c.in-Some-constant_value.ensures)
 
 pub bounds-gate-at-in-Some-constant_value-2 : goal.bounds-gate-at-in-Some-constant_value-2
-bounds-gate-at-in-Some-constant_value-2 c = omega (arith, small c.args.right c.in-Some-constant_value.v c.requires.1.1.1.1.0.cone c.in-Some-constant_value.ensures)
+bounds-gate-at-in-Some-constant_value-2 c = omega (arith, small c.args.right c.in-Some-constant_value.v c.requires.3.cone c.in-Some-constant_value.ensures)
 
 pub map_unary-requires-in-Some-constant_value : goal.map_unary-requires-in-Some-constant_value
-map_unary-requires-in-Some-constant_value c = let p = c.requires.1.1.1 in let t = is_T _ p.1.1 in (c.requires.0, (c.requires.1.0, (p.0, (bit_at c.args.gate _ t, bit_at c.args.gate _ t))))
+map_unary-requires-in-Some-constant_value c = let t = is_T _ c.requires.4 in (c.requires.0, c.requires.2, bit_at c.args.gate _ t, bit_at c.args.gate _ t)
 
 pub returns-in-Some-constant_value-clause-is : goal.returns-in-Some-constant_value-clause-is
 returns-in-Some-constant_value-clause-is c =

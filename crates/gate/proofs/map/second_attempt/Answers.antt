@@ -1,17 +1,21 @@
-use Rattle.std.proofs.Common.{◌∙◌}
+use Rattle.std.proofs.Common.{le_refl, ◌∙◌}
 use Rattle.rules.specs.Mapper as M
-use Rattle.gate.specs.GateSteps.{step_goes, step_none, second_is, grows}
+use Rattle.gate.specs.Gate.{left_is, left_ready, left_steps}
+use Rattle.gate.specs.GateSteps.{step_goes, step_none, second_is, grows, maps_wider}
 use Rattle.gate.proofs.map.second_attempt.Goals as goal
 
 pub returns-in-Some : goal.returns-in-Some
 returns-in-Some c =
-    let q = c.bootstrap_left-b in
+    let b = c.bootstrap_side-w.ensures in
     record {
-      is = c.concluded.ensures.is _ ∙ step_goes c.args.s (M.third_attempt c.args.s) _ _ q.result q.ensures.is c.attempt_sides.result c.attempt_sides.ensures.is _ c.in-Some.is ∙ second_is _ _;
-      stands = c.concluded.ensures.stands _ _ _ _ _ (grows q.ensures.steps) q.ensures.steps.ready.both c.in-Some.ensures.stands;
+      is = c.concluded.ensures.is _ ∙ step_goes c.args.s (M.third_attempt c.args.s) _ _ (left_is c.args.w b) c.attempt_sides.result c.attempt_sides.ensures.is _ c.in-Some.is ∙ second_is _ _;
+      stands = c.concluded.ensures.stands _ _ _ _ (grows _ (le_refl _) (left_steps c.requires.1 b)) (left_ready c.requires.1 b).both c.in-Some.ensures.stands;
     }
 
-pub returns-in-None-clause-is : goal.returns-in-None-clause-is
-returns-in-None-clause-is c =
-    let q = c.bootstrap_left-b in
-    c.third_attempt.ensures.is ∙ step_none c.args.s (M.third_attempt c.args.s) _ _ q.result q.ensures.is c.attempt_sides.result c.attempt_sides.ensures.is c.in-None.is ∙ second_is _ _
+pub returns-in-None : goal.returns-in-None
+returns-in-None c =
+    let b = c.bootstrap_side-w.ensures in
+    record {
+      is = c.third_attempt.ensures.is ∙ step_none c.args.s (M.third_attempt c.args.s) _ _ (left_is c.args.w b) c.attempt_sides.result c.attempt_sides.ensures.is c.in-None.is ∙ second_is _ _;
+      stands = maps_wider _ (le_refl _) (left_steps c.requires.1 b) _ _ c.third_attempt.ensures.stands;
+    }

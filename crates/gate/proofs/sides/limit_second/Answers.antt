@@ -1,14 +1,14 @@
 use Rattle.std.proofs.Common.{sym, ◌∙◌}
-use Rattle.gate.specs.View.{limited_of}
+use Rattle.gate.specs.Gate.{left_is, left_steps}
 use Rattle.gate.specs.GateSteps.{second_not, second-over, steps_none}
 use Rattle.gate.proofs.sides.limit_second.Goals as goal
 
 pub returns-then-over_limit : goal.returns-then-over_limit
-returns-then-over_limit c = let o = c.over_limit in record {
-  is = c.bootstrap_left.ensures.is ∙ second-over _ _ (sym (o.ensures _) ∙ c.if-over_limit.true);
-  steps = c.bootstrap_left.ensures.steps;
-}
+returns-then-over_limit c =
+    let b = c.bootstrap_side-w.ensures in record {
+      is = left_is c.args.w b ∙ second-over _ _ (sym (c.over_limit.ensures _) ∙ c.if-over_limit.true);
+      steps = left_steps c.requires.1 b;
+    }
 
 pub returns-else-over_limit : goal.returns-else-over_limit
-unfolding limited_of
-returns-else-over_limit c = let o = c.over_limit in record { is = second_not _ _ (sym (o.ensures _) ∙ c.if-over_limit.false); steps = steps_none c.requires.1 }
+returns-else-over_limit c = record { is = second_not _ _ (sym (c.over_limit.ensures _) ∙ c.if-over_limit.false); steps = steps_none c.requires.1 }

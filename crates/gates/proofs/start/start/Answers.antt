@@ -1,29 +1,28 @@
-use Rattle.std.proofs.Common.{refl, [], arith}
-use Rattle.rules.specs.Network.{node_centre}
-use Rattle.gates.specs.Start.{good_at, started_none, started_next, started_all}
+use Rattle.std.proofs.Common.{◌∙◌, sym, ap, subst, arith, []}
+use Rattle.rules.specs.Cone.{identity}
+use Rattle.forms.specs.declared.Input as I
+use Rattle.gates.specs.Start.{Started, good_at, started_count, started_none, started_more, input_next, inputs_before}
 use Rattle.gates.proofs.start.start.Goals as goal
 
+-- what stands past the inputs
+no_input : I.Input
+no_input = record { name = record { ref_ptr = (0, 0); now = [] }; weight = 0 }
+
 pub loop-i-init : goal.loop-i-init
-loop-i-init c = started_none _ _ _ c.requires.0 c.put_constants.ensures
+loop-i-init c = started_none _ _ c.requires.0 c.requires.1.0
 
 pub put_input-requires : goal.put_input-requires
+unfolding no_input
 put_input-requires c =
-    let g = good_at _ _ c.deref-input-items.ensures.0 _ _ c.loop-i-test.true c.requires.1.1 in
-    (c.loop-i.invariant.wired.store, omega (arith, g.0), g.1.0, g.1.1)
-
-pub put_cone-requires : goal.put_cone-requires
-put_cone-requires c =
-    let g = good_at _ _ c.deref-input-items.ensures.0 _ record { name = record { ref_ptr = (0, 0); now = [] }; weight = 0 } c.loop-i-test.true c.requires.1.1 in
-    (omega (arith, g.0), (c.loop-i.invariant.wired.long, c.identity.ensures.0))
+    let q = c.deref-input-items.ensures.0 in
+    let l = c.loop-i-test.true in
+    let g = good_at _ _ q _ no_input l c.requires.1.1 in
+    (omega (arith, started_count _ _ _ c.loop-i.invariant, inputs_before _ _ q _ no_input l, g.0), g.1)
 
 pub loop-i-preserved : goal.loop-i-preserved
-unfolding node_centre
+unfolding no_input
 loop-i-preserved c =
-    let p = c.put_input.ensures in
     let q = c.deref-input-items.ensures.0 in
-    let g = good_at _ _ q _ record { name = record { ref_ptr = (0, 0); now = [] }; weight = 0 } c.loop-i-test.true c.requires.1.1 in
-    started_next _ _ _ _ c.loop-i.invariant g.0 _ _ _ p.still c.put_cone.ensures c.identity.ensures.0 c.identity.ensures.1 _ q _ c.loop-i-test.true
-    (λ r. p.centred r refl (c.loop-i.invariant.centred r)) p.store
-
-pub returns : goal.returns
-returns c = started_all _ _ c.deref-input-items.ensures.0 _ _ _ (omega (arith, c.loop-i-test.false, c.loop-i.auto.i-end)) c.loop-i.invariant
+    let l = c.loop-i-test.true in
+    subst (λ inputs. Started inputs c.put_input.new.store c.push.new.self.items) (sym (input_next _ _ q _ no_input l))
+    (started_more _ _ _ c.loop-i.invariant _ _ c.put_input.ensures _ _ c.identity.ensures.0 (c.identity.ensures.1 ∙ ap identity (sym (inputs_before _ _ q _ no_input l))) c.push.ensures.items)

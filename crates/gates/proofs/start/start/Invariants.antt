@@ -1,7 +1,7 @@
-use Rattle.std.proofs.Common.{map}
+use Rattle.std.proofs.Common.{map, take}
 use Rattle.forms.specs.Forms.{given_of}
 use Rattle.gates.specs.Start.{Started}
 use Rattle.gates.proofs.start.start.Given as goal
 
 abbrev pub invariant-loop-i : goal.invariant-loop-i
-invariant-loop-i l = Started (map given_of l.c.inputs.items) l.i l.nodes l.wires
+invariant-loop-i l = Started (take l.i (map given_of l.c.inputs.items)) l.store l.wires.items

@@ -1,5 +1,5 @@
 use Rattle.std.proofs.Common.{◌+◌, rules}
-use Rattle.cone.proofs.Made.{built}
+use Rattle.laws.specs.Made.{built}
 use Rattle.merged_rows.specs.EnergyRows.{row_of, no_row}
 use Rattle.merged_rows.proofs.energy.pack_rows.Goals as goal
 

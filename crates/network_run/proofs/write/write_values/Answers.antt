@@ -1,16 +1,8 @@
-use Rattle.std.proofs.Common.{rules}
-use Rattle.laws.specs.Front.{filling_start}
 use Rattle.laws.specs.Integer.{read_back}
-use Rattle.network_run.specs.Write.{outputs_next, outputs_done}
+use Rattle.network_run.specs.Write.{outputs_next}
 use Rattle.network_run.proofs.write.write_values.Goals as goal
-
-pub loop-i-init : goal.loop-i-init
-loop-i-init c = filling_start _ _
 
 pub loop-i-preserved : goal.loop-i-preserved
 loop-i-preserved c =
     simp (read_back c.wire_value.result c.wire_value.type_inv)
     (outputs_next c.args.found.now c.args.outputs.now c.args.values.now _ _ c.loop-i.invariant c.requires _ _ c.wire_value.ensures c.loop-i-test.true)
-
-pub returns : goal.returns
-returns c = outputs_done c.args.found.now c.args.outputs.now c.args.values.now _ c.loop-i.i c.loop-i.invariant c.requires (search rules)

@@ -1,4 +1,4 @@
-use Rattle.std.proofs.Common.{refl, sym, ◌∙◌, arith, le-leb}
+use Rattle.std.proofs.Common.{sym, ◌∙◌, arith, le-leb}
 use Rattle.std.proofs.lemmas.Bool.{lt-leb}
 use Rattle.theorems.specs.Completions.{completable-small, completable_long, completable-left}
 use Rattle.rotation.proofs.pairs.is_known_lut_valid.Goals as goal
@@ -12,4 +12,4 @@ returns-else-known-size-2 c = lt-leb _ _ c.if-known-size-2.false ∙ sym (comple
 
 pub returns-then-known-size-2 : goal.returns-then-known-size-2
 returns-then-known-size-2 c =
-    c.has_common_sum.ensures ∙ completable-left _ _ c.requires (omega arith) _ _ _ (refl, refl, refl) (omega arith)
+    c.has_common_sum.ensures ∙ completable-left _ _ c.requires (omega arith) (omega arith)

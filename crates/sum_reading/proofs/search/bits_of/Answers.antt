@@ -1,4 +1,4 @@
-use Rattle.std.proofs.Common.{◌≡◌, sym, ◌∙◌, List, ℕ, ◌+◌, ◌-◌, ◌<◌, ◌≤◌, arith, rules, replicate, set}
+use Rattle.std.proofs.Common.{◌≡◌, refl, sym, ◌∙◌, List, ℕ, ◌+◌, ◌-◌, ◌<◌, ◌≤◌, arith, rules, replicate, set}
 use Rattle.laws.specs.Digits.{bit, digits, digits-length}
 use Rattle.laws.specs.Front.{Filling, filling_start, filling_step}
 use Rattle.laws.specs.Over.{over, front-over}
@@ -16,9 +16,10 @@ pub loop-k-init : goal.loop-k-init
 loop-k-init c = filling_start (digits c.args.n c.args.row) (replicate 11 0)
 
 pub loop-k-preserved : goal.loop-k-preserved
+unfolding bit
 loop-k-preserved c =
     let o = c.loop-k in
-    turn c.args.n c.args.row o.k o.bits o.invariant c.requires c.digit.result c.digit.ensures (search rules)
+    turn c.args.n c.args.row o.k o.bits o.invariant c.requires _ refl (search rules)
 
 pub returns : goal.returns
 returns c =

@@ -1,9 +1,7 @@
-use Rattle.std.proofs.Common.{◌≡◌, length, take}
-use Rattle.rules.specs.Store.{terms_of}
-use Rattle.theorems.specs.Terms.{coefs}
-use Rattle.nodes.specs.View.{node_of}
+use Rattle.std.proofs.Common.{◌≡◌, length}
+use Rattle.sum_reading.specs.Nodes.{coefs_to}
 use Rattle.sum_reading.proofs.search.coefs_of.Given as goal
 
--- the first k places hold the first k coefficients
-abbrev pub invariant-loop-k : goal.invariant-loop-k
-invariant-loop-k l = (length l.coefs ≡ 11) × (take l.k l.coefs ≡ take l.k (coefs (terms_of (node_of l.nodes l.i))))
+-- those of the terms so far
+abbrev pub invariant-loop-term : goal.invariant-loop-term
+invariant-loop-term l = (l.coefs.items ≡ coefs_to l.terms l.term-index) × (length l.coefs.items ≡ l.term-index)

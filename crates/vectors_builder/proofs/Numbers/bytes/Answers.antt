@@ -1,7 +1,7 @@
 use Rattle.std.proofs.Common.{rules, false}
 use Rattle.vectors_builder.specs.Shown.{byte_of}
-use Rattle.vectors_builder.specs.Mapped.{map_is}
+use Rattle.laws.specs.Made.{mapped}
 use Rattle.vectors_builder.proofs.Numbers.bytes.Goals as goal
 
 pub returns : goal.returns
-returns c = map_is byte_of _ _ c.args.self.now.list _ 64 (record { value = 0; negative = false }) (0) c.map.ensures.items (search rules) (λ x y p q k. search rules)
+returns c = mapped byte_of (λ x y q k. search rules) c.args.self.now.list c.map.result 64 (record { value = 0; negative = false }) 0 (search rules) c.map.ensures.items

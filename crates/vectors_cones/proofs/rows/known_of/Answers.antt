@@ -1,6 +1,7 @@
 use Rattle.std.proofs.Common.{◌≡◌, length, take, sym, ap, ◌∙◌, arith, pow_pos, length-take-le}
 use Rattle.rules.specs.Span.{span}
-use Rattle.vectors_cones.specs.Made.{few_rows, values_first}
+use Rattle.compose.specs.Basis.{few_rows}
+use Rattle.vectors_cones.specs.Made.{values_first}
 use Rattle.vectors_cones.proofs.rows.known_of.Goals as goal
 
 pub known_at-requires : goal.known_at-requires

@@ -1,4 +1,6 @@
+use Rattle.std.proofs.Common.{arith}
 use Rattle.lines.specs.Put.{left-all}
+use Rattle.nodes.specs.Store.{store_of}
 use Rattle.writer.specs.Live.{live_nodes, lines_left, line-room, line-turn, lines_done}
 use Rattle.writer.proofs.node_lines.put_nodes.Goals as goal
 
@@ -9,10 +11,10 @@ loop-i-init c = left-all _ _ _
 pub put_live-to-requires : goal.put_live-to-requires
 put_live-to-requires c =
     let o = c.loop-i in
-    record { sourced = (c.requires.sourced, c.loop-i-test.true); room = line-room c.args.live.now c.args.nodes.now c.args.count o.i c.loop-i-test.true o.invariant c.requires.room }
+    record { sourced = (c.requires.sourced, omega arith); room = line-room c.args.live.now (store_of c.args.store.now) o.i o.invariant (omega arith) c.requires.room }
 
 pub loop-i-preserved : goal.loop-i-preserved
-loop-i-preserved c = line-turn c.args.live.now c.args.nodes.now c.args.count c.loop-i.i c.loop-i-test.true c.loop-i.invariant c.put_live-to.ensures
+loop-i-preserved c = line-turn c.args.live.now (store_of c.args.store.now) c.loop-i.i c.loop-i.invariant (omega arith) c.put_live-to.ensures
 
 pub returns : goal.returns
-returns c = lines_done c.args.live.now c.args.nodes.now c.args.count c.loop-i.i c.loop-i-test.false c.loop-i.invariant
+returns c = lines_done c.args.live.now (store_of c.args.store.now) c.loop-i.i c.loop-i.invariant (omega arith)

@@ -1,7 +1,8 @@
 use Rattle.rules.specs.Writing.{nodes_text}
+use Rattle.nodes.specs.Store.{store_of}
 use Rattle.lines.specs.Put.{Left}
 use Rattle.writer.specs.Live.{live_nodes, lines_left}
 use Rattle.writer.proofs.node_lines.put_nodes.Given as goal
 
 abbrev pub invariant-loop-i : goal.invariant-loop-i
-invariant-loop-i l = Left l.at (nodes_text (live_nodes l.live l.nodes l.count)) l.initial.out l.to (lines_left l.live l.nodes l.count l.i) l.out
+invariant-loop-i l = Left l.at (nodes_text (live_nodes l.live l.store)) l.initial.out l.to (lines_left l.live (store_of l.store) l.i) l.out

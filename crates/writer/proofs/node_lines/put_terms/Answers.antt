@@ -1,22 +1,31 @@
-use Rattle.nodes.specs.View.{node_of}
-use Rattle.writer.specs.Live.{among_terms, past_terms, term_room, term_turn, terms_done}
+use Rattle.nodes.specs.Norm.{coef_read}
+use Rattle.lines.specs.Put.{left-all}
+use Rattle.writer.specs.Live.{terms_left, term_asked, term_room, term_turn, terms_done}
 use Rattle.writer.proofs.node_lines.put_terms.Goals as goal
 
-pub put_summand-to-requires : goal.put_summand-to-requires
-put_summand-to-requires c =
-    let o = c.loop-k in
-    let n = node_of c.args.nodes.now c.args.i in
-    let h = among_terms n c.requires.ready_at.1 o.k c.size_of-k-end.ensures c.loop-k-test.true in
-    record { ready_at = (c.requires.ready_at.0, c.requires.ready_at.1, h); room = term_room c.args.live.now n c.requires.ready_at.1 o.k h o.invariant c.requires.room }
+pub loop-term-init : goal.loop-term-init
+unfolding terms_left
+loop-term-init c = left-all _ _ _
 
-pub loop-k-preserved : goal.loop-k-preserved
-loop-k-preserved c =
-    let o = c.loop-k in
-    let n = node_of c.args.nodes.now c.args.i in
-    term_turn c.args.live.now n c.requires.ready_at.1 o.k (among_terms n c.requires.ready_at.1 o.k c.size_of-k-end.ensures c.loop-k-test.true) o.invariant c.put_summand-to.ensures
+pub number_of-requires : goal.number_of-requires
+number_of-requires c = (term_asked c.args.live.now c.args.terms.now c.loop-term.term-index _ c.loop-term-test.true c.requires.ready).1
+
+pub put_term-to-requires : goal.put_term-to-requires
+put_term-to-requires c =
+    let o = c.loop-term in
+    let h = c.loop-term-test.true in
+    let a = (term_asked c.args.live.now c.args.terms.now o.term-index _ h c.requires.ready).0 in
+    record {
+      c_bound = rw (coef_read _ a) a;
+      room = term_room c.args.live.now c.args.terms.now o.term-index _ h o.invariant (coef_read _ a) c.number_of.ensures c.requires.room;
+    }
+
+pub loop-term-preserved : goal.loop-term-preserved
+loop-term-preserved c =
+    let o = c.loop-term in
+    let h = c.loop-term-test.true in
+    let a = (term_asked c.args.live.now c.args.terms.now o.term-index _ h c.requires.ready).0 in
+    term_turn c.args.live.now c.args.terms.now o.term-index _ h o.invariant (coef_read _ a) c.number_of.ensures c.put_term-to.ensures
 
 pub returns : goal.returns
-returns c =
-    let o = c.loop-k in
-    let n = node_of c.args.nodes.now c.args.i in
-    terms_done c.args.live.now n c.requires.ready_at.1 o.k (past_terms n c.requires.ready_at.1 o.k c.size_of-k-end.ensures c.loop-k-test.false) o.invariant
+returns c = terms_done c.args.live.now c.args.terms.now c.loop-term.term-index c.loop-term-test.false c.loop-term.invariant

@@ -1,8 +1,10 @@
-use Rattle.nodes.specs.View.{node_of}
+use Rattle.std.specs.Prelude.{map}
+use Rattle.rules.specs.Writing.{terms_text}
+use Rattle.nodes.specs.View.{terms_seen}
 use Rattle.lines.specs.Put.{Left}
-use Rattle.writer.specs.Live.{terms_left}
+use Rattle.writer.specs.Live.{new_term, terms_left}
 use Rattle.writer.proofs.node_lines.put_terms.Given as goal
 
-abbrev pub invariant-loop-k : goal.invariant-loop-k
-invariant-loop-k l =
-    Left l.at (terms_left l.live (node_of l.nodes l.i) 0) l.initial.out l.to (terms_left l.live (node_of l.nodes l.i) l.k) l.out
+abbrev pub invariant-loop-term : goal.invariant-loop-term
+invariant-loop-term l =
+    Left l.at (terms_text (map (new_term l.live) (terms_seen l.terms))) l.initial.out l.to (terms_left l.live l.terms l.term-index) l.out

@@ -1,34 +1,40 @@
-use Rattle.std.proofs.Common.{refl, take}
+use Rattle.std.proofs.Common.{refl}
 use Rattle.lines.specs.Put.{left-all}
-use Rattle.writer2.specs.Node2.{lines_left, known_in, known_ready, piece-room, piece-turn, closing-room, lines_done}
+use Rattle.nodes.specs.Store.{store_of}
+use Rattle.writer2.specs.Node2.{lines_left, known_at, piece-room, piece-turn, closing-room, lines_done}
 use Rattle.writer2.proofs.many.put_lines.Goals as goal
 
-pub loop-node-init : goal.loop-node-init
+pub loop-i-init : goal.loop-i-init
 unfolding lines_left
-loop-node-init c = left-all _ _ _
+loop-i-init c = left-all _ _ _
 
 pub put_piece-to-requires : goal.put_piece-to-requires
 put_piece-to-requires c =
-    let o = c.loop-node in
+    let o = c.loop-i in
+    let e = c.node-node.ensures in
     record {
-      known = known_in c.requires.ordered o.node-index c.loop-node-test.true;
-      room = piece-room c.args.p c.args.live.now c.args.nodes.now (take c.args.count c.args.order.now) o.node-index o.opened o.invariant c.loop-node-test.true refl c.requires.room;
+      known = rw e (known_at c.requires.ordered _ (c.requires.ordered.below o.i-index c.loop-i-test.true));
+      room = rw e (piece-room c.args.p c.args.live.now (store_of c.args.store.now) c.args.order.now o.i-index o.opened o.invariant c.loop-i-test.true refl c.requires.room);
     }
 
 pub open_behind-opened-requires : goal.open_behind-opened-requires
-open_behind-opened-requires c = known_ready (known_in c.requires.ordered c.loop-node.node-index c.loop-node-test.true)
+open_behind-opened-requires c =
+    let e = c.node-node.ensures in
+    rw e (known_at c.requires.ordered _ (c.requires.ordered.below c.loop-i.i-index c.loop-i-test.true)).ready
 
-pub loop-node-preserved : goal.loop-node-preserved
-loop-node-preserved c =
-    let o = c.loop-node in
-    piece-turn c.args.p c.args.live.now c.args.nodes.now (take c.args.count c.args.order.now) o.node-index o.opened o.invariant c.loop-node-test.true c.open_behind-opened.ensures c.put_piece-to.ensures
+pub loop-i-preserved : goal.loop-i-preserved
+loop-i-preserved c =
+    let o = c.loop-i in
+    let e = c.node-node.ensures in
+    piece-turn c.args.p c.args.live.now (store_of c.args.store.now) c.args.order.now o.i-index o.opened o.invariant c.loop-i-test.true
+    (rw e at c.open_behind-opened.ensures) (rw e at c.put_piece-to.ensures)
 
 pub put_closing-requires : goal.put_closing-requires
 put_closing-requires c =
-    let o = c.loop-node in
-    closing-room c.args.p c.args.live.now c.args.nodes.now (take c.args.count c.args.order.now) o.node-index o.opened o.invariant c.loop-node-test.false c.requires.room
+    let o = c.loop-i in
+    closing-room c.args.p c.args.live.now (store_of c.args.store.now) c.args.order.now o.i-index o.opened o.invariant c.loop-i-test.false c.requires.room
 
 pub returns : goal.returns
 returns c =
-    let o = c.loop-node in
-    lines_done c.args.p c.args.live.now c.args.nodes.now (take c.args.count c.args.order.now) o.node-index o.opened o.invariant c.loop-node-test.false c.put_closing.ensures
+    let o = c.loop-i in
+    lines_done c.args.p c.args.live.now (store_of c.args.store.now) c.args.order.now o.i-index o.opened o.invariant c.loop-i-test.false c.put_closing.ensures

@@ -1,0 +1,6 @@
+use Rattle.nodes.specs.Norm.{norm_step}
+use Rattle.nodes.proofs.store.Store.norm_of.Goals as goal
+
+pub loop-term-preserved : goal.loop-term-preserved
+loop-term-preserved c =
+    norm_step _ _ _ _ _ _ _ c.requires.0 c.loop-term-test.true c.loop-term.invariant.0 c.loop-term.invariant.1 c.source_norm.ensures.0 c.source_norm.ensures.1
