@@ -90,7 +90,8 @@ fn take_line<'a>(w: &mut Prefix<'a>, l: &'a [u8]) -> Result<(), Reason>
     }
 }
 
-// As `network::read`, of edition 2.
+// As `network::read`, of edition 2. Not inlined, so that a call's stack holds the nodes of one reader alone.
+#[inline(never)]
 #[tactic(auto, using(crate::specs::Reading::reads_start, network::specs::View::empty_holds, crate::specs::Reading::reads_end, crate::specs::Reading::reads_refused, crate::specs::Reading::reads_next, text::specs::FirstLine::after_shorter))]
 fn read_edition_2(text: &[u8]) -> Result<Network<'_>, Refusal>
     ensures is { reading_of result ≡ read_admitted2 text.now }
