@@ -230,18 +230,18 @@ source_inside st i j table h e = rw (sym e) at (takes st i (node_at (store_of st
 -- ---- laws: a turn of the loop
 
 -- The nodes below i were counted.
-pub record Counting (st : Store) (outputs : ℕ) (marks : List Bool) (s : Stats) (i : ℕ) : Type 0 where
+pub record Counted (st : Store) (outputs : ℕ) (marks : List Bool) (s : Stats) (i : ℕ) : Type 0 where
   pub inside : i ≤ length (store_of st)
   pub stats : s ≡ stats_among (store_of st) (take i (store_of st)) outputs (largest (λ d. d) (take i (depths (store_of st)))) (λ k. tables_of st k i)
   pub taken : marks ≡ taken_of (boot_sources (take i (store_of st)))
 
 pub counting_start : (st : Store) (outputs : ℕ) (s : Stats)
     → s ≡ record { inputs = 0; sums = 0; boots = 0; sources = 0; longest = 0; norm = 0; outputs = outputs; depth = 0; centre0 = 0; centre1 = 0; centre2 = 0 }
-    → Counting st outputs (replicate 672 false) s 0
+    → Counted st outputs (replicate 672 false) s 0
 unfolding stats_among tables_of count different boot_sources largest taken_of member_of member tabulate
 counting_start st outputs s e = record { inside = omega arith; stats = e; taken = refl }
 
-module _ {st : Store} {outputs : ℕ} {taken : List Bool} {s : Stats} {i : ℕ} (c : Counting st outputs taken s i) where
+module _ {st : Store} {outputs : ℕ} {taken : List Bool} {s : Stats} {i : ℕ} (c : Counted st outputs taken s i) where
   pub counting_long : length taken ≡ 672
   counting_long = ap length c.taken ∙ taken-length (boot_sources (take i (store_of st)))
 
@@ -263,7 +263,7 @@ module _ {st : Store} {outputs : ℕ} {taken : List Bool} {s : Stats} {i : ℕ} 
 
   pub counting_next : {after : List Bool} {r : Stats} → i < length (store_of st)
       → r ≡ node_stats (measured s (node_norm (store_of st) (node_at (store_of st) i)) (depth (store_of st) i)) (centre_in st i) taken (node_at (store_of st) i)
-      → after ≡ taken_with taken (node_at (store_of st) i) → Counting st outputs after r (i + 1)
+      → after ≡ taken_with taken (node_at (store_of st) i) → Counted st outputs after r (i + 1)
   unfolding depth
   counting_next {r = r} h e g =
       let all = store_of st in

@@ -7,6 +7,7 @@ ghost use Rattle.std.specs.Prelude.{◌≡◌};
 ghost use Rattle.rules.specs.Admission.{admission, admit_reply};
 
 pub use count::stats_of;
+use network::Network;
 use rules::{Refusal, Stats};
 
 // The statistics of a network whose lines meet none of these, or the number and the line of the first that does.
@@ -14,6 +15,7 @@ use rules::{Refusal, Stats};
 pub fn admit(text: &[u8]) -> Result<Stats, Refusal>
     ensures { admit_reply result ≡ admission text.now }
 {
-    let w = edition::read(text)?;
-    Ok(stats_of(&w.store, w.outputs.len()))
+    let mut network = Network::new();
+    edition::read(text, &mut network)?;
+    Ok(stats_of(&network.store, network.outputs.len()))
 }

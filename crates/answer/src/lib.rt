@@ -7,23 +7,26 @@ ghost use Rattle.framing.specs.Step.{Within};
 ghost use Rattle.framing.specs.Feeding.{said, closing};
 ghost use Rattle.rules.specs.Refusal.{reason_number};
 ghost use Rattle.rules.specs.Service.{end_line, refusal_text, mapper_answer};
-ghost use Rattle.lines.specs.Put.{Put};
+ghost use Rattle.lines.specs.Front.{Written};
 ghost use Rattle.answer.specs.Front.{Front};
 
 use framing::Feed;
-use lines::put::{put, put_all, put_number};
+use lines::cursor::Cursor;
 use mapper::map;
 use rules::{Reason, Refusal};
 
-// `(no NUMBER LINE)`.
-fn put_refusal(out: &mut [u8], number: usize, line: usize) -> usize
-    ensures { Put 0 (refusal_text number line) out.old result out.new }
+// `(no NUMBER LINE)`; answers its length.
+fn put_refusal(out: &mut [u8], r: Refusal) -> usize
+    ensures { Written (refusal_text (reason_number r.reason) r.line) out.old result out.new }
 {
-    let a = put_all(out, 0, b"(no ");
-    let b = put_number(out, a, number);
-    let c = put(out, b, b' ');
-    let d = put_number(out, c, line);
-    put_all(out, d, b")\n")
+    let number = r.reason.number();
+    let mut cursor = Cursor { out, at: 0 };
+    cursor.put_all(b"(no ");
+    cursor.put_number(number);
+    cursor.put(b' ');
+    cursor.put_number(r.line);
+    cursor.put_all(b")\n");
+    cursor.at
 }
 
 // `(end)` behind the n bytes of an answer.
@@ -31,7 +34,9 @@ fn put_end(out: &mut [u8], n: usize) -> usize
     requires { (n ≤ 65536) × (65542 ≤ length out.old) }
     ensures { Front (take n out.old ++ end_line) result out.new }
 {
-    put_all(out, n, b"(end)\n")
+    let mut cursor = Cursor { out, at: n };
+    cursor.put_all(b"(end)\n");
+    cursor.at
 }
 
 // A refusal with its `(end)`.
@@ -39,7 +44,7 @@ fn refuse(out: &mut [u8], r: Refusal) -> usize
     requires { 65542 ≤ length out.old }
     ensures { Front (refusal_text (reason_number r.reason) r.line ++ end_line) result out.new }
 {
-    let n = put_refusal(out, r.reason.number(), r.line);
+    let n = put_refusal(out, r);
     put_end(out, n)
 }
 
@@ -55,6 +60,7 @@ fn answer_job(job: &[u8], out: &mut [u8]) -> usize
 }
 
 // What is printed behind a byte: nothing, or the answer to the job that it closes. `job` are the kept bytes.
+// Slices with a least length: arrays of a fixed one would ask more of a caller.
 pub fn say(closed: Option<Result<usize, Reason>>, job: &[u8], out: &mut [u8]) -> usize
     requires { Within closed × (32768 ≤ length job.now) × (65542 ≤ length out.old) }
     ensures { Front (said mapper_answer closed job.now) result out.new }
@@ -62,22 +68,18 @@ pub fn say(closed: Option<Result<usize, Reason>>, job: &[u8], out: &mut [u8]) ->
     match closed {
         None => 0,
         Some(Ok(n)) => answer_job(&job[..n], out),
-        Some(Err(reason)) => refuse(out, Refusal { reason, line: 0 }),
+        Some(Err(reason)) => refuse(out, Refusal::of_whole(reason)),
     }
 }
 
-// What is printed at the input's end.
+// What is printed at the input's end. Here too an array would ask more of a caller.
 #[tactic(auto, unfolding(framing::specs::Feeding::closing))]
 pub fn say_at_end(f: Feed, out: &mut [u8]) -> usize
     requires { 65542 ≤ length out.old }
     ensures { Front (closing f) result out.new }
 {
     if f.is_cut() {
-        let cut = Refusal {
-            reason: Reason::NoForm,
-            line: 0,
-        };
-        return refuse(out, cut);
+        return refuse(out, Refusal::of_whole(Reason::NoForm));
     }
     0
 }

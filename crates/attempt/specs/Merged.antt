@@ -1,6 +1,6 @@
 -- The cone that a scale pair merges two cones to.
 use Rattle.std.specs.Prelude as P
-use Rattle.std.specs.Prelude.{Some, None, IfSome, ◌≡◌, true, false, List, ℕ, ◌≤◌, ◌<◌, ◌^◌, ℤ}
+use Rattle.std.specs.Prelude.{Some, None, IfSome, ◌≡◌, true, List, ℕ, ◌≤◌, ◌<◌, ◌^◌, ℤ}
 use Rattle.std.proofs.Math.Path.{refl, sym, ap, ap₂}
 use Rattle.std.proofs.Common.{◌∙◌, le_refl, arith, get_or-take, ext_get_or}
 use Rattle.std.proofs.Math.Option.{Option, some, map}
@@ -9,7 +9,7 @@ use Rattle.std.proofs.Math.Seq.{take_all}
 use Rattle.rules.specs.declared.Settings.{Settings}
 use Rattle.rules.specs.Builder.{known_entries}
 use Rattle.rules.specs.Cone as C
-use Rattle.rules.specs.Cone.{Candidate, values, cone_span, linear_table}
+use Rattle.rules.specs.Cone.{values, cone_span, linear_table}
 use Rattle.rules.specs.Composition.{scales, union_support, merged_coefficients, find_candidate, simplify_cone, merge_cones}
 use Rattle.rules.specs.Network.{LutNode}
 use Rattle.rules.specs.NetworkText.{all_different}
@@ -17,10 +17,11 @@ use Rattle.rules.specs.Span.{least}
 use Rattle.theorems.specs.KnownRows.{known-hit}
 use Rattle.theorems.specs.Rows.{offset}
 use Rattle.theorems.specs.Spans.{offset_lt}
-use Rattle.cone.specs.declared.Cone.{Cone}
-use Rattle.compose.specs.declared.Basis.{Basis}
-use Rattle.compose.specs.Basis.{coefficients_over, IsBasis}
-use Rattle.cone.specs.View.{cone_of, IsCone, truth-length, truth_entry, rows_are}
+use Rattle.compose.specs.declared.basis.Basis.{Basis}
+use Rattle.compose.specs.Basis.{lefts, rights, coefficients_over, IsBasis}
+use Rattle.cone.specs.Fields.{cone_from, Fits, truths-length, truths_entry}
+use Rattle.cone.specs.View.{numbers, numbers_take}
+use Rattle.theorems.specs.ConeValues.{linear_table-length}
 use Rattle.scale_pair.specs.declared.score.Score.{Score}
 use Rattle.search.specs.Candidates.{merged_cone, candidate_of, Found}
 use Rattle.merged_rows.specs.MergedValues.{merged-coefficients}
@@ -31,81 +32,59 @@ use Rattle.search.specs.Policies.{Finds}
 use Rattle.search.specs.Search.{cone_by}
 
 -- The cone of the pair that was found, over the sources of both cones.
-unfoldable pub merged_of : Basis → Score → Cone
-merged_of basis best =
-    record {
-      n = basis.n;
-      support = basis.support;
-      coefs = merged best.rank.a best.rank.b (take basis.n basis.left) (take basis.n basis.right);
-      known = best.known;
-    }
+unfoldable pub merged_of : Basis → Score → C.Cone
+merged_of basis best = cone_from basis.n basis.support (merged best.rank.a best.rank.b (lefts basis) (rights basis)) best.known
 
 -- It is a cone within the limits, but for the lengths of its arrays.
 pub record Mergeable (basis : Basis) (best : Score) : Type 0 where
-  pub few : basis.n ≤ 11
-  pub rows : Rows (take basis.n basis.left) (take basis.n basis.right)
+  pub long : length (lefts basis) ≡ basis.n
+  pub rows : Rows (lefts basis) (rights basis)
   pub scaling : Scaling best.rank.a best.rank.b
-  pub different : all_different (cone_of (merged_of basis best)).support ≡ true
-  pub narrow : cone_span (cone_of (merged_of basis best)) ≤ 32
-  pub near : (i : ℕ) → get_or (cone_of (merged_of basis best)).support i 0 < 672
-  pub held : known_entries (values (cone_of (merged_of basis best))) (cone_of (merged_of basis best)).truth
-      ≡ some (take (cone_span (cone_of (merged_of basis best))) best.known)
+  pub different : all_different (merged_of basis best).support ≡ true
+  pub narrow : cone_span (merged_of basis best) ≤ 32
+  pub near : (i : ℕ) → get_or (merged_of basis best).support i 0 < 672
+  pub held : known_entries (values (merged_of basis best)) (merged_of basis best).truth
+      ≡ some (numbers (take (cone_span (merged_of basis best)) best.known))
 
 -- What is made of the pair, if there is one.
 unfoldable pub merged_by : Basis → P.Option Score → Option C.Cone
-merged_by basis o = option_by (λ (best : Score). simplify_cone (cone_of (merged_of basis best))) o
-
-pub record MergedTo (basis : Basis) (best : Score) (c : Cone) : Type 0 where
-  pub cone : IsCone c
-  pub is : cone_of c ≡ simplify_cone (cone_of (merged_of basis best))
+merged_by basis o = option_by (λ (best : Score). simplify_cone (merged_of basis best)) o
 
 -- ---- its arrays
 module _ (basis : Basis) (best : Score) where
   abbrev L : List ℤ
-  L = take basis.n basis.left
+  L = lefts basis
 
   abbrev R : List ℤ
-  R = take basis.n basis.right
+  R = rights basis
 
   merged_long : Rows L R → length L ≡ basis.n → length (merged best.rank.a best.rank.b L R) ≡ basis.n
   unfolding merged
   merged_long r e = normalised-length (merged_row best.rank.a best.rank.b L R) ∙ row_length L R r best.rank.a best.rank.b ∙ e
 
-  pub merged-support : (cone_of (merged_of basis best)).support ≡ take basis.n basis.support
-  unfolding cone_of merged_of
+  pub merged-support : (merged_of basis best).support ≡ take basis.n basis.support
+  unfolding merged_of
   merged-support = refl
 
-  merged-coefs : Rows L R → length L ≡ basis.n → (cone_of (merged_of basis best)).coefficients ≡ merged best.rank.a best.rank.b L R
-  unfolding cone_of merged_of
+  merged-coefs : Rows L R → length L ≡ basis.n → (merged_of basis best).coefficients ≡ merged best.rank.a best.rank.b L R
+  unfolding merged_of
   merged-coefs r e = take_all basis.n (merged best.rank.a best.rank.b L R) (rw (merged_long r e) (le_refl _))
 
-  pub merged-coefs_long : Rows L R → length L ≡ basis.n → length (cone_of (merged_of basis best)).coefficients ≡ basis.n
+  pub merged-coefs_long : Rows L R → length L ≡ basis.n → length (merged_of basis best).coefficients ≡ basis.n
   merged-coefs_long r e = ap length (merged-coefs r e) ∙ merged_long r e
 
   -- the coefficients in an array of 11
-  module _ (m : Mergeable basis best) (coefs : List ℤ) (long : basis.n ≡ length L) (e : take (length L) coefs ≡ merged best.rank.a best.rank.b L R) where
-    abbrev made : Cone
-    made = record { n = basis.n; support = basis.support; coefs = coefs; known = best.known }
+  module _ (m : Mergeable basis best) (coefs : List ℤ) (long : length L ≡ basis.n) (e : take basis.n coefs ≡ merged best.rank.a best.rank.b L R) where
+    same : take basis.n coefs ≡ take basis.n (merged best.rank.a best.rank.b L R)
+    same = e ∙ sym (take_all basis.n (merged best.rank.a best.rank.b L R) (rw (merged_long m.rows long) (le_refl _)))
 
-    pub made_is : cone_of made ≡ cone_of (merged_of basis best)
-    unfolding cone_of merged_of
-    made_is =
-        let cs : take basis.n coefs ≡ take basis.n (merged best.rank.a best.rank.b L R) =
-        ap (λ k. take k coefs) long ∙ e ∙ sym (take_all basis.n (merged best.rank.a best.rank.b L R) (rw (merged_long m.rows (sym long)) (le_refl _))) in
-        rw cs
+    pub made_is : cone_from basis.n basis.support coefs best.known ≡ merged_of basis best
+    unfolding merged_of
+    made_is = rw same
 
-    pub made_cone : length basis.support ≡ 11 → length coefs ≡ 11 → length best.known ≡ 32 → IsCone made
-    made_cone ns cs ks =
-        record {
-          support_long = ns;
-          coefs_long = cs;
-          entries_long = ks;
-          few = m.few;
-          different = rw made_is m.different;
-          narrow = rw made_is m.narrow;
-          near = λ i. rw made_is (m.near i);
-          held = rw made_is m.held;
-        }
+    pub made_fits : Fits basis.n basis.support coefs best.known
+    unfolding merged_of values cone_span
+    made_fits = record { few = basis.few; different = m.different; near = m.near; narrow = rw same m.narrow; held = rw same m.held }
 
 -- ---- what was found can be merged
 cone_of_lem : (c : C.Cone) (ns : List ℕ) (cs : List ℤ) (ts : List ℕ) → c.support ≡ ns → c.coefficients ≡ cs → c.truth ≡ ts → c ≡ cone_by ns cs ts
@@ -113,7 +92,7 @@ unfolding cone_by
 cone_of_lem c ns cs ts e f g = ap (λ l. cone_by l c.coefficients c.truth) e ∙ ap₂ (λ x y. cone_by ns x y) f g
 
 module _ (left right : C.Cone) (truth : List ℕ) (basis : Basis) (best : Score) (s : Settings) (is : IsBasis left right basis)
-    (rows : Rows (take basis.n basis.left) (take basis.n basis.right))
+    (rows : Rows (lefts basis) (rights basis))
     (t_long : length truth ≡ 2 ^ basis.n) (found : Found s (union_support left.support right.support) left right truth best) where
   abbrev U : List ℕ
   U = union_support left.support right.support
@@ -121,56 +100,58 @@ module _ (left right : C.Cone) (truth : List ℕ) (basis : Basis) (best : Score)
   abbrev X : C.Cone
   X = merged_cone U left right truth best.rank.a best.rank.b
 
-  lefts_long : length (take basis.n basis.left) ≡ basis.n
+  lefts_long : length (lefts basis) ≡ basis.n
   unfolding coefficients_over
-  lefts_long = ap length is.lefts ∙ length-map U _ ∙ sym is.count
+  lefts_long = ap length is.left_is ∙ length-map U _ ∙ sym is.count
 
-  coefs_are : (cone_of (merged_of basis best)).coefficients ≡ merged_coefficients U left right (scales best.rank.a best.rank.b)
+  coefs_are : (merged_of basis best).coefficients ≡ merged_coefficients U left right (scales best.rank.a best.rank.b)
   unfolding merged merged_row scales
-  coefs_are = merged-coefs basis best rows lefts_long ∙ ap₂ (merged best.rank.a best.rank.b) is.lefts is.rights ∙ sym (merged-coefficients U left right (scales best.rank.a best.rank.b))
+  coefs_are = merged-coefs basis best rows lefts_long ∙ ap₂ (merged best.rank.a best.rank.b) is.left_is is.right_is ∙ sym (merged-coefficients U left right (scales best.rank.a best.rank.b))
 
-  support_is : (cone_of (merged_of basis best)).support ≡ U
+  support_is : (merged_of basis best).support ≡ U
   support_is = merged-support basis best ∙ is.sources
 
-  values_are : values (cone_of (merged_of basis best)) ≡ values X
+  values_are : values (merged_of basis best) ≡ values X
   unfolding values merged_cone cone_by
   values_are = ap linear_table coefs_are
 
   values_long : length (values X) ≡ length truth
-  values_long = ap length (sym values_are) ∙ rows_are (merged_of basis best) ∙ ap (λ k. 2 ^ k) (merged-coefs_long basis best rows lefts_long) ∙ sym t_long
+  unfolding values
+  values_long = ap length (sym values_are) ∙ linear_table-length (merged_of basis best).coefficients ∙ ap (λ k. 2 ^ k) (merged-coefs_long basis best rows lefts_long) ∙ sym t_long
 
-  entry : (i : ℕ) → i < length (values X) → get_or (cone_of (merged_of basis best)).truth i 0 ≡ get_or truth i 0
-  unfolding merged_of cone_span
+  entry : (i : ℕ) → i < length (values X) → get_or (merged_of basis best).truth i 0 ≡ get_or truth i 0
+  unfolding merged_of values cone_span
   entry i h =
-      truth_entry (merged_of basis best) i (rw values_are h)
-      ∙ ap (λ l. get_or best.known (offset (least l) l i) 0) values_are
-      ∙ sym (get_or-take best.rank.span best.known (offset (least (values X)) (values X) i) 0 (rw found.span_is (offset_lt (values X) i h)))
-      ∙ known-hit (values X) truth values_long _ found.entries i h
+      truths_entry (merged_of basis best).coefficients best.known i (rw values_are h)
+      ∙ ap (λ l. get_or (numbers best.known) (offset (least l) l i) 0) values_are
+      ∙ sym (get_or-take best.rank.span (numbers best.known) (offset (least (values X)) (values X) i) 0 (rw found.span_is (offset_lt (values X) i h)))
+      ∙ known-hit (values X) truth values_long _ (found.entries ∙ ap some (sym (numbers_take best.rank.span best.known))) i h
 
-  truths_are : (cone_of (merged_of basis best)).truth ≡ truth
+  truths_are : (merged_of basis best).truth ≡ truth
+  unfolding merged_of values
   truths_are =
-      let long : length (cone_of (merged_of basis best)).truth ≡ length (values X) = sym (truth-length (merged_of basis best)) ∙ ap length values_are in
-      ext_get_or 0 (cone_of (merged_of basis best)).truth truth (long ∙ values_long) (λ i h. entry i (rw long at h))
+      let long : length (merged_of basis best).truth ≡ length (values X) = sym (truths-length (merged_of basis best).coefficients best.known) ∙ ap length values_are in
+      ext_get_or 0 (merged_of basis best).truth truth (long ∙ values_long) (λ i h. entry i (rw long at h))
 
-  merged_is : cone_of (merged_of basis best) ≡ X
+  merged_is : merged_of basis best ≡ X
   unfolding merged_cone
-  merged_is = cone_of_lem (cone_of (merged_of basis best)) U (merged_coefficients U left right (scales best.rank.a best.rank.b)) truth support_is coefs_are truths_are
+  merged_is = cone_of_lem (merged_of basis best) U (merged_coefficients U left right (scales best.rank.a best.rank.b)) truth support_is coefs_are truths_are
 
   pub found_mergeable : s.m ≤ 32 → all_different U ≡ true → ((i : ℕ) → get_or U i 0 < 672) → Mergeable basis best
   found_mergeable small different near =
       record {
-        few = is.few;
+        long = lefts_long;
         rows = rows;
         scaling = found.scaling;
         different = rw support_is different;
         narrow = rw merged_is (omega (arith, found.span_is, found.short));
         near = λ i. rw support_is (near i);
-        held = ap₂ known_entries values_are truths_are ∙ found.entries ∙ ap (λ k. some (take k best.known)) (found.span_is ∙ ap cone_span (sym merged_is));
+        held = ap₂ known_entries values_are truths_are ∙ found.entries ∙ ap (λ k. some (numbers (take k best.known))) (found.span_is ∙ ap cone_span (sym merged_is));
       }
 
 -- it is the definition's
 module _ (s : Settings) (nodes : List LutNode) (left right : C.Cone) (truth : List ℕ) (basis : Basis) (best : P.Option Score) (is : IsBasis left right basis)
-    (rows : Rows (take basis.n basis.left) (take basis.n basis.right)) (t_long : length truth ≡ 2 ^ basis.n) (finds : Finds s nodes left right truth best) where
+    (rows : Rows (lefts basis) (rights basis)) (t_long : length truth ≡ 2 ^ basis.n) (finds : Finds s nodes left right truth best) where
   pub merged_by_lem : merged_by basis best ≡ map merge_cones (find_candidate s nodes (union_support left.support right.support) left right truth)
   unfolding merged_by candidate_of merge_cones
   merged_by_lem = by best finds.found ∙ ap (map merge_cones) finds.candidate

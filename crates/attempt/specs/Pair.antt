@@ -1,23 +1,25 @@
 -- An attempt to merge two cones under a gate.
+use Rattle.std.specs.Prelude as P
 use Rattle.std.specs.Prelude.{◌≡◌, true, false, List, ℕ, ◌+◌, ◌≤◌, ◌<◌, ◌^◌, ℤ, length, get_or, take}
 use Rattle.std.proofs.Math.Option.{Option, none, some, map}
 use Rattle.std.proofs.Common.{lt-ltb, le-ltb}
 use Rattle.laws.specs.Test.{if◌then◌otherwise◌}
 use Rattle.rules.specs.declared.Settings.{Settings}
-use Rattle.rules.specs.CircuitText.{in_limits}
 use Rattle.rules.specs.Cone as C
 use Rattle.rules.specs.Cone.{constant, linear_table}
 use Rattle.rules.specs.Composition.{union_support, gate_truth, all_equal, merge_cones, find_candidate, compose}
 use Rattle.rules.specs.Network.{LutNode}
 use Rattle.rules.specs.Span.{least, span}
 use Rattle.cone.specs.declared.Cone.{Cone}
-use Rattle.compose.specs.declared.Basis.{Basis}
-use Rattle.compose.specs.Basis.{IsBasis}
+use Rattle.compose.specs.declared.basis.Basis.{Basis}
+use Rattle.compose.specs.Basis.{lefts, rights, IsBasis}
 use Rattle.cone.specs.View.{cone_of}
 use Rattle.nodes.specs.declared.store.Store.{Store}
 use Rattle.nodes.specs.Store.{store_of}
 use Rattle.merged_rows.specs.declared.rows.Frame.{Frame}
 use Rattle.cone.specs.Sources.{Stands}
+use Rattle.scale_pair.specs.declared.score.Score.{Score}
+use Rattle.search.specs.Policies.{Finds}
 
 -- The grid that begins at the least values of two tables.
 pub record FrameOf (X Y : List ℤ) (f : Frame) : Type 0 where
@@ -32,16 +34,25 @@ pub record Tabled (basis : Basis) (rows : ℕ) (xs ys : List ℤ) (ts : List ℕ
   pub x_long : length xs ≡ 2048
   pub y_long : length ys ≡ 2048
   pub t_long : length ts ≡ 2048
-  pub x : take rows xs ≡ linear_table (take basis.n basis.left)
-  pub y : take rows ys ≡ linear_table (take basis.n basis.right)
+  pub x : take rows xs ≡ linear_table (lefts basis)
+  pub y : take rows ys ≡ linear_table (rights basis)
   pub bits : (i : ℕ) → i < rows → get_or ts i 0 ≤ 1
 
 -- Two cones beside the store, laid over their sources together.
-pub record Trial (s : Settings) (store : Store) (left right : Cone) (basis : Basis) : Type 0 where
-  pub limits : in_limits s ≡ true
+pub record Trial (store : Store) (left right : Cone) (basis : Basis) : Type 0 where
   pub first : Stands (length (store_of store)) left
   pub second : Stands (length (store_of store)) right
   pub over : IsBasis (cone_of left) (cone_of right) basis
+
+-- The basis is that of some two cones beside the store.
+pub record Laid (store : Store) (basis : Basis) : Type 0 where
+  pub left : Cone
+  pub right : Cone
+  pub trial : Trial store left right basis
+
+-- What is found is what the definition finds for any two cones of this basis.
+abbrev pub FindsOver : Settings → Store → Basis → List ℕ → P.Option Score → Type 0
+FindsOver s store basis truth best = (left right : Cone) → Trial store left right basis → Finds s (store_of store) (cone_of left) (cone_of right) truth best
 
 -- What a gate on two cones is where the sources are not too many.
 unfoldable pub gated : Settings → List LutNode → C.Cone → C.Cone → List ℕ → Option C.Cone

@@ -8,37 +8,39 @@ use Rattle.std.proofs.Math.ListN.{length-map}
 use Rattle.laws.specs.Integer.{abs_add, abs_mul_le}
 use Rattle.laws.specs.Over.{over-length, take-over}
 use Rattle.laws.specs.Test.{is_T}
-use Rattle.rules.specs.declared.Settings.{Settings}
 use Rattle.rules.specs.Cone as C
 use Rattle.rules.specs.Cone.{cone_bit, linear_table}
 use Rattle.rules.specs.Composition.{union_support, gate_truth, all_equal, merge_cones, find_candidate, simplify_cone}
 use Rattle.rules.specs.Network.{LutNode}
 use Rattle.rules.specs.NetworkText.{all_different}
 use Rattle.rules.specs.Runs.{all_bits}
-use Rattle.scale.specs.Limits.{Within}
+use Rattle.rules.specs.Span.{span}
 use Rattle.theorems.specs.Bits.{bit_at}
 use Rattle.theorems.specs.ConeTruths.{over_rows-bits}
-use Rattle.theorems.specs.Unions.{union_different}
+use Rattle.theorems.specs.Members.{Among}
+use Rattle.theorems.specs.Unions.{union_left, union_right, union_different}
 use Rattle.cone.specs.declared.Cone.{Cone}
-use Rattle.compose.specs.declared.Basis.{Basis}
-use Rattle.compose.specs.Basis.{coefficients_over, Composed, coefficients_over-total}
+use Rattle.cone.specs.declared.settings.ValidSettings.{ValidSettings}
+use Rattle.compose.specs.declared.basis.Basis.{Basis}
+use Rattle.compose.specs.Basis.{lefts, rights, coefficients_over, coefficients_over-span, Composed}
 use Rattle.compose.specs.Compose.{gate_truth-length}
 use Rattle.linear.specs.Span.{table_within_total}
 use Rattle.theorems.specs.LinearTables.{span_table}
 use Rattle.theorems.specs.ConeValues.{linear_table-length}
-use Rattle.cone.specs.View.{cone_of, narrow_total}
+use Rattle.cone.specs.View.{cone_of, sources_different, view_sources, view_coefs}
 use Rattle.merged_rows.specs.declared.rows.Frame.{Frame}
 use Rattle.merged_rows.specs.declared.energy.Moments.{Moments}
 use Rattle.scale_pair.specs.declared.score.Score.{Score}
 use Rattle.merged_rows.specs.EnergyMoments.{xx_of, xy_of, yy_of}
 use Rattle.merged_rows.specs.EnergyRows.{InRows, Small, moments_of, moments_compacted}
-use Rattle.scale_pair.specs.Pair.{Rows, left_small, right_small}
+use Rattle.scale_pair.specs.Pair.{Rows}
 use Rattle.search.specs.Candidates.{Found}
 use Rattle.search.specs.Policies.{Attempted, Finds}
 use Rattle.merged_rows.specs.RowsCompacted.{sum_over, Compacted}
 use Rattle.merged_rows.specs.RowsFrame.{InFrame, Framed, Moved, tables_framed}
+use Rattle.search.specs.declared.context.Context as Code
 use Rattle.search.specs.Search.{Ready}
-use Rattle.attempt.specs.Merged.{merged_of, Mergeable, merged_by, MergedTo, merged-support, merged-coefs_long, found_mergeable, merged_by_lem}
+use Rattle.attempt.specs.Merged.{merged_of, Mergeable, merged_by, merged-support, merged-coefs_long, found_mergeable, merged_by_lem}
 use Rattle.cone.specs.Sources.{AllBelow, Below, Stands}
 use Rattle.nodes.specs.declared.store.Store.{Store}
 use Rattle.nodes.specs.Store.{store_of, store_few}
@@ -60,7 +62,7 @@ gate-bit U left right gate b i =
     (over_rows-bits U (λ bit. get_or gate (2 * cone_bit bit left + cone_bit bit right) 0) (λ bit. bit_at gate (2 * cone_bit bit left + cone_bit bit right) (is_T (all_bits gate) b)))
 
 -- ---- two cones over their sources
-module _ (s : Settings) (store : Store) (left right : Cone) (basis : Basis) (t : Trial s store left right basis) where
+module _ (s : ValidSettings) (store : Store) (left right : Cone) (basis : Basis) (t : Trial store left right basis) where
   abbrev count : ℕ
   count = length (store_of store)
 
@@ -68,38 +70,39 @@ module _ (s : Settings) (store : Store) (left right : Cone) (basis : Basis) (t :
   U = union_support (cone_of left).support (cone_of right).support
 
   abbrev L : List ℤ
-  L = take basis.n basis.left
+  L = lefts basis
 
   abbrev R : List ℤ
-  R = take basis.n basis.right
+  R = rights basis
 
-  trial_small : s.m ≤ 32
-  trial_small = limits_m s t.limits
+  pub trial_small : s.settings.m ≤ 32
+  trial_small = limits_m s.settings s.limits
 
   trial_different : all_different U ≡ true
-  trial_different = union_different (cone_of left).support (cone_of right).support t.first.cone.different t.second.cone.different
+  trial_different = union_different (cone_of left).support (cone_of right).support (sources_different left) (sources_different right)
 
   over_long : (c : C.Cone) → length (coefficients_over U c) ≡ basis.n
   unfolding coefficients_over
   over_long c = length-map U _ ∙ sym t.over.count
 
   lefts_long : length L ≡ basis.n
-  lefts_long = ap length t.over.lefts ∙ over_long (cone_of left)
+  lefts_long = ap length t.over.left_is ∙ over_long (cone_of left)
 
   rights_long : length R ≡ basis.n
-  rights_long = ap length t.over.rights ∙ over_long (cone_of right)
+  rights_long = ap length t.over.right_is ∙ over_long (cone_of right)
+
+  -- over the sources of both a cone has its own span
+  own_span : (c : Cone) → Among (cone_of c).support U → span (linear_table (coefficients_over U (cone_of c))) ≡ C.cone_span (cone_of c)
+  own_span c a = coefficients_over-span U (cone_of c) (view_coefs c ∙ sym (view_sources c)) trial_different (sources_different c) a
 
   trial_rows : Rows L R
   trial_rows =
       record {
-        few = omega (arith, lefts_long, t.over.few);
+        few = omega (arith, lefts_long, basis.few);
         even = rights_long ∙ sym lefts_long;
-        lefts = rw t.over.lefts (omega (arith, coefficients_over-total U (cone_of left) trial_different, narrow_total left t.first.cone));
-        rights = rw t.over.rights (omega (arith, coefficients_over-total U (cone_of right) trial_different, narrow_total right t.second.cone));
+        lefts = basis.narrow_left;
+        rights = basis.narrow_right;
       }
-
-  pub trial_frame : (basis.n ≤ 11) × (Within 1984 L × Within 1984 R)
-  trial_frame = (t.over.few, (λ i. omega (arith, left_small L R trial_rows i), λ i. omega (arith, right_small L R trial_rows i)))
 
   trial_sources : AllBelow count U
   trial_sources = union_below count (cone_of left).support (cone_of right).support t.first.below.at t.second.below.at
@@ -141,14 +144,14 @@ module _ (s : Settings) (store : Store) (left right : Cone) (basis : Basis) (t :
     truth_rows = length-take-le rows ts (omega (arith, tab.few, tab.t_long)) ∙ tab.many
 
     -- what is made of the pair that is found
-    module _ (nodes : List LutNode) (best : P.Option Score) (finds : Finds s nodes (cone_of left) (cone_of right) (take rows ts) best) where
+    module _ (nodes : List LutNode) (best : P.Option Score) (finds : Finds s.settings nodes (cone_of left) (cone_of right) (take rows ts) best) where
       pub trial_mergeable : (r : Score) → best ≡ Some r → Mergeable basis r
       trial_mergeable r e =
-          found_mergeable (cone_of left) (cone_of right) (take rows ts) basis r s t.over trial_rows truth_rows
-          (subst (λ o. IfSome o (Found s U (cone_of left) (cone_of right) (take rows ts))) e finds.found) trial_small trial_different trial_near
+          found_mergeable (cone_of left) (cone_of right) (take rows ts) basis r s.settings t.over trial_rows truth_rows
+          (subst (λ o. IfSome o (Found s.settings U (cone_of left) (cone_of right) (take rows ts))) e finds.found) trial_small trial_different trial_near
 
-      pub trial_merged : merged_by basis best ≡ map merge_cones (find_candidate s nodes U (cone_of left) (cone_of right) (take rows ts))
-      trial_merged = merged_by_lem s nodes (cone_of left) (cone_of right) (take rows ts) basis best t.over trial_rows truth_rows finds
+      pub trial_merged : merged_by basis best ≡ map merge_cones (find_candidate s.settings nodes U (cone_of left) (cone_of right) (take rows ts))
+      trial_merged = merged_by_lem s.settings nodes (cone_of left) (cone_of right) (take rows ts) basis best t.over trial_rows truth_rows finds
 
     -- the rows that stand for all rows
     module _ (n : ℕ) (xs' ys' : List ℤ) (ts' counts : List ℕ)
@@ -186,7 +189,7 @@ module _ (s : Settings) (store : Store) (left right : Cone) (basis : Basis) (t :
       sum_near f h =
           omega (arith, sum-small f 961 (take rows xs) (take rows ys) h, ap length tab.x ∙ x_rows, tab.few)
 
-      trial_moments : Small (moments_of (take n xs') (take n ys') (take n counts))
+      pub trial_moments : Small (moments_of (take n xs') (take n ys') (take n counts))
       unfolding xx_of xy_of yy_of
       trial_moments =
           rw (moments_compacted (take rows xs) (take rows ys) (take rows ts) (take n xs') (take n ys') (take n ts') (take n counts) k)
@@ -196,11 +199,10 @@ module _ (s : Settings) (store : Store) (left right : Cone) (basis : Basis) (t :
             yy = sum_near yy_of (λ i. abs_mul_le (get_or (take rows ys) i (pos 0)) (get_or (take rows ys) i (pos 0)) (y_small i) (y_small i));
           })
 
-      pub trial_ready : (m : Moments) → m ≡ moments_of (take n xs') (take n ys') (take n counts) → Ready s L R (take n xs') (take n ys') (take n ts') m
-      trial_ready m e =
+      pub trial_ready : (k : Code.Context) → k.basis.now ≡ basis → Ready k (take n xs') (take n ys') (take n ts')
+      trial_ready c eb =
           record {
-            rows = trial_rows;
-            narrow = trial_small;
+            rows = rw eb trial_rows;
             short = rw n_long n_few;
             y_long = k.y_long;
             t_long = k.t_long;
@@ -208,28 +210,26 @@ module _ (s : Settings) (store : Store) (left right : Cone) (basis : Basis) (t :
                 let r = k.comes j h in
                 record {
                   at = r.at;
-                  inside = rw (← tab.x) r.inside;
-                  x_is = ap (λ l. get_or l r.at (pos 0)) (sym tab.x) ∙ r.left;
-                  y_is = ap (λ l. get_or l r.at (pos 0)) (sym tab.y) ∙ r.right;
+                  inside = rw (eb, ← tab.x) r.inside;
+                  x_is = rw eb (ap (λ l. get_or l r.at (pos 0)) (sym tab.x) ∙ r.left);
+                  y_is = rw eb (ap (λ l. get_or l r.at (pos 0)) (sym tab.y) ∙ r.right);
                 };
-            moments = rw e trial_moments;
           }
 
-      pub trial_attempted : all_equal (take rows ts) ≡ false → (first second : ℕ) (m : Moments) → first ≡ C.cone_span (cone_of left) → second ≡ C.cone_span (cone_of right)
-          → m ≡ moments_of (take n xs') (take n ys') (take n counts)
-          → Attempted (cone_of left) (cone_of right) (take rows ts) (take n counts) basis first second (take n xs') (take n ys') (take n ts') m
-      trial_attempted mixed first second m e f g =
+      pub trial_attempted : all_equal (take rows ts) ≡ false → (m : Moments) → m ≡ moments_of (take n xs') (take n ys') (take n counts)
+          → Attempted (cone_of left) (cone_of right) (take rows ts) (take n counts) basis (take n xs') (take n ys') (take n ts') m
+      trial_attempted mixed m g =
           let X = coefficients_over U (cone_of left) in
           let Y = coefficients_over U (cone_of right) in
-          let x : take rows xs ≡ linear_table X = tab.x ∙ ap linear_table t.over.lefts in
-          let y : take rows ys ≡ linear_table Y = tab.y ∙ ap linear_table t.over.rights in
+          let x : take rows xs ≡ linear_table X = tab.x ∙ ap linear_table t.over.left_is in
+          let y : take rows ys ≡ linear_table Y = tab.y ∙ ap linear_table t.over.right_is in
           record {
             over = t.over;
-            left-span = e;
-            right-span = f;
+            left-span = ap (λ l. span (linear_table l)) t.over.left_is ∙ own_span left (union_left (cone_of left).support (cone_of right).support);
+            right-span = ap (λ l. span (linear_table l)) t.over.right_is ∙ own_span right (union_right (cone_of left).support (cone_of right).support);
             stands = subst (λ l. Compacted l (linear_table Y) (take rows ts) (take n xs') (take n ys') (take n ts') (take n counts)) x
                 (subst (λ l. Compacted (take rows xs) l (take rows ts) (take n xs') (take n ys') (take n ts') (take n counts)) y k);
-            rows = length-take-le rows ts (omega (arith, tab.few, tab.t_long)) ∙ sym x_rows ∙ ap (λ l. length (linear_table l)) t.over.lefts;
+            rows = length-take-le rows ts (omega (arith, tab.few, tab.t_long)) ∙ sym x_rows ∙ ap (λ l. length (linear_table l)) t.over.left_is;
             moments = g;
             mixed = mixed;
           }
@@ -239,7 +239,7 @@ module _ (s : Settings) (store : Store) (left right : Cone) (basis : Basis) (t :
       → length xs ≡ 2048 → length ys ≡ 2048 → length ts ≡ 2048 → Composed (cone_of left) (cone_of right) gate xs ys ts xs' ys' ts'
       → Tabled basis rows xs' ys' ts' × (take rows ts' ≡ gate_truth U (cone_of left) (cone_of right) gate)
   trial_tabled gate b rows e xs ys ts xs' ys' ts' lx ly lt c =
-      let most : rows ≤ 2048 = omega (arith, e, pow_mono {j = 11} t.over.few) in
+      let most : rows ≤ 2048 = omega (arith, e, pow_mono {j = 11} basis.few) in
       let nx : length (linear_table (coefficients_over U (cone_of left))) ≡ rows = linear_table-length (coefficients_over U (cone_of left)) ∙ ap (λ k. 2 ^ k) (over_long (cone_of left)) ∙ sym e in
       let ny : length (linear_table (coefficients_over U (cone_of right))) ≡ rows = linear_table-length (coefficients_over U (cone_of right)) ∙ ap (λ k. 2 ^ k) (over_long (cone_of right)) ∙ sym e in
       let nt : length (gate_truth U (cone_of left) (cone_of right) gate) ≡ rows = gate_truth-length U (cone_of left) (cone_of right) gate ∙ ap (λ k. 2 ^ k) (sym t.over.count) ∙ sym e in
@@ -250,22 +250,22 @@ module _ (s : Settings) (store : Store) (left right : Cone) (basis : Basis) (t :
           x_long = ap length c.x ∙ over-length (linear_table (coefficients_over U (cone_of left))) xs (omega arith) ∙ lx;
           y_long = ap length c.y ∙ over-length (linear_table (coefficients_over U (cone_of right))) ys (omega arith) ∙ ly;
           t_long = ap length c.t ∙ over-length (gate_truth U (cone_of left) (cone_of right) gate) ts (omega arith) ∙ lt;
-          x = ap (take rows) c.x ∙ take-over (linear_table (coefficients_over U (cone_of left))) xs rows nx ∙ ap linear_table (sym t.over.lefts);
-          y = ap (take rows) c.y ∙ take-over (linear_table (coefficients_over U (cone_of right))) ys rows ny ∙ ap linear_table (sym t.over.rights);
+          x = ap (take rows) c.x ∙ take-over (linear_table (coefficients_over U (cone_of left))) xs rows nx ∙ ap linear_table (sym t.over.left_is);
+          y = ap (take rows) c.y ∙ take-over (linear_table (coefficients_over U (cone_of right))) ys rows ny ∙ ap linear_table (sym t.over.right_is);
           bits = λ i h. subst (λ v. v ≤ 1) (ap (λ l. get_or l i 0) (sym truths) ∙ get_or-take rows ts' i 0 h) (gate-bit U (cone_of left) (cone_of right) gate b i);
         },
         truths,
       )
 
   -- without the sources that a pair cancels
-  trial_below : (best : Score) → Below count (simplify_cone (cone_of (merged_of basis best)))
-  trial_below best = simplified_below count (cone_of (merged_of basis best)) long (rw sup trial_sources)
+  trial_below : (best : Score) → Below count (simplify_cone (merged_of basis best))
+  trial_below best = simplified_below count (merged_of basis best) long (rw sup trial_sources)
     where
-      sup : (cone_of (merged_of basis best)).support ≡ U
+      sup : (merged_of basis best).support ≡ U
       sup = merged-support basis best ∙ t.over.sources
 
-      long : length (cone_of (merged_of basis best)).coefficients ≡ length (cone_of (merged_of basis best)).support
+      long : length (merged_of basis best).coefficients ≡ length (merged_of basis best).support
       long = merged-coefs_long basis best trial_rows lefts_long ∙ t.over.count ∙ ap length (sym sup)
 
-  pub trial_stands : (best : Score) (c : Cone) → MergedTo basis best c → Stands count c
-  trial_stands best c j = record { cone = j.cone; below = rw j.is (trial_below best) }
+  pub trial_stands : (best : Score) (c : Cone) → cone_of c ≡ simplify_cone (merged_of basis best) → Stands count c
+  trial_stands best c e = record { below = rw e (trial_below best) }

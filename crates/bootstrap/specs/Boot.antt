@@ -8,7 +8,7 @@ use Rattle.laws.specs.Integer.{abs_neg}
 use Rattle.rules.specs.declared.Settings.{Settings}
 use Rattle.rules.specs.declared.Wire.{Wire}
 use Rattle.rules.specs.declared.Wire.TheVariants.{Const, Node}
-use Rattle.rules.specs.Builder.{Entries, last_tried}
+use Rattle.rules.specs.Builder.{last_tried}
 use Rattle.rules.specs.Cone as C
 use Rattle.rules.specs.Cone.{identity, values, cone_span, bootstrap_table, terms}
 use Rattle.rules.specs.Network.{LutNode, Linear, Bootstrap, node_centre}
@@ -18,9 +18,9 @@ use Rattle.rules.specs.Store.{Stored, linear_of, linear_terms, intern, number_of
 use Rattle.scale.specs.Limits.{Within}
 use Rattle.search.specs.Reuse.{fine_zip}
 use Rattle.theorems.specs.Interned.{interned}
-use Rattle.theorems.specs.SettingLimits.{limits_m}
+use Rattle.rotation.specs.Entries.{numbers}
 use Rattle.cone.specs.declared.Cone.{Cone}
-use Rattle.cone.specs.View.{cone_of, IsCone, view_sources, small, low_small, entries}
+use Rattle.cone.specs.View.{cone_of, span_narrow, entries_held, view_sources, small, low_small}
 use Rattle.nodes.specs.declared.store.Store.{Store}
 use Rattle.nodes.specs.declared.terms.Terms.{Terms}
 use Rattle.lut.specs.Store.{Interns}
@@ -32,7 +32,7 @@ use Rattle.bootstrap.specs.View.{Boots, booted_of, centres_same}
 
 -- The terms stand for the cone's sum.
 pub record SumOf (d : Cone) (t : Terms) : Type 0 where
-  pub few : t.n ≤ 11
+  pub few : length t.terms.items ≤ 11
   pub constant : t.constant ≡ neg_ℤ (least (values (cone_of d)))
   pub are : terms_in t ≡ terms (cone_of d)
 
@@ -46,12 +46,12 @@ pub sum_good : (count : ℕ) (d : Cone) (t : Terms) → Stands count d → SumOf
 sum_good count d t h s =
     record {
       few = s.few;
-      near = rw (s.constant, abs_neg (least (values (cone_of d)))) (low_small d h.cone);
+      near = rw (s.constant, abs_neg (least (values (cone_of d)))) (low_small d);
       fine = rw s.are fine;
     }
   where
     fine : FineTerms count (terms (cone_of d))
-    fine = fine_cone count (cone_of d) (small d h.cone) h.below
+    fine = fine_cone count (cone_of d) (small d) h.below
 
 sum_is : (s : Settings) (d : Cone) (t : Terms) → SumOf d t → Linear t.constant (linear_terms s.many (terms_in t)) ≡ linear_of s (cone_of d)
 unfolding linear_of
@@ -93,7 +93,7 @@ module _ (s : Settings) (old : Store) (c : Cone) (h : Stands (length (store_of o
 
   pub booted_none : c.n ≤ 1 → booted_of old c ≡ bootstrap_cone s (store_of old) (cone_of c)
   unfolding booted_of
-  booted_none l = stays s (store_of old) (cone_of c) (omega (arith, view_sources c h.cone))
+  booted_none l = stays s (store_of old) (cone_of c) (omega (arith, view_sources c))
 
   pub booted_is : 1 < c.n → (d : Cone) → cone_of d ≡ realigned s (store_of old) (cone_of c) → (new : Store) (b : Cone)
       → booted_of new b ≡ bootstrapped s (store_of old) (cone_of d) (bootstrap_table s.p (cone_of d)) → booted_of new b ≡ bootstrap_cone s (store_of old) (cone_of c)
@@ -101,9 +101,9 @@ module _ (s : Settings) (old : Store) (c : Cone) (h : Stands (length (store_of o
   booted_is l d e new b f =
       f
       ∙ ap (λ (x : C.Cone). bootstrapped s (store_of old) x (bootstrap_table s.p x)) e
-      ∙ rw (lt-leb (length (cone_of c).support) 1 (omega (arith, view_sources c h.cone)))
+      ∙ rw (lt-leb (length (cone_of c).support) 1 (omega (arith, view_sources c)))
 
-pub ruleset booting = (boots_none, booted_none, booted_is, limits_m)
+pub ruleset booting = (boots_none, booted_none, booted_is)
 
 -- ---- laws: the cone's bootstrap
 
@@ -115,27 +115,24 @@ unfolding bootstrapped
 built s c nodes with_linear with_boot source node table e f g h = rw (h, g, e, f)
 
 -- the cone's known entries, and their table
-module _ (d : Cone) (is : IsCone d) (n : ℕ) (e : n ≡ cone_span (cone_of d)) where
-  pub entries_known : Entries (take n d.known)
-  entries_known = rw e (entries d is)
+module _ (d : Cone) (n : ℕ) (e : n ≡ cone_span (cone_of d)) where
+  pub entries_few : length (take n d.known) ≤ 32
+  entries_few = let k = span_narrow d in omega (arith, d.entries_long, length-take-le n d.known)
 
-  pub entries_few : (n ≤ length d.known) × (length (take n d.known) ≤ 32)
-  entries_few = let k = is.narrow in let l = is.entries_long in (omega arith, omega (arith, length-take-le n d.known))
-
-  table_known : (p : ℕ) → last_tried p (take n d.known) ≡ bootstrap_table p (cone_of d)
+  table_known : (p : ℕ) → last_tried p (numbers (take n d.known)) ≡ bootstrap_table p (cone_of d)
   unfolding bootstrap_table
-  table_known p = ap (λ k. last_tried p (take k d.known)) e ∙ ap (λ o. last_tried p (get_or o [])) (sym is.held)
+  table_known p = ap (λ k. last_tried p (numbers (take k d.known))) e ∙ ap (λ o. last_tried p (get_or o [])) (sym (entries_held d))
 
 module _ (s : Settings) (old : Store) (d : Cone) (h : Stands (length (store_of old)) d) where
   module _ (t : Terms) (f : SumOf d t) (mid : Store) (v : Wire) (sum : Interns 0 (Linear t.constant (linear_terms s.many (terms_in t))) old mid v) (source : ℕ) (p : v ≡ Node source) (n : ℕ) (e : n ≡ cone_span (cone_of d))
-      (new : Store) (w : Wire) (boot : Interns (centre_of s.p (last_tried s.p (take n d.known))) (Bootstrap source (last_tried s.p (take n d.known))) mid new w) (node : ℕ) (q : w ≡ Node node)
-      (c : Cone) (is : IsCone c) (g : cone_of c ≡ identity node) where
+      (new : Store) (w : Wire) (boot : Interns (centre_of s.p (last_tried s.p (numbers (take n d.known)))) (Bootstrap source (last_tried s.p (numbers (take n d.known)))) mid new w) (node : ℕ) (q : w ≡ Node node)
+      (c : Cone) (g : cone_of c ≡ identity node) where
     pub made_is : booted_of new c ≡ bootstrapped s (store_of old) (cone_of d) (bootstrap_table s.p (cone_of d))
     unfolding booted_of
     made_is =
         ap {B = Stored} (λ (x : C.Cone). record { nodes = store_of new; cone = x }) g
-        ∙ built s (cone_of d) (store_of old) (store_of mid) (store_of new) source node (last_tried s.p (take n d.known)) (rw (sum_is s d t f) at sum.store) (rw (sum_is s d t f) at (number_told sum p)) boot.store (number_told boot q)
-        ∙ ap (bootstrapped s (store_of old) (cone_of d)) (table_known d h.cone n e s.p)
+        ∙ built s (cone_of d) (store_of old) (store_of mid) (store_of new) source node (last_tried s.p (numbers (take n d.known))) (rw (sum_is s d t f) at sum.store) (rw (sum_is s d t f) at (number_told sum p)) boot.store (number_told boot q)
+        ∙ ap (bootstrapped s (store_of old) (cone_of d)) (table_known d n e s.p)
 
     pub made_stands : Boots s.p old new c
     unfolding node_centre
@@ -144,7 +141,7 @@ module _ (s : Settings) (old : Store) (d : Cone) (h : Stands (length (store_of o
         let y = grown_by_one boot in
         record {
           grown = record { least = omega (arith, x.0, y.0); most = omega (arith, x.1, y.1); centred = record { on = λ z. boot.centred s.p refl (sum.centred s.p refl z) } };
-          stands = identity_stands (length (store_of new)) node c (number_inside boot q) is g;
+          stands = identity_stands (length (store_of new)) node c (number_inside boot q) g;
         }
 
-pub ruleset making = (entries_few, made_is, no_constant)
+pub ruleset making = (span_narrow, made_is, no_constant)

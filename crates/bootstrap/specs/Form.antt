@@ -12,26 +12,27 @@ use Rattle.std.proofs.Math.ListN.{length, take}
 use Rattle.std.proofs.Math.Seq.{ext_get_or}
 use Rattle.laws.specs.Test.{if◌then◌otherwise◌, if_both}
 use Rattle.rules.specs.declared.Settings.{Settings}
+use Rattle.rules.specs.declared.Entry.{Entry}
 use Rattle.rules.specs.Builder.{known_entries}
 use Rattle.rules.specs.Cone as C
 use Rattle.rules.specs.Cone.{Candidate, linear_table, values, cone_span, completed, encoding, is_lut_valid, within_norm, norm2, fits, better, best}
-use Rattle.rules.specs.Network.{Term, LutNode, Input, Linear, Bootstrap, node_at}
+use Rattle.rules.specs.Network.{Term, LutNode, Input, Linear, Bootstrap, is_bootstrap, node_at}
 use Rattle.rules.specs.Span.{least, span}
 use Rattle.rules.specs.Store.{terms_of, coefficient_of, same_sources, with_form, ranked}
 use Rattle.theorems.specs.KnownRows.{known-hit}
 use Rattle.theorems.specs.Rows.{offset}
 use Rattle.theorems.specs.Spans.{offset_lt}
+use Rattle.rotation.specs.Entries.{numbers, numbers_take}
 use Rattle.cone.specs.declared.Cone.{Cone}
 use Rattle.scale.specs.Limits.{Within}
 use Rattle.theorems.specs.ConeValues.{linear_table-length}
-use Rattle.cone.specs.View.{cone_of, IsCone, truth-length, truth_entry, view_rows}
-use Rattle.cone.specs.Sources.{Stands}
+use Rattle.cone.specs.Fields.{cone_from, Held, truths, truths-length, truths_entry}
+use Rattle.cone.specs.View.{cone_of, view_rows}
+use Rattle.cone.specs.Sources.{Stands, below_same}
 use Rattle.lut.specs.Forms.{form_terms, AlignedTo, FormOf}
-use Rattle.nodes.specs.declared.node.LutNode as L
-use Rattle.nodes.specs.declared.node.LutNode.TheVariants as Code
 use Rattle.nodes.specs.declared.store.Store.{Store}
 use Rattle.nodes.specs.Store.{store_of, node_fine}
-use Rattle.nodes.specs.View.{lut_node, Fine, FineTerms, terms_fine}
+use Rattle.nodes.specs.View.{Fine, FineTerms, terms_fine}
 use Rattle.search.specs.Options.{option_by}
 
 -- ---- What the code holds.
@@ -58,51 +59,35 @@ turned s nodes c d (some ts) = if same_sources c.support ts then better_of d (fi
 
 -- ---- laws: a cone by its known entries
 
-module _ (d : Cone) (T : List ℕ) (rows : length (values (cone_of d)) ≡ length T)
-    (f : known_entries (values (cone_of d)) T ≡ some (take (cone_span (cone_of d)) d.known)) where
-  pub truth_by_entries : (cone_of d).truth ≡ T
-  unfolding cone_span
-  truth_by_entries =
-      ext_get_or 0 (cone_of d).truth T (sym (truth-length d) ∙ rows)
+module _ (cs : List ℤ) (known : List Entry) (T : List ℕ) (rows : length (linear_table cs) ≡ length T) (f : known_entries (linear_table cs) T ≡ some (numbers (take (span (linear_table cs)) known))) where
+  truths_by_entries : truths cs known ≡ T
+  truths_by_entries =
+      ext_get_or 0 (truths cs known) T (sym (truths-length cs known) ∙ rows)
       (λ i h.
-      let l : i < length (values (cone_of d)) = rw (truth-length d) h in
-      truth_entry d i l
-      ∙ sym (get_or-take (span (values (cone_of d))) d.known (offset (least (values (cone_of d))) (values (cone_of d)) i) 0 (offset_lt (values (cone_of d)) i l))
-      ∙ known-hit (values (cone_of d)) T rows _ f i l)
+      let l : i < length (linear_table cs) = rw (truths-length cs known) h in
+      truths_entry cs known i l
+      ∙ sym (get_or-take (span (linear_table cs)) (numbers known) (offset (least (linear_table cs)) (linear_table cs) i) 0 (offset_lt (linear_table cs) i l))
+      ∙ known-hit (linear_table cs) T rows _ (f ∙ ap some (sym (numbers_take (span (linear_table cs)) known))) i l)
 
 -- the cone with other coefficients, whose entries are its truths at their values
-module _ (c : Cone) (is : IsCone c) (coefs : List ℤ) (size : length coefs ≡ 11) (known : List ℕ)
-    (h : span (linear_table (take c.n coefs)) ≤ 32)
-    (f : known_entries (linear_table (take c.n coefs)) (cone_of c).truth ≡ some (take (span (linear_table (take c.n coefs))) known)) where
-  abbrev formed : Cone
-  formed = record { n = c.n; support = c.support; coefs = coefs; known = known }
+module _ (c : Cone) (coefs : List ℤ) (size : length coefs ≡ 11) (known : List Entry)
+    (f : known_entries (linear_table (take c.n coefs)) (cone_of c).truth ≡ some (numbers (take (span (linear_table (take c.n coefs))) known))) where
+  formed_truth : truths (take c.n coefs) known ≡ (cone_of c).truth
+  formed_truth =
+      let n : length (take c.n coefs) ≡ c.n = length-take-le c.n coefs (omega (arith, c.few)) in
+      truths_by_entries (take c.n coefs) known (cone_of c).truth (linear_table-length (take c.n coefs) ∙ ap (λ k. 2 ^ k) n ∙ sym (view_rows c)) f
 
-  rows_same : length (linear_table (take c.n coefs)) ≡ length (cone_of c).truth
-  rows_same =
-      let n : length (take c.n coefs) ≡ c.n = length-take-le c.n coefs (omega (arith, is.few)) in
-      linear_table-length (take c.n coefs) ∙ ap (λ k. 2 ^ k) n ∙ sym (view_rows c is)
-
-  formed_truth : (cone_of formed).truth ≡ (cone_of c).truth
-  unfolding cone_of values cone_span
-  formed_truth = truth_by_entries formed (cone_of c).truth rows_same f
-
-  pub formed_is : cone_of formed ≡ reformed (cone_of c) (take c.n coefs)
+  pub formed_is : cone_from c.n c.support coefs known ≡ reformed (cone_of c) (take c.n coefs)
   unfolding cone_of reformed
   formed_is = ap {B = C.Cone} (λ (t : List ℕ). record { support = take c.n c.support; coefficients = take c.n coefs; truth = t }) formed_truth
 
-  pub formed_cone : length known ≡ 32 → IsCone formed
-  unfolding cone_of values cone_span
-  formed_cone long =
-      record {
-        support_long = is.support_long;
-        coefs_long = size;
-        entries_long = long;
-        few = is.few;
-        different = is.different;
-        narrow = h;
-        near = is.near;
-        held = ap (known_entries (linear_table (take c.n coefs))) formed_truth ∙ f;
-      }
+  pub formed_held : Held (take c.n coefs) known
+  formed_held = ap (known_entries (linear_table (take c.n coefs))) formed_truth ∙ f
+
+-- it stands where the cone stands
+pub formed_stands : (count : ℕ) (c d : Cone) (cs : List ℤ) → cone_of d ≡ reformed (cone_of c) cs → Stands count c → Stands count d
+unfolding reformed
+formed_stands count c d cs e h = record { below = below_same count (cone_of d) (cone_of c) (ap (λ (k : C.Cone). k.support) e) h.below }
 
 -- ---- laws: whether the form fits
 
@@ -149,11 +134,11 @@ module _ (s : Settings) (nodes : List LutNode) (c : C.Cone) (d : Option Candidat
   form_skips (some ts) h = rw h
 
   -- a node that is no bootstrap gives none
-  pub form_none : (n : L.LutNode) (m : LutNode) → lut_node n ≡ m → ((j : ℕ) (table : _) → n ≡ Code.Bootstrap j table → ⊥) → d ≡ turned s nodes c d (form_terms nodes m)
-  unfolding turned form_terms lut_node
-  form_none (Code.Input name weight) m e h = rw (← e) refl
-  form_none (Code.Linear k ts) m e h = rw (← e) refl
-  form_none (Code.Bootstrap j table) m e h = absurd (h j table refl)
+  pub form_none : (n : LutNode) → is_bootstrap n ≡ false → d ≡ turned s nodes c d (form_terms nodes n)
+  unfolding turned form_terms is_bootstrap
+  form_none (Input g) h = refl
+  form_none (Linear k ts) h = refl
+  form_none (Bootstrap j table) h = absurd cc
 
   pub form-taken : (o : Option (List Term)) (coefs : List ℤ) → FormOf c.support o (Some coefs)
       → better_of d (fitting s nodes (reformed c (take (length c.support) coefs))) ≡ turned s nodes c d o

@@ -11,16 +11,13 @@ use Rattle.laws.specs.Test.{if◌then◌otherwise◌}
 use Rattle.rules.specs.declared.Settings.{Settings}
 use Rattle.rules.specs.Cone as C
 use Rattle.rules.specs.Cone.{Candidate, fits, best_from, best}
-use Rattle.rules.specs.Network.{Term, LutNode, Input, Linear, Bootstrap, boot_sources, node_at}
+use Rattle.rules.specs.Network.{Term, LutNode, Input, Linear, Bootstrap, is_bootstrap, boot_sources, node_at}
 use Rattle.rules.specs.Store.{terms_of, same_sources, bootstrap_inputs, bootstrap_forms, with_form, ranked, cone_or, realigned}
 use Rattle.theorems.specs.NodesAt.{drop-node}
 use Rattle.cone.specs.declared.Cone.{Cone}
 use Rattle.cone.specs.View.{cone_of}
 use Rattle.cone.specs.Sources.{Stands}
 use Rattle.lut.specs.Forms.{form_terms}
-use Rattle.nodes.specs.declared.node.LutNode as L
-use Rattle.nodes.specs.declared.node.LutNode.TheVariants as Code
-use Rattle.nodes.specs.View.{lut_node}
 use Rattle.bootstrap.specs.Form.{candidate_in, fitting, better_of, turned, form_none}
 
 -- the candidates that some of the nodes give
@@ -76,8 +73,8 @@ module _ (s : Settings) (nodes : List LutNode) (c : Cone) where
         }
 
     -- a node that is no bootstrap
-    pub walk_past : i < length nodes → (n : L.LutNode) → lut_node n ≡ node_at nodes i → ((j : ℕ) (table : _) → n ≡ Code.Bootstrap j table → ⊥) → Walked s nodes c (i + 1) f
-    walk_past h n e k = walk_on h f (form_none s nodes (cone_of c) (candidate_in nodes f) n (node_at nodes i) e k) w.stands
+    pub walk_past : i < length nodes → (n : LutNode) → n ≡ node_at nodes i → is_bootstrap n ≡ false → Walked s nodes c (i + 1) f
+    walk_past h n e k = walk_on h f (form_none s nodes (cone_of c) (candidate_in nodes f) (node_at nodes i) (rw (← e) k)) w.stands
 
     none_left : length nodes ≤ i → candidate_in nodes f ≡ best (candidates_from s nodes (cone_of c) nodes)
     unfolding candidates_from boot_sources select best_from
@@ -100,4 +97,4 @@ pub not_realigned : (s : Settings) (nodes : List LutNode) (c : C.Cone) → s.man
 unfolding realigned
 not_realigned s nodes c e = rw e
 
-pub ruleset walking = (walk_start, walk_end, not_realigned)
+pub ruleset walking = (walk_start, not_realigned)

@@ -1,7 +1,7 @@
 // The builder of bootstrap tables from rows, a public entry. It leans on `rotation`.
 #![tactic(auto)]
 
-ghost use Rattle.std.specs.Prelude.{◌≡◌, ltb, length, replicate};
+ghost use Rattle.std.specs.Prelude.{◌≡◌, ◌≤◌, ltb, length};
 ghost use Rattle.laws.specs.Over.{over};
 ghost use Rattle.laws.specs.Test.{if◌then◌otherwise◌};
 ghost use Rattle.rules.specs.Span.{least, span};
@@ -27,26 +27,25 @@ fn write_table(c: u8, table: &[u8], out: &mut [u8]) -> Result<Table, Reason>
     })
 }
 
-// The completion of the rows' known entries with its centre, or why there is none; `known` and `table` are to work in, as long as the span.
+// The completion of the rows' known entries with its centre, or why there is none; `table` is to work in, as long as the span.
+// It and `low` come of the bounds, which the caller has for the span's test (31).
+#[tactic(auto, unfolding(rules::specs::Builder::from_known))]
 fn build_from_rows(
     size: usize,
     low: i32,
     values: &[i32],
     truths: &[u8],
-    known: &mut [u8],
     table: &mut [u8],
     out: &mut [u8],
 ) -> Result<Table, Reason>
     requires values_len { length values.now ≡ length truths.now }
     requires low_value { low ≡ least values.now }
-    requires known_value { known.old ≡ replicate (span values.now) 2 }
+    requires narrow { span values.now ≤ 32 }
     requires table_len { length table.old ≡ span values.now }
     ensures { built (builder_reply result) out.new ≡ from_known size out.old (known_entries values.now truths.now) }
 {
-    if !enter(values, truths, low, known) {
-        return Err(Reason::Conflict);
-    }
-    if !complete(known, size, table) {
+    let known = enter(values, truths, low).ok_or(Reason::Conflict)?;
+    if !complete(&known[..table.len()], size, table) {
         return Err(Reason::NoCompletion);
     }
     let c = centre(table, size);
@@ -54,6 +53,7 @@ fn build_from_rows(
 }
 
 // The bootstrap table of rows, a value and a truth each, and its centre: every refusal keeps `out`.
+// Two lists, as C hands them and as document 01 refuses them (30).
 pub fn composed_bootstrap_table(
     p: usize,
     m: usize,
@@ -74,15 +74,6 @@ pub fn composed_bootstrap_table(
     if m < length {
         return Err(Reason::SpanOverM);
     }
-    let mut known = [2u8; 32];
     let mut table = [0u8; 32];
-    build_from_rows(
-        p,
-        bounds.low,
-        values,
-        truths,
-        &mut known[..length],
-        &mut table[..length],
-        out,
-    )
+    build_from_rows(p, bounds.low, values, truths, &mut table[..length], out)
 }

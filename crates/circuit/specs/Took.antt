@@ -33,15 +33,7 @@ pub full : (n m : ℕ) (ks : List Condition) → m ≤ n → lowest ((3 when leb
 unfolding lowest
 full n m ks h = rw (le-leb m n h)
 
--- the shape is the last of these
-pub unmatched : (a b c s : Bool) → s ≡ false → 0 < lowest ((3 when a) ∷ (4 when b) ∷ (6 when c) ∷ (7 when not s) ∷ [])
-unfolding lowest
-unmatched true b c s e = omega arith
-unmatched false true c s e = omega arith
-unmatched false false true s e = omega arith
-unmatched false false false s e = rw e (omega arith)
-
-pub ruleset counts = (length-map, from_length, full, unmatched)
+pub ruleset counts = (length-map, from_length, full)
 
 -- ---- An input of this name is there.
 

@@ -1,7 +1,8 @@
 -- A circuit as the code holds it, seen as the definition's.
 use Rattle.std.specs.Prelude as P
-use Rattle.std.specs.Prelude.{List, [], ◌∷◌, map, ℕ}
+use Rattle.std.specs.Prelude.{List, [], ◌∷◌, map, length, ℕ}
 use Rattle.std.proofs.Math.Option.{Option, none, some}
+use Rattle.laws.specs.Test.{is_some}
 use Rattle.rules.specs.declared.Refusal.{Refusal}
 use Rattle.rules.specs.declared.Wire.{Wire}
 use Rattle.rules.specs.Circuit as C
@@ -9,6 +10,7 @@ use Rattle.rules.specs.CircuitText.{Prefix}
 use Rattle.rules.specs.Form.{Reading, Good, Refused}
 use Rattle.rules.specs.Refusal.{reason_number}
 use Rattle.forms.specs.Forms.{given_of, output_of}
+use Rattle.circuit_conditions.specs.declared.Counts.{Counts}
 use Rattle.circuit.specs.declared.Circuit.{Circuit}
 use Rattle.circuit.specs.declared.Function.{Function}
 use Rattle.circuit.specs.declared.Function.TheVariants.{Unary, Binary}
@@ -40,15 +42,19 @@ reading_of (P.Ok c) = Good (circuit_of c)
 reading_of (P.Err r) = Refused (reason_number r.reason) r.line
 
 -- What the lines so far say.
-abbrev pub given_settings : {A : Type 0} → P.Option A → Option A
-given_settings P.None = none
-given_settings (P.Some s) = some s
+abbrev pub option_of : {A : Type 0} → P.Option A → Option A
+option_of P.None = none
+option_of (P.Some s) = some s
 
 abbrev pub prefix_of : T.Prefix.Prefix → Prefix
 prefix_of c =
     record {
-      settings = given_settings c.settings;
+      settings = option_of c.settings;
       inputs = map given_of c.inputs.items;
       gates = map gate_of c.gates.items;
       outputs = map output_of c.outputs.items;
     }
+
+-- What of them a line is judged by.
+abbrev pub counts_of : Prefix → Counts
+counts_of p = record { started = is_some p.settings; inputs = length p.inputs; gates = length p.gates; outputs = length p.outputs }

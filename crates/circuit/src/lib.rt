@@ -1,4 +1,5 @@
-// A circuit's text read, or its refusal 1 to 7 with the line. It leans on one line's reader (`circuit_text`) and on the conditions (`circuit_conditions`).
+// A circuit's text read, or its refusal 1 to 7 with the line. It leans on one line's reader (`circuit_text`), on the
+// conditions (`circuit_conditions`) and on a table's limits (`rotation`).
 #![tactic(auto)]
 
 mod take;
@@ -26,7 +27,7 @@ pub struct Gate {
     pub function: Function,
 }
 
-// What an `ArrayVec` holds where it has no gate.
+// What an `ArrayVec` holds where it has no gate. By hand: `#[default]` takes only a case without fields.
 impl Default for Gate {
     fn default() -> Self {
         Gate {
@@ -45,8 +46,8 @@ pub struct Circuit<'a> {
     pub outputs: ArrayVec<Output<'a>, 32>,
 }
 
-// The circuit that a text describes. Each line's form finds its end: lines cut by `split_inclusive` first would be gone over twice,
-// and `end` wants the last one's number all the same.
+// The circuit that a text describes. Each line's form finds its end: lines cut by `split_inclusive` first would be gone over twice.
+// And a `for` over them, with a counter beside it, has an invariant with no name for the closure that finds the newlines (network's `take_lines`).
 #[tactic(auto, using(crate::specs::Reading::reads_start, crate::specs::Reading::reads_end, crate::specs::Reading::reads_refused, crate::specs::Reading::reads_next, text::specs::FirstLine::after_shorter))]
 pub fn read(text: &[u8]) -> Result<Circuit<'_>, Refusal>
     ensures { reading_of result ≡ read_circuit text.now }
@@ -55,11 +56,10 @@ pub fn read(text: &[u8]) -> Result<Circuit<'_>, Refusal>
     let mut rest = text;
     let mut line = 1;
     while !rest.is_empty() {
-        match prefix.take_line(line, rest) {
-            Ok(next) => rest = next,
-            Err(reason) => return Err(Refusal { reason, line }),
-        }
+        rest = prefix
+            .take_line(line, rest)
+            .map_err(|reason| Refusal { reason, line })?;
         line += 1;
     }
-    prefix.end(line)
+    prefix.finish(line)
 }

@@ -1,5 +1,6 @@
 // A line taken: judged by those before it, and added to them.
-ghost use Rattle.std.specs.Prelude.{◌≡◌, true, ℕ, ◌-◌, ◌≤◌, OnOk, IfOk, length, map};
+ghost use Rattle.std.specs.Prelude.{◌≡◌, ℕ, ◌≤◌, OnOk, IfOk, IfSome, length, map};
+ghost use Rattle.laws.specs.Test.{is_some};
 ghost use Rattle.rules.specs.Circuit.{given_names};
 ghost use Rattle.rules.specs.CircuitText.{nothing, with_line, ended, circuit_line, listed, node_count};
 ghost use Rattle.rules.specs.Form.{bits_from};
@@ -9,48 +10,40 @@ ghost use Rattle.text.specs.FirstLine.{first_line, after_line};
 ghost use Rattle.text.specs.Judged.{lowest};
 ghost use Rattle.circuit_conditions.specs.Wires.{shape, wires_of as wires_kept};
 ghost use Rattle.circuit_text.specs.Brief.{FbsBrief, InBrief, GateBrief, OutBrief, brief_conditions, brief_of, told};
-ghost use Rattle.circuit.specs.View.{wires_of, answers_of, reading_of, prefix_of};
+ghost use Rattle.circuit.specs.View.{wires_of, answers_of, counts_of, option_of, reading_of, prefix_of};
 ghost use Rattle.circuit.specs.Took.{line_number, with_form};
 
 use crate::{Circuit, Function, Gate};
 use arrayvec::ArrayVec;
-use circuit_conditions::{
-    GateWires, Wires, check_fbs, check_gate, check_in, check_out, is_astray, is_matched,
-};
+use circuit_conditions::{Counts, GateWires, Wires, is_astray};
 use circuit_text::line::{Line, read_line};
 use forms::{Input, Output};
 use rules::{Reason, Refusal, Settings};
+use text::digit_of;
 
 // What the lines so far say.
 #[derive(Drop)]
 pub struct Prefix<'a> {
-    pub settings: Option<Settings>,
-    pub inputs: ArrayVec<Input<'a>, 32>,
-    pub gates: ArrayVec<Gate, 96>,
-    pub outputs: ArrayVec<Output<'a>, 32>,
+    settings: Option<Settings>,
+    inputs: ArrayVec<Input<'a>, 32>,
+    gates: ArrayVec<Gate, 96>,
+    outputs: ArrayVec<Output<'a>, 32>,
 }
 
-// A bit by its byte; in place it would stand six times.
-fn bit_of(b: u8) -> u8
-    ensures { result ≡ b - 48 }
-{
-    b.saturating_sub(b'0')
-}
-
-// A gate whose bits, as they stand in the text, match its wires.
+// A gate by its wires and its bits, as they stand in the text: one wire and two bits, or two wires and four.
 #[tactic(auto, unfolding(circuit_conditions::specs::Wires::shape, rules::specs::Form::bits_from))]
-fn function_of(bits: &[u8], wires: Wires) -> Function
-    requires { shape wires (length bits.now) ≡ true }
-    ensures { (wires_of result ≡ wires_kept wires) × (answers_of result ≡ bits_from bits.now) }
+fn function_of(bits: &[u8], wires: Wires) -> Option<Function>
+    ensures matched { is_some (option_of result) ≡ shape wires (length bits.now) }
+    ensures function { IfSome result (λ f. (wires_of f ≡ wires_kept wires) × (answers_of f ≡ bits_from bits.now)) }
 {
     match (wires, bits) {
-        (Wires::Two(left, right), &[a, b, c, d]) => Function::Binary(
+        (Wires::Two(left, right), &[a, b, c, d]) => Some(Function::Binary(
             left,
             right,
-            [bit_of(a), bit_of(b), bit_of(c), bit_of(d)],
-        ),
-        (Wires::One(wire), &[a, b]) => Function::Unary(wire, [bit_of(a), bit_of(b)]),
-        _ => unreachable!(),
+            [digit_of(a), digit_of(b), digit_of(c), digit_of(d)],
+        )),
+        (Wires::One(wire), &[a, b]) => Some(Function::Unary(wire, [digit_of(a), digit_of(b)])),
+        _ => None,
     }
 }
 
@@ -74,6 +67,18 @@ impl<'a> Prefix<'a> {
         }
     }
 
+    #[tactic(auto, using(crate::specs::Took::counts))]
+    fn counts(&self) -> Counts
+        ensures { result ≡ counts_of (prefix_of self.now) }
+    {
+        Counts {
+            started: self.settings.is_some(),
+            inputs: self.inputs.len(),
+            gates: self.gates.len(),
+            outputs: self.outputs.len(),
+        }
+    }
+
     #[tactic(auto, using(crate::specs::Took::counts), unfolding(rules::specs::CircuitText::node_count))]
     fn node_count(&self) -> usize
         ensures value { result ≡ node_count (prefix_of self.now) }
@@ -87,8 +92,9 @@ impl<'a> Prefix<'a> {
         ensures number { number_met result ≡ lowest (brief_conditions (prefix_of self.old) (FbsBrief settings)) }
         ensures added { (i : ℕ) → OnOk result (prefix_of self.new ≡ with_line i (prefix_of self.old) (told (FbsBrief settings))) }
     {
-        let within = rotation::table_limits(settings.p, settings.m);
-        check_fbs(self.settings.is_some(), within, settings.t)?;
+        let within = rotation::table_limits(settings.p, settings.m)
+            && (1..=10).contains(&settings.t);
+        self.counts().check_fbs(within)?;
         self.settings = Some(settings);
         Ok(())
     }
@@ -99,33 +105,19 @@ impl<'a> Prefix<'a> {
         ensures added { (i : ℕ) → OnOk result (prefix_of self.new ≡ with_line i (prefix_of self.old) (told (InBrief (given_of input.entry)))) }
     {
         let repeated = is_listed(&self.inputs, input.name);
-        check_in(
-            self.settings.is_some(),
-            self.inputs.len(),
-            self.gates.len(),
-            self.outputs.len(),
-            repeated,
-        )?;
+        self.counts().check_in(repeated)?;
         self.inputs.push(input);
         Ok(())
     }
 
-    #[tactic(auto, using(crate::specs::Took::counts), unfolding(circuit_text::specs::Brief::brief_conditions, circuit_text::specs::Brief::told, rules::specs::CircuitText::with_line))]
+    #[tactic(auto, using(crate::specs::Took::counts), unfolding(text::specs::Judged::lowest, circuit_text::specs::Brief::brief_conditions, circuit_text::specs::Brief::told, rules::specs::CircuitText::with_line))]
     fn add_gate(&mut self, line: usize, bits: &[u8], v: GateWires) -> Result<(), Reason>
         ensures number { number_met result ≡ lowest (brief_conditions (prefix_of self.old) (GateBrief (bits_from bits.now) v)) }
         ensures added { OnOk result (prefix_of self.new ≡ with_line line (prefix_of self.old) (told (GateBrief (bits_from bits.now) v))) }
     {
-        check_gate(
-            self.settings.is_some(),
-            self.gates.len(),
-            self.outputs.len(),
-            v.astray,
-            is_matched(v.wires, bits.len()),
-        )?;
-        self.gates.push(Gate {
-            line,
-            function: function_of(bits, v.wires),
-        });
+        self.counts().check_gate(v.astray)?;
+        let function = function_of(bits, v.wires).ok_or(Reason::BadGate)?;
+        self.gates.push(Gate { line, function });
         Ok(())
     }
 
@@ -134,11 +126,8 @@ impl<'a> Prefix<'a> {
         ensures number { number_met result ≡ lowest (brief_conditions (prefix_of self.old) (OutBrief (output_of output.entry))) }
         ensures added { (i : ℕ) → OnOk result (prefix_of self.new ≡ with_line i (prefix_of self.old) (told (OutBrief (output_of output.entry)))) }
     {
-        check_out(
-            self.settings.is_some(),
-            self.outputs.len(),
-            is_astray(self.node_count(), output.wire),
-        )?;
+        let astray = is_astray(self.node_count(), output.wire);
+        self.counts().check_out(astray)?;
         self.outputs.push(output);
         Ok(())
     }
@@ -162,16 +151,14 @@ impl<'a> Prefix<'a> {
         ensures number { number_met result ≡ line_number (prefix_of self.old) (circuit_line (first_line s.now)) }
         ensures taken { IfOk result (λ rest. (rest.now ≡ after_line s.now) × (prefix_of self.new ≡ with_form line (prefix_of self.old) (circuit_line (first_line s.now)))) }
     {
-        let Some((form, rest)) = read_line(s, self.node_count()) else {
-            return Err(Reason::NoForm);
-        };
+        let (form, rest) = read_line(s, self.node_count()).ok_or(Reason::NoForm)?;
         self.add(line, form)?;
         Ok(rest)
     }
 
     // The text ends before this line.
     #[tactic(auto, unfolding(rules::specs::CircuitText::ended, rules::specs::CircuitText::with_settings))]
-    pub fn end(self, line: usize) -> Result<Circuit<'a>, Refusal>
+    pub fn finish(self, line: usize) -> Result<Circuit<'a>, Refusal>
         ensures { reading_of result ≡ ended line (prefix_of self.entry) }
     {
         let Prefix {
@@ -180,12 +167,8 @@ impl<'a> Prefix<'a> {
             gates,
             outputs,
         } = self;
-        let Some(settings) = settings else {
-            return Err(Refusal {
-                reason: Reason::OutOfOrder,
-                line,
-            });
-        };
+        let reason = Reason::OutOfOrder;
+        let settings = settings.ok_or(Refusal { reason, line })?;
         Ok(Circuit {
             settings,
             inputs,

@@ -1,4 +1,4 @@
-// A run of the circuit that a text describes, on a bit for each input. It leans on the reader (`circuit`).
+// A run of the circuit that a text describes, on a bit for each input. It leans on the reader (`circuit`) and `bits`.
 #![tactic(auto)]
 
 mod run;

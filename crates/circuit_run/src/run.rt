@@ -65,6 +65,7 @@ fn put_outputs(values: &[u8], outputs: &[Output<'_>], out: &mut [u8])
     requires { length outputs.now ≤ length out.old }
     ensures { out.new ≡ over (output_bits values.now outputs.now) out.old }
 {
+    // An index: of a zip over `iter_mut` the proof learns nothing of what was written (docs/proof-notes.md).
     for (i, output) in outputs.iter().enumerate() {
         out[i] = wire_bit(values, output.wire);
     }

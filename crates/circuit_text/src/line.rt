@@ -19,7 +19,8 @@ pub enum Line<'a> {
     Out(Output<'a>),
 }
 
-// The first line, of a text after n nodes, and what is left.
+// The first line, of a text after n nodes, and what is left. Not a chain of `.or_else`: its first form would want a `.map`, and the check does not
+// cover one to a form that lends its text.
 pub fn read_line(s: &[u8], n: usize) -> Option<(Line<'_>, &[u8])>
     ensures line { line_of result ≡ kept n (circuit_line (first_line s.now)) }
     ensures rest { Behind s.now result }

@@ -14,14 +14,10 @@ use text::{read_number, read_word};
 fn read_policy(s: &[u8]) -> Option<(Policy, &[u8])>
     ensures { piece result ≡ policy s.now }
 {
-    if let Some(rest) = read_word(s, b"basic") {
-        return Some((Policy::Basic, rest));
-    }
-    if let Some(rest) = read_word(s, b"naive") {
-        return Some((Policy::Naive, rest));
-    }
-    let rest = read_word(s, b"span")?;
-    Some((Policy::Span, rest))
+    let basic = read_word(s, b"basic").map(|rest| (Policy::Basic, rest));
+    basic
+        .or_else(|| Some((Policy::Naive, read_word(s, b"naive")?)))
+        .or_else(|| Some((Policy::Span, read_word(s, b"span")?)))
 }
 
 // TABLES: whether there may be many.
@@ -29,14 +25,11 @@ fn read_policy(s: &[u8]) -> Option<(Policy, &[u8])>
 fn read_tables(s: &[u8]) -> Option<(bool, &[u8])>
     ensures { piece result ≡ tables s.now }
 {
-    if let Some(rest) = read_word(s, b"one") {
-        return Some((false, rest));
-    }
-    let rest = read_word(s, b"many")?;
-    Some((true, rest))
+    let one = read_word(s, b"one").map(|rest| (false, rest));
+    one.or_else(|| Some((true, read_word(s, b"many")?)))
 }
 
-// `(fbs P M T NORM POLICY TABLES)` and its newline, P, M and T up to 65536.
+// `(fbs P M T NORM POLICY TABLES)` and its newline; a P, M or T of 65536 stands for all that are more.
 #[tactic(auto, unfolding(rules::specs::Form::onward, rules::specs::CircuitText::fbs_line, text::specs::Capped::capped, crate::specs::Settings::cap_settings))]
 pub fn read_fbs(s: &[u8]) -> Option<(Settings, &[u8])>
     ensures { piece result ≡ capped cap_settings (fbs_line s.now) }

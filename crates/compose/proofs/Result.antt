@@ -1,5 +1,5 @@
--- What `simplify_cone` answers, on the values: k is the cone, r the one with the sources and coefficients that are kept.
-use mathlib.Core.Path.{◌≡◌, sym, ap, ap₂, ◌∙◌, subst}
+-- What `simplify_cone` answers, on the values: k is the cone, r the sources and coefficients that are kept.
+use mathlib.Core.Path.{◌≡◌, sym, ap, ap₂, ◌∙◌}
 use mathlib.Core.Bool.{true, false}
 use mathlib.Core.List.{List, map}
 use Prim.Native.Nat.{ℕ, ◌≤◌, ◌<◌, ◌^◌}
@@ -8,6 +8,7 @@ use lib.IntN.{ℤ, pos, nat_abs, ◌-ℤ◌}
 use lib.ListN.{length, get_or, take, length-map}
 use lib.Seq.{ext_get_or}
 use Rattle.laws.specs.Select.{select, select_le, any}
+use Rattle.rules.specs.declared.Entry.{Entry}
 use Rattle.rules.specs.Cone as rules
 use Rattle.rules.specs.Cone.{linear_table, terms}
 use Rattle.rules.specs.Composition.{simplify_cone}
@@ -23,7 +24,9 @@ use Rattle.laws.specs.Lists.{map_at}
 use Rattle.theorems.specs.ConeValues.{linear_table-length}
 use Rattle.cone.specs.declared.Cone.{Cone}
 use Rattle.theorems.specs.LinearTables.{total}
-use Rattle.cone.specs.View.{cone_of, IsCone, is_cone, truth_at, entry_at, narrow_total, view_sources, view_coefs, truth_entry, truth-bit, unknown}
+use Rattle.cone.specs.Fields.{cone_from, Fits, fits, truths, truth_at, entry_at}
+use Rattle.cone.specs.View.{numbers, cone_of, sources_different, sources_near, narrow_total, view_sources, view_coefs, truth_entry, truth-bit, unknown}
+use Rattle.compose.specs.declared.simplify.Retained.{Retained}
 use Rattle.compose.specs.Simplify.{IsRetained, truth_over, different-sources, near_sources, simplified}
 use Rattle.theorems.specs.Terms.{coefs, coefs_of, coefs_long, sources_of, terms-length, terms_over}
 
@@ -31,14 +34,13 @@ use Rattle.theorems.specs.Terms.{coefs, coefs_of, coefs_long, sources_of, terms-
 abbrev pub used_of : rules.Cone → List Term
 used_of v = select is_used (terms_over v.coefficients v.support)
 
-same_fields : (k : Cone) {s : List ℕ} {c : List ℤ} {t : List ℕ} → take k.n k.support ≡ s → take k.n k.coefs ≡ c
-    → map (truth_at (take k.n k.coefs) k.known) (linear_table (take k.n k.coefs)) ≡ t → cone_of k ≡ record { support = s; coefficients = c; truth = t }
-unfolding cone_of
-same_fields k e f g = cc
+same_fields : (n : ℕ) (support : List ℕ) (cs : List ℤ) (known : List Entry) {s : List ℕ} {c : List ℤ} {t : List ℕ} → take n support ≡ s → take n cs ≡ c
+    → truths (take n cs) known ≡ t → cone_from n support cs known ≡ record { support = s; coefficients = c; truth = t }
+same_fields n support cs known e f g = cc
 
-module _ (k : Cone) (is : IsCone k) (r : Cone) (kept : IsRetained (used_of (cone_of k)) r) where
+module _ (k : Cone) (r : Retained) (kept : IsRetained (used_of (cone_of k)) r) where
   long : length (cone_of k).coefficients ≡ length (cone_of k).support
-  long = view_coefs k is ∙ sym (view_sources k is)
+  long = view_coefs k ∙ sym (view_sources k)
 
   all : List Term
   all = terms_over (cone_of k).coefficients (cone_of k).support
@@ -56,11 +58,11 @@ module _ (k : Cone) (is : IsCone k) (r : Cone) (kept : IsRetained (used_of (cone
 
   pub few : r.n ≤ 11
   few =
-      omega (arith, kept.count, select_le is_used (terms_over (cone_of k).coefficients (cone_of k).support), terms-length (cone_of k).coefficients (cone_of k).support long, view_sources k is, is.few)
+      omega (arith, kept.count, select_le is_used (terms_over (cone_of k).coefficients (cone_of k).support), terms-length (cone_of k).coefficients (cone_of k).support long, view_sources k, k.few)
 
   different : all_different (sources used) ≡ true
   unfolding used all
-  different = different-sources is_used all (rw sources_are is.different)
+  different = different-sources is_used all (rw sources_are (sources_different k))
 
   -- the kept coefficients have the same least value and span
   same_low : least (linear_table (coefs used)) ≡ least (rules.values (cone_of k))
@@ -92,32 +94,29 @@ module _ (k : Cone) (is : IsCone k) (r : Cone) (kept : IsRetained (used_of (cone
     unfolding row used truth_over simplify_cone terms terms_over
     row_truth = simplified_truth (cone_of k) long i h
 
-    truth_of : get_or (map (truth_at (coefs used) k.known) (linear_table (coefs used))) i 0 ≡ get_or (truth_over (sources used) (cone_of k)) i 0
+    truth_of : get_or (map (truth_at (coefs used) (numbers k.known)) (linear_table (coefs used))) i 0 ≡ get_or (truth_over (sources used) (cone_of k)) i 0
     unfolding truth_at entry_at row
     truth_of =
-        map_at (truth_at (coefs used) k.known) (linear_table (coefs used)) i (pos 0) 0 (rw (linear_table-length (coefs used), ← coefs_long used) h)
-        ∙ ap₂ (λ v l. get_or k.known (nat_abs (v -ℤ l)) 0) (sym value_of) same_low
+        map_at (truth_at (coefs used) (numbers k.known)) (linear_table (coefs used)) i (pos 0) 0 (rw (linear_table-length (coefs used), ← coefs_long used) h)
+        ∙ ap₂ (λ v l. get_or (numbers k.known) (nat_abs (v -ℤ l)) 0) (sym value_of) same_low
         ∙ sym (truth_entry k row row_in_lem)
         ∙ sym row_truth
 
     truth-small : get_or (truth_over (sources used) (cone_of k)) i 0 ≤ 1
-    truth-small = rw row_truth (let b = truth-bit k is row in omega arith)
+    truth-small = rw row_truth (let b = truth-bit k row in omega arith)
 
-  truths : map (truth_at (coefs used) k.known) (linear_table (coefs used)) ≡ truth_over (sources used) (cone_of k)
-  truths =
-      let e : length (map (truth_at (coefs used) k.known) (linear_table (coefs used))) ≡ 2 ^ length (sources used) =
-      (length-map (linear_table (coefs used)) (truth_at (coefs used) k.known) ∙ linear_table-length (coefs used) ∙ ap (λ n. 2 ^ n) (sym (coefs_long used))) in
+  truths_are : map (truth_at (coefs used) (numbers k.known)) (linear_table (coefs used)) ≡ truth_over (sources used) (cone_of k)
+  truths_are =
+      let e : length (map (truth_at (coefs used) (numbers k.known)) (linear_table (coefs used))) ≡ 2 ^ length (sources used) =
+      (length-map (linear_table (coefs used)) (truth_at (coefs used) (numbers k.known)) ∙ linear_table-length (coefs used) ∙ ap (λ n. 2 ^ n) (sym (coefs_long used))) in
       ext_get_or 0 _ _ (e ∙ sym (unfold truth_over in (over_rows-length (sources used) (λ bit. rules.cone_bit bit (cone_of k))))) (λ i h. truth_of i (rw e at h))
-
-  abbrev built : Cone
-  built = record { n = r.n; support = r.support; coefs = r.coefs; known = k.known }
 
   abbrev seen : rules.Cone
   seen = record { support = sources used; coefficients = coefs used; truth = truth_over (sources used) (cone_of k) }
 
-  view : cone_of built ≡ seen
+  view : cone_from r.n r.support r.coefs k.known ≡ seen
   unfolding used
-  view = same_fields built kept.nodes kept.values (ap (λ l. map (truth_at l k.known) (linear_table l)) kept.values ∙ truths)
+  view = same_fields r.n r.support r.coefs k.known kept.nodes kept.values (ap (λ l. truths l k.known) kept.values ∙ truths_are)
 
   -- no value that had a row is without one
   unhit : (j : ℕ) → hits (least (linear_table (coefs used))) (linear_table (coefs used)) j ≡ false → hits (least (rules.values (cone_of k))) (rules.values (cone_of k)) j ≡ false
@@ -127,18 +126,14 @@ module _ (k : Cone) (is : IsCone k) (r : Cone) (kept : IsRetained (used_of (cone
       ∙ ap (λ l. any (is_at (least (linear_table (coefs used))) j) (linear_table l)) (sym coefs_are)
       ∙ sym (any_selected (is_at (least (linear_table (coefs used))) j) all) ∙ h
 
-  with_known : length r.support ≡ 11 → length r.coefs ≡ 11 → IsCone built × (cone_of built ≡ simplify_cone (cone_of k))
+  pub rebuilt_fits : Fits r.n r.support r.coefs k.known
   unfolding rules.values used all
-  with_known rs rc = (
-    is_cone built seen view rs rc is.entries_long few different (omega (arith, same_total, narrow_total k is))
-        (near_sources is_used 672 (omega arith) all (λ i. rw sources_are (is.near i)))
-        (λ i h. truth-small i (rw (linear_table-length (coefs used), ← coefs_long used) at h))
-        (λ j l h. unknown k is j (rw (← same_span) l) (unhit j h)),
-    view ∙ sym (simplified (cone_of k)),
-  )
+  rebuilt_fits =
+      fits r.n r.support r.coefs k.known seen view k.entries_long few different (omega (arith, same_total, narrow_total k))
+      (near_sources is_used 672 (omega arith) all (λ i. rw sources_are (sources_near k i)))
+      (λ i h. truth-small i (rw (linear_table-length (coefs used), ← coefs_long used) at h))
+      (λ j l h. unknown k j (rw (← same_span) l) (unhit j h))
 
-  pub rebuilt : r.known ≡ k.known → length r.support ≡ 11 → length r.coefs ≡ 11 → IsCone r × (cone_of r ≡ simplify_cone (cone_of k))
-  rebuilt e rs rc =
-      subst
-      (λ ks. let c : Cone = record { n = r.n; support = r.support; coefs = r.coefs; known = ks } in IsCone c × (cone_of c ≡ simplify_cone (cone_of k)))
-      (sym e) (with_known rs rc)
+  pub rebuilt : cone_from r.n r.support r.coefs k.known ≡ simplify_cone (cone_of k)
+  unfolding used all
+  rebuilt = view ∙ sym (simplified (cone_of k))

@@ -15,11 +15,11 @@ use Rattle.rules.specs.NetworkText.{sources, all_different}
 use Rattle.rules.specs.Store.{is_used}
 use Rattle.rules.specs.Composition.{over_rows, simplify_cone}
 use Rattle.theorems.specs.Terms.{coefs, terms_over, sources_are}
-use Rattle.cone.specs.declared.Cone.{Cone as Held}
+use Rattle.compose.specs.declared.simplify.Retained.{Retained}
 use Rattle.theorems.specs.Members.{different-select}
 
--- The cone's arrays hold these terms.
-pub record IsRetained (ts : List Term) (r : Held) : Type 0 where
+-- The arrays hold these terms.
+pub record IsRetained (ts : List Term) (r : Retained) : Type 0 where
   pub count : r.n ≡ length ts
   pub nodes : take r.n r.support ≡ sources ts
   pub values : take r.n r.coefs ≡ coefs ts

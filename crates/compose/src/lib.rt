@@ -1,32 +1,25 @@
 // Two cones under a gate: their sources together, and at each row over them both values and the gate's answer. It leans on `cone`, `support` and `linear`.
 #![tactic(auto)]
 
+pub mod basis;
 pub mod simplify;
 
 ghost use Rattle.std.specs.Prelude.{◌≡◌, ◌≤◌, ◌^◌, length};
 ghost use Rattle.laws.specs.Over.{over};
 ghost use Rattle.rules.specs.Cone.{values};
 ghost use Rattle.rules.specs.Composition.{union_support, gate_truth};
-ghost use Rattle.cone.specs.View.{cone_of, IsCone};
+ghost use Rattle.cone.specs.View.{cone_of};
 ghost use Rattle.compose.specs.Basis.{IsBasis, Room, Composed};
 
+use crate::basis::Basis;
 use cone::Cone;
 use cone::table::truths_of;
 use linear::{linear_table, rows_of};
 use support::{coefficients_over, toggle_masks, union_support};
 
-// Two cones laid over their sources together: the first n sources, and both rows of coefficients over them.
-#[derive(Clone, Copy)]
-pub struct Basis {
-    pub n: usize,
-    pub support: [usize; 11],
-    pub left: [i64; 11],
-    pub right: [i64; 11],
-}
-
 // CandidateWorkspace::new: coefficient_pair for each source of the union.
 pub fn basis_of(left: Cone, right: Cone) -> Basis
-    requires { IsCone left × (IsCone right × (length (union_support (cone_of left).support (cone_of right).support) ≤ 11)) }
+    requires { length (union_support (cone_of left).support (cone_of right).support) ≤ 11 }
     ensures { IsBasis (cone_of left) (cone_of right) result }
 {
     let union = union_support(left.sources(), right.sources());
@@ -39,7 +32,8 @@ pub fn basis_of(left: Cone, right: Cone) -> Basis
     }
 }
 
-// The gate's answer at each row over the union of the sources, by the truths of both cones' rows.
+// The gate's answer at each row over the union of the sources, by the truths of both cones' rows. The flat tables of this file are those that
+// document 01 names, each lent by itself: `linear_table` fills one and reads no other.
 fn composed_truth(
     left: Cone,
     right: Cone,
@@ -49,19 +43,20 @@ fn composed_truth(
     gate: [u8; 4],
     truth: &mut [u8],
 )
-    requires cones { IsCone left × (IsCone right × ((support.now ≡ union_support (cone_of left).support (cone_of right).support) × ((length support.now ≤ 11) × (2 ^ length support.now ≤ length truth.old)))) }
+    requires cones { (support.now ≡ union_support (cone_of left).support (cone_of right).support) × ((length support.now ≤ 11) × (2 ^ length support.now ≤ length truth.old)) }
     requires truths { (lefts.now ≡ (cone_of left).truth) × (rights.now ≡ (cone_of right).truth) }
     ensures { truth.new ≡ over (gate_truth support.now (cone_of left) (cone_of right) gate) truth.old }
 {
     let masks = toggle_masks(support, right.sources());
-    let new = support.len() - left.n;
-    let rows = 1usize << support.len();
-    let mut r = 0;
+    let added = support.len() - left.n;
+    let rows = rows_of(support.len());
+    let mut right_row = 0;
+    // By the row's number, which says the left row and the mask as well as the place.
     for i in 0..rows {
-        let g = 2 * (lefts[i >> new] as usize) + (rights[r] as usize);
-        truth[i] = gate[g];
+        let inputs = 2 * (lefts[i >> added] as usize) + (rights[right_row] as usize);
+        truth[i] = gate[inputs];
         // The next row changes the digits up to its trailing zeros.
-        r ^= masks[(i + 1).trailing_zeros() as usize];
+        right_row ^= masks[(i + 1).trailing_zeros() as usize];
     }
 }
 
@@ -75,7 +70,7 @@ fn gate_truths(
     ys: &mut [i32],
     truth: &mut [u8],
 )
-    requires { IsCone left × (IsCone right × ((support.now ≡ union_support (cone_of left).support (cone_of right).support) × ((length support.now ≤ 11) × Room (length support.now) xs.old ys.old truth.old))) }
+    requires { (support.now ≡ union_support (cone_of left).support (cone_of right).support) × ((length support.now ≤ 11) × Room (length support.now) xs.old ys.old truth.old) }
     ensures { (xs.new ≡ over (values (cone_of left)) xs.old) × ((ys.new ≡ over (values (cone_of right)) ys.old) × (truth.new ≡ over (gate_truth support.now (cone_of left) (cone_of right) gate) truth.old)) }
 {
     let mut lefts = [0; 2048];
@@ -91,16 +86,16 @@ fn gate_truths(
 pub fn cone_composition_tables(
     left: Cone,
     right: Cone,
-    basis: Basis,
+    basis: &Basis,
     gate: [u8; 4],
     xs: &mut [i32],
     ys: &mut [i32],
     truth: &mut [u8],
 )
-    requires { IsCone left × (IsCone right × (IsBasis (cone_of left) (cone_of right) basis × Room basis.n xs.old ys.old truth.old)) }
+    requires { IsBasis (cone_of left) (cone_of right) basis.now × Room basis.now.n xs.old ys.old truth.old }
     ensures { Composed (cone_of left) (cone_of right) gate xs.old ys.old truth.old xs.new ys.new truth.new }
 {
-    gate_truths(left, right, &basis.support[..basis.n], gate, xs, ys, truth);
-    linear_table(&basis.left[..basis.n], xs);
-    linear_table(&basis.right[..basis.n], ys);
+    gate_truths(left, right, basis.sources(), gate, xs, ys, truth);
+    linear_table(basis.left(), xs);
+    linear_table(basis.right(), ys);
 }

@@ -1,15 +1,16 @@
 -- What is left to do when all outputs are mapped: Basic's last check, and the text.
 use Rattle.std.specs.Prelude as P
 use Rattle.std.specs.Prelude.{◌≡◌, Bool, true, false, ◌&&◌, not, List, [], ◌∷◌, ◌++◌, ℕ, zero, suc, ◌+◌, ◌≤◌, ◌<◌, length, get_or, take, drop}
-use Rattle.std.proofs.Common.{refl, ap, sym, ◌∙◌, le_of_suc-le-suc, arith, lt-ltb, le-ltb}
+use Rattle.std.proofs.Common.{refl, ap, sym, ◌∙◌, le_of_suc-le-suc, arith}
 use Rattle.forms.specs.declared.Net.{Net}
-use Rattle.rules.specs.declared.Reason.TheVariants.{OverNorm, ShortBuffer}
+use Rattle.rules.specs.declared.Reason.TheVariants.{OverNorm}
 use Rattle.rules.specs.declared.Refusal.{Refusal}
 use Rattle.rules.specs.declared.Settings.{Settings}
 use Rattle.rules.specs.declared.Wire.{Wire}
 use Rattle.rules.specs.declared.Wire.TheVariants.{Const, Node}
 use Rattle.rules.specs.Circuit.{Output}
 use Rattle.rules.specs.Cone.{within_norm}
+use Rattle.rules.specs.Converter.{answer_text}
 use Rattle.rules.specs.Form.{Reading, Good}
 use Rattle.rules.specs.Mapper.{is_basic, pruned, checked, answer_with, map_reply}
 use Rattle.rules.specs.Network.{Network, member}
@@ -22,14 +23,12 @@ use Rattle.mapped.specs.PrunedLive.{live-outputs}
 use Rattle.nodes.specs.declared.store.Store.{Store}
 use Rattle.nodes.specs.Store.{store_of, Centred, store_few}
 use Rattle.writer.specs.Kept.{Numbered, Closed, closed, kept_sourced}
-use Rattle.writer.specs.Live.{Sourced}
+use Rattle.writer.specs.Live.{NewNumbers, Sourced}
 use Rattle.writer.specs.Outputs.{AllLive, IsKept, AllKept, all_live}
-use Rattle.lines.specs.Front.{untouched, untouched-length, text_over}
-use Rattle.lines.specs.Put.{Put, Room}
+use Rattle.lines.specs.Put.{Room}
 use Rattle.writer.specs.Whole.{network_of, kept_network}
 use Rattle.gates.specs.Wired.{WireIn}
 use Rattle.outputs.specs.Outputs.{AllIn}
-use Rattle.conclude.specs.Live.{Keeps}
 use Rattle.conclude.specs.Norm.{largest_norm}
 
 -- The network that the nodes and the outputs say, pruned and checked.
@@ -41,21 +40,6 @@ pub record Finishable (s : Settings) (os : List Output) (store : Store) : Type 0
   pub centred : Centred s.p store
   pub wires : AllIn (length (store_of store)) os
   pub short : (w : Network) → concluded s os store ≡ Good w → length (network_text w) < 65536
-
--- ---- laws: the text in the buffer
-
-module _ (w : Network) (n : ℕ) (none : List ℕ) (p : Put 0 (network_text w) [] n none) (before : List ℕ) where
-  pub answer_short : length (none ++ before) < n → (f : Refusal) → f ≡ record { reason = ShortBuffer; line = 0 } → outcome (map_reply (P.Err f)) (none ++ before) ≡ answer_with before (Good w)
-  unfolding answer_with
-  answer_short h f q =
-      rw (q, untouched (network_text w) n none p before, lt-ltb (length before) (length (network_text w)) (omega (arith, untouched-length (network_text w) n none p before, p.place))) refl
-
-  pub answer-written : (h : n ≤ length (none ++ before)) (next : ℕ) (after : List ℕ) → Put 0 (network_text w) (take n (none ++ before)) next after
-      → outcome (map_reply (P.Ok n)) (after ++ drop n (none ++ before)) ≡ answer_with before (Good w)
-  unfolding answer_with
-  answer-written h next after q =
-      let e : n ≡ length (network_text w) = omega (arith, p.place) in
-      rw (le-ltb (length before) (length (network_text w)) (omega (arith, h, untouched-length (network_text w) n none p before, p.place)), text_over (network_text w) n none p before h next after q, e) refl
 
 -- ---- laws: Basic's last check
 
@@ -102,29 +86,31 @@ module _ (s : Settings) (os : List Output) (store : Store) (r : Bool)
   unfolding concluded checked pruned answer_with largest_norm
   over_refused t f q out = rw (q, sym e ∙ t) refl
 
-  module _ (t : r ≡ false) (numbers : List ℕ) (f : Finishable s os store) (k : Keeps (live (store_of store) os) (length (store_of store)) numbers) where
+  module _ (t : r ≡ false) (numbers : NewNumbers) (f : Finishable s os store) (k : Numbered (live (store_of store) os) numbers (length (store_of store))) where
     abbrev whole : Net
     whole = record { p = s.p; m = s.m; norm = s.norm }
 
-    numbered : Numbered (kept os store) numbers (length (store_of store))
-    unfolding Numbered
-    numbered = k.at
-
     written_is : network_of whole os store numbers ≡ pruned s (record { nodes = store_of store; outputs = os })
     unfolding pruned
-    written_is = kept_network whole os store numbers (kept os store) numbered (kept_closed os store) (outputs_kept os store f.wires)
+    written_is = kept_network whole os store numbers (kept os store) k (kept_closed os store) (outputs_kept os store f.wires)
 
     is_good : concluded s os store ≡ Good (network_of whole os store numbers)
     unfolding concluded checked pruned largest_norm
     is_good = rw (sym e ∙ t) (ap Good (sym written_is))
 
-    pub answer_is : (o : Outcome) (out : List ℕ) → o ≡ answer_with out (Good (network_of whole os store numbers)) → o ≡ answer_with out (concluded s os store)
+    pub answer_is : (o : Outcome) (out : List ℕ) → o ≡ answer_text out (Good (network_text (network_of whole os store numbers))) → o ≡ answer_with out (concluded s os store)
+    unfolding answer_with answer_text
     answer_is o out q = q ∙ ap (answer_with out) (sym is_good)
 
-    pub answer_asks : Sourced numbers store × (AllLive numbers os × Room 0 (network_text (network_of whole os store numbers)))
-    answer_asks = (
-      kept_sourced (kept os store) numbers store numbered (kept_closed os store) k.long,
-      (all_live (kept os store) numbers (length (store_of store)) numbered k.long (store_few store) os (outputs_kept os store f.wires), record { fits = omega (arith, f.short (network_of whole os store numbers) is_good) }),
-    )
+    pub has_room : Room 0 (network_text (network_of whole os store numbers))
+    has_room = record { fits = omega (arith, f.short (network_of whole os store numbers) is_good) }
+
+-- what a text asks
+module _ (s : Settings) (os : List Output) (store : Store) (numbers : NewNumbers) (f : Finishable s os store) (k : Numbered (live (store_of store) os) numbers (length (store_of store))) where
+  pub text_sourced : Sourced numbers store
+  text_sourced = kept_sourced (kept os store) numbers store k (kept_closed os store)
+
+  pub text_live : AllLive numbers os
+  text_live = all_live (kept os store) numbers (length (store_of store)) k (store_few store) os (outputs_kept os store f.wires)
 
 pub ruleset concludes = (kept_closed, over_refused, answer_is)

@@ -1,21 +1,16 @@
 -- The outputs' nodes as marks, and what is kept.
-use Rattle.std.specs.Prelude.{◌≡◌, refl, List, [], ◌∷◌, ◌++◌, map, ℕ, suc, zero, ◌+◌, ◌≤◌, ◌<◌, length, get_or, take}
-use Rattle.std.proofs.Common.{ap, subst, ◌∙◌, append_assoc, append-nil, not-suc-le-zero, add-one, arith, eq-eqb}
+use Rattle.std.specs.Prelude.{◌≡◌, Bool, false, List, [], ◌∷◌, ◌++◌, map, ℕ, suc, zero, ◌+◌, ◌≤◌, ◌<◌, length, get_or, take, Option}
+use Rattle.std.proofs.Common.{ap, subst, ◌∙◌, append_assoc, append-nil, not-suc-le-zero, add-one, arith}
 use Rattle.std.proofs.lemmas.List.{length-map, get_or-map, take_all}
-use Rattle.laws.specs.Test.{if◌then◌otherwise◌}
 use Rattle.forms.specs.declared.Output as O
 use Rattle.forms.specs.Forms.{output_of}
 use Rattle.rules.specs.Circuit.{Output}
 use Rattle.rules.specs.Network.{LutNode, member}
-use Rattle.rules.specs.Store.{wire_needs, output_needs, wanted_below, renumbered, live}
+use Rattle.rules.specs.Store.{wire_needs, output_needs, wanted_below, live}
 use Rattle.prune.specs.Prune.{Marks, Marking, Numbers, adding, adding_none, adding_both}
+use Rattle.writer.specs.Kept.{Numbered}
 use Rattle.gates.specs.Wired.{wire_more}
 use Rattle.outputs.specs.Outputs.{AllIn}
-
--- Each node below the count that is kept has its new number + 1, and the others have 0.
-pub record Keeps (kept : List ℕ) (count : ℕ) (numbers : List ℕ) : Type 0 where
-  pub long : length numbers ≡ 672
-  pub at : (i : ℕ) → i < count → get_or numbers i 0 ≡ (if member i kept then renumbered kept i + 1 otherwise 0)
 
 -- ---- laws: all outputs
 
@@ -26,15 +21,15 @@ needs_next (o ∷ os) zero d h = append-nil (wire_needs o.wire)
 needs_next (o ∷ os) (suc i) d h = rw append_assoc (ap {B = List ℕ} (λ l. wire_needs o.wire ++ l) (needs_next os i d (omega arith)))
 
 -- The first i outputs are marked.
-pub record Marked (os : List O.Output) (i : ℕ) (before marks : List ℕ) : Type 0 where
+pub record Marked (os : List O.Output) (i : ℕ) (before marks : List Bool) : Type 0 where
   pub marking : Marking (adding (output_needs (take i (map output_of os)))) before marks
 
-pub marked_none : (os : List O.Output) (marks : List ℕ) → length marks ≡ 672 → Marked os 0 marks marks
+pub marked_none : (os : List O.Output) (marks : List Bool) → Marked os 0 marks marks
 unfolding output_needs
-marked_none os marks l = record { marking = adding_none marks l }
+marked_none os marks = record { marking = adding_none marks }
 
-module _ (os : List O.Output) (i : ℕ) {before marks : List ℕ} (m : Marked os i before marks) where
-  pub marked_next : (d : O.Output) {after : List ℕ} → i < length os → Marking (adding (wire_needs (get_or os i d).wire)) marks after → Marked os (i + 1) before after
+module _ (os : List O.Output) (i : ℕ) {before marks : List Bool} (m : Marked os i before marks) where
+  pub marked_next : (d : O.Output) {after : List Bool} → i < length os → Marking (adding (wire_needs (get_or os i d).wire)) marks after → Marked os (i + 1) before after
   marked_next d h w =
       let e : output_needs (take (suc i) (map output_of os)) ≡ output_needs (take i (map output_of os)) ++ wire_needs (get_or os i d).wire =
       needs_next (map output_of os) i (output_of d) (simp length-map h) ∙ ap (λ (o : Output). output_needs (take i (map output_of os)) ++ wire_needs o.wire) (get_or-map output_of os i d (output_of d) h) in
@@ -48,16 +43,15 @@ wires_more n more os h a = λ k d l. wire_more n more (get_or os k d).wire h (a 
 
 -- ---- laws: what is kept
 
-marks_nothing : (marks : List ℕ) → ((i : ℕ) → get_or marks i 0 ≡ 0) → Marks [] marks
+marks_nothing : (marks : List Bool) → ((i : ℕ) → i < 672 → get_or marks i false ≡ false) → Marks [] marks
 unfolding member
-marks_nothing marks h = record { at = λ i l. rw (eq-eqb (get_or marks i 0) 0 (h i)) refl }
+marks_nothing marks h = record { at = h }
 
-pub keeps : (nodes : List LutNode) (outputs : List Output) (before marks after : List ℕ) → ((i : ℕ) → get_or before i 0 ≡ 0)
-    → Marking (adding (output_needs outputs)) before marks → Numbers (wanted_below (length nodes) nodes) (length nodes) marks after
-    → Keeps (live nodes outputs) (length nodes) after
+pub keeps : (nodes : List LutNode) (outputs : List Output) (before marks : List Bool) (numbers : List (Option ℕ)) → ((i : ℕ) → i < 672 → get_or before i false ≡ false)
+    → Marking (adding (output_needs outputs)) before marks → Numbers (wanted_below (length nodes) nodes) (length nodes) marks numbers
+    → Numbered (live nodes outputs) numbers (length nodes)
 unfolding live adding
-keeps nodes outputs before marks after none m n =
-    record { long = n.long; at = n.at (output_needs outputs) marked }
+keeps nodes outputs before marks numbers none m n = record { at = n.at (output_needs outputs) marked }
   where
     marked : Marks (output_needs outputs) marks
     marked = subst (λ l. Marks l marks) (append-nil (output_needs outputs)) (m.marks [] (marks_nothing before none))

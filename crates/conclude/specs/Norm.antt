@@ -1,6 +1,6 @@
 -- The largest norm of the nodes that are kept, from the last to the first.
-use Rattle.std.specs.Prelude.{◌≡◌, Bool, true, false, List, ◌∷◌, ℕ, ◌+◌, ◌-◌, ◌≤◌, ◌<◌, max, eqb, length, get_or, drop}
-use Rattle.std.proofs.Common.{refl, sym, ap, ap₂, ◌∙◌, add-one, arith, drop_of_length-le, eq-eqb, ne_eqb}
+use Rattle.std.specs.Prelude.{◌≡◌, Bool, true, false, List, ◌∷◌, ℕ, ◌+◌, ◌-◌, ◌≤◌, ◌<◌, max, length, get_or, drop, Some, None, is_some}
+use Rattle.std.proofs.Common.{refl, sym, ap, ap₂, ◌∙◌, add-one, arith, drop_of_length-le}
 use Rattle.laws.specs.Test.{if◌then◌otherwise◌}
 use Rattle.rules.specs.Network.{LutNode, member, node_at, node_norm, largest}
 use Rattle.rules.specs.Store.{needs, renumbered, renumbered_node, kept_from}
@@ -11,26 +11,26 @@ use Rattle.mapped.specs.PrunedNodes.{same_norm}
 use Rattle.nodes.specs.declared.store.Store.{Store}
 use Rattle.nodes.specs.Store.{store_of, node_fine}
 use Rattle.nodes.specs.View.{fine_needs}
-use Rattle.writer.specs.Kept.{Closed}
-use Rattle.conclude.specs.Live.{Keeps}
+use Rattle.writer.specs.Kept.{Closed, Numbered}
+use Rattle.writer.specs.Live.{NewNumbers}
 
 -- The largest norm of some nodes, each among all of them.
 unfoldable pub largest_norm : List LutNode → ℕ
 largest_norm nodes = largest (node_norm nodes) nodes
 
 -- The larger one of node i's norm and the norm so far, if the node is kept.
-unfoldable pub larger_kept : List ℕ → ℕ → ℕ → ℕ → ℕ
-larger_kept live i own norm = if eqb (get_or live i 0) 0 then norm otherwise max own norm
+unfoldable pub larger_kept : NewNumbers → ℕ → ℕ → ℕ → ℕ
+larger_kept live i own norm = if is_some (get_or live i None) then max own norm otherwise norm
 
 -- ---- laws: the nodes
 
-pub larger_not : (live : List ℕ) (i own norm : ℕ) → get_or live i 0 ≡ 0 → norm ≡ larger_kept live i own norm
+pub larger_not : (live : NewNumbers) (i own norm : ℕ) → get_or live i None ≡ None → norm ≡ larger_kept live i own norm
 unfolding larger_kept
-larger_not live i own norm e = rw (eq-eqb (get_or live i 0) 0 e) refl
+larger_not live i own norm e = rw e refl
 
-pub larger_own : (live : List ℕ) (i own norm x : ℕ) → (get_or live i 0 ≡ 0 → ⊥) → x ≡ own → max x norm ≡ larger_kept live i own norm
+pub larger_own : (live : NewNumbers) (i own norm x n : ℕ) → get_or live i None ≡ Some n → x ≡ own → max x norm ≡ larger_kept live i own norm
 unfolding larger_kept
-larger_own live i own norm x e q = rw (ne_eqb (get_or live i 0) 0 e) (ap (λ k. max k norm) q)
+larger_own live i own norm x n e q = rw e (ap (λ k. max k norm) q)
 
 module _ (store : Store) (kept : List ℕ) where
   abbrev nodes : List LutNode
@@ -66,7 +66,7 @@ module _ (store : Store) (kept : List ℕ) where
       by true = unfold largest in refl
       by false = refl
 
-  pub largest_step : (live : List ℕ) (i r x : ℕ) → 0 < i → i ≤ length nodes → Closed kept store → Keeps kept (length nodes) live → r ≡ largest_from i
+  pub largest_step : (live : NewNumbers) (i r x : ℕ) → 0 < i → i ≤ length nodes → Closed kept store → Numbered kept live (length nodes) → r ≡ largest_from i
       → x ≡ larger_kept live (i - 1) (node_norm nodes (node_at nodes (i - 1))) r → x ≡ largest_from (i - 1)
   unfolding larger_kept
   largest_step live i r x p h c keeps e q =
@@ -78,12 +78,12 @@ module _ (store : Store) (kept : List ℕ) where
       own : ℕ
       own = node_norm nodes (node_at nodes (i - 1))
 
-      by : (b : Bool) → get_or live (i - 1) 0 ≡ (if b then renumbered kept (i - 1) + 1 otherwise 0)
+      by : (b : Bool) → get_or live (i - 1) None ≡ (if b then Some (renumbered kept (i - 1)) otherwise None)
           → (b ≡ true → node_norm all (renumbered_node kept (node_at nodes (i - 1))) ≡ own)
-          → (if eqb (get_or live (i - 1) 0) 0 then r otherwise max own r)
+          → (if is_some (get_or live (i - 1) None) then max own r otherwise r)
           ≡ (if b then max (node_norm all (renumbered_node kept (node_at nodes (i - 1)))) (largest_from i) otherwise largest_from i)
-      by true l n = rw (ne_eqb (get_or live (i - 1) 0) 0 (λ z. omega arith)) (ap₂ max (sym (n refl)) e)
-      by false l n = rw (eq-eqb (get_or live (i - 1) 0) 0 l) e
+      by true l n = rw l (ap₂ max (sym (n refl)) e)
+      by false l n = rw l e
 
   pub largest_all : (i r : ℕ) → i ≤ 0 → r ≡ largest_from i → r ≡ largest_norm all
   unfolding largest_from largest_norm

@@ -11,7 +11,7 @@ unfoldable pub key_of : OrderKey → List ℤ
 key_of k = pos k.span ∷ pos k.norm ∷ []
 
 unfoldable pub side_of : Side → rules.Side
-side_of s = record { cone = cone_of s.cone; new = s.new }
+side_of s = record { cone = cone_of s.cone; new = s.booted }
 
 -- with the node store beside them
 unfoldable pub sides_of : List LutNode → Sides → rules.Sides

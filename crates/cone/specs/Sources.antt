@@ -7,7 +7,7 @@ use Rattle.theorems.specs.Weights.{weights_of, weighted_norm}
 use Rattle.theorems.proofs.Weights.{norm2_weighted}
 use Rattle.scale.specs.Norm.{norm-first}
 use Rattle.cone.specs.declared.Cone.{Cone}
-use Rattle.cone.specs.View.{cone_of, IsCone}
+use Rattle.cone.specs.View.{cone_of}
 
 -- Each of these is one of the first `count` nodes.
 abbrev pub AllBelow : ℕ → List ℕ → Type 0
@@ -17,8 +17,8 @@ AllBelow count is = (i : ℕ) → i < length is → get_or is i 0 < count
 pub record Below (count : ℕ) (c : rules.Cone) : Type 0 where
   pub at : AllBelow count c.support
 
+-- Every source of the code's cone is. It stands in clauses: it is a relation to a store, whose count of nodes a cone's ghost fields can't name.
 pub record Stands (count : ℕ) (c : Cone) : Type 0 where
-  pub cone : IsCone c
   pub below : Below count (cone_of c)
 
 -- ---- laws
@@ -26,13 +26,13 @@ pub record Stands (count : ℕ) (c : Cone) : Type 0 where
 pub below_same : (count : ℕ) (c d : rules.Cone) → c.support ≡ d.support → Below count d → Below count c
 below_same count c d e b = record { at = subst (AllBelow count) (sym e) b.at }
 
-pub constant_stands : (count : ℕ) (c : Cone) (bit : ℕ) → IsCone c → cone_of c ≡ rules.constant bit → Stands count c
+pub constant_stands : (count : ℕ) (c : Cone) (bit : ℕ) → cone_of c ≡ rules.constant bit → Stands count c
 unfolding rules.constant
-constant_stands count c bit is e = record { cone = is; below = subst (Below count) (sym e) (record { at = λ i h. absurd (not-suc-le-zero h) }) }
+constant_stands count c bit e = record { below = subst (Below count) (sym e) (record { at = λ i h. absurd (not-suc-le-zero h) }) }
 
-pub identity_stands : (count node : ℕ) (c : Cone) → node < count → IsCone c → cone_of c ≡ rules.identity node → Stands count c
+pub identity_stands : (count node : ℕ) (c : Cone) → node < count → cone_of c ≡ rules.identity node → Stands count c
 unfolding rules.identity
-identity_stands count node c h is e = record { cone = is; below = subst (Below count) (sym e) (record { at = at }) }
+identity_stands count node c h e = record { below = subst (Below count) (sym e) (record { at = at }) }
   where
     at : (i : ℕ) → i < 1 → get_or (node ∷ []) i 0 < count
     at zero l = h

@@ -4,7 +4,7 @@ ghost use Rattle.rules.specs.Network.{LutNode};
 ghost use Rattle.rules.specs.Cone.{less, cone_order_key};
 ghost use Rattle.rules.specs.Mapper.{switch_inputs};
 ghost use Rattle.nodes.specs.Store.{store_of};
-ghost use Rattle.cone.specs.View.{cone_of, IsCone};
+ghost use Rattle.cone.specs.View.{cone_of};
 ghost use Rattle.cone.specs.Sources.{Below};
 ghost use Rattle.cone.specs.Order.{key_of, sides_of};
 
@@ -20,7 +20,7 @@ pub struct OrderKey {
 
 #[tactic(auto, unfolding(crate::specs::Order::key_of, rules::specs::Cone::cone_order_key))]
 pub fn cone_order_key(store: &Store, cone: Cone) -> OrderKey
-    requires { IsCone cone × Below (length (store_of store.now)) (cone_of cone) }
+    requires { Below (length (store_of store.now)) (cone_of cone) }
     ensures { key_of result ≡ cone_order_key (store_of store.now) (cone_of cone) }
 {
     OrderKey {
@@ -40,7 +40,7 @@ pub fn is_less(a: OrderKey, b: OrderKey) -> bool
 #[derive(Clone, Copy)]
 pub struct Side {
     pub cone: Cone,
-    pub new: bool,
+    pub booted: bool,
 }
 
 // Both sides, the gate's answers for them, and whether they have changed places.
@@ -54,14 +54,14 @@ pub struct Sides {
 
 // switch_inputs: the gate's answers 1 and 2 are exchanged too.
 #[tactic(auto, unfolding(crate::specs::Order::sides_of, rules::specs::Mapper::switch_inputs))]
-pub fn switch_inputs(s: Sides) -> Sides
-    ensures is { (nodes : List LutNode) → sides_of nodes result ≡ switch_inputs (sides_of nodes s) }
-    ensures places { (result.left ≡ s.right) × (result.right ≡ s.left) }
+pub fn switch_inputs(sides: Sides) -> Sides
+    ensures is { (nodes : List LutNode) → sides_of nodes result ≡ switch_inputs (sides_of nodes sides) }
+    ensures places { (result.left ≡ sides.right) × (result.right ≡ sides.left) }
 {
     Sides {
-        left: s.right,
-        right: s.left,
-        gate: [s.gate[0], s.gate[2], s.gate[1], s.gate[3]],
-        switched: !s.switched,
+        left: sides.right,
+        right: sides.left,
+        gate: [sides.gate[0], sides.gate[2], sides.gate[1], sides.gate[3]],
+        switched: !sides.switched,
     }
 }

@@ -1,5 +1,6 @@
 -- Both ways: what is written is the definition's text, and it is short.
-use Rattle.std.specs.Prelude.{◌≡◌, refl, true, false, ℕ, zero, suc, ◌+◌, ◌<◌, ◌≤◌, eqb, All, None}
+use Rattle.std.specs.Prelude as P
+use Rattle.std.specs.Prelude.{◌≡◌, refl, true, false, ℕ, zero, suc, ◌<◌, ◌≤◌, eqb, All, Some, None}
 use Rattle.std.proofs.Math.Path.{sym, ap, ap₂, subst}
 use Rattle.std.proofs.Common.{◌∙◌, not-suc-le-zero, le_of_suc-le-suc}
 use mathlib.Core.List.{List, [], ◌∷◌, ◌++◌, map, append_assoc}
@@ -24,16 +25,17 @@ use Rattle.theorems.specs.Bits.{all-bits_of}
 use Rattle.theorems.specs.BuilderExact.{limits_period, limits_most}
 use Rattle.theorems.specs.Centres.{centre_most}
 use Rattle.theorems.specs.LineBits.{WireBit}
+use Rattle.theorems.specs.SoundCircuits.{SmallLimit}
 use Rattle.forms.specs.declared.Net as F
 use Rattle.forms.specs.declared.Output as O
 use Rattle.forms.specs.Forms.{output_of}
 use Rattle.nodes.specs.declared.store.Store.{Store}
-use Rattle.nodes.specs.Store.{store_of, store_few, node_fine}
+use Rattle.nodes.specs.Store.{store_of, store_few, node_fine, store_ordered}
 use Rattle.nodes.specs.View.{Fine}
 use Rattle.lines.specs.Lines.{net_text}
 use Rattle.lines.specs.Lines2.{net2_text}
 use Rattle.lines.specs.Put.{Room}
-use Rattle.writer.specs.Live.{new_node, live_nodes}
+use Rattle.writer.specs.Live.{NewNumbers, new_node, live_nodes, Sourced}
 use Rattle.writer.specs.Outputs.{new_wire, new_output, live_outputs}
 use Rattle.writer.specs.Whole as written
 use Rattle.regroup.specs.Numbers.{Numbers}
@@ -41,14 +43,15 @@ use Rattle.regroup.specs.Order.{Below, all-ordered, ordered-below, is_ordered}
 use Rattle.writer2.specs.Node2.{Turns, Ordered, ordered}
 use Rattle.writer2.specs.Stream.{stream, lines-stream}
 use Rattle.writer2.specs.Whole2.{text2}
-use Rattle.network.specs.declared.Network.{Network}
-use Rattle.network.specs.View.{network_of, GoodOutput, Holds}
-use Rattle.convert.specs.Length.{LimitFits, Small, small-new, Centred, Fit, each_node, each_map, nodes-length, stream-length, SmallWire, SmallOutput, outputs-length, net-length, net2_length}
-use Rattle.convert.specs.Moved.{Renames, new-number, near_node, moved_node_lem, moved_outputs, stays, stay_nodes, stay_same, stay_outputs}
+use Rattle.network_judge.specs.declared.network.Network.{Network}
+use Rattle.network_judge.specs.Holds.{GoodOutput, Holds}
+use Rattle.network.specs.View.{network_of}
+use Rattle.convert.specs.Length.{Small, small-new, Centred, Fit, each_node, each_map, nodes-length, stream-length, SmallWire, SmallOutput, outputs-length, net-length, net2_length}
+use Rattle.convert.specs.Moved.{Renames, new-number, has-number, near_node, moved_node_lem, moved_outputs, stays, stay_nodes, stay_same, stay_outputs}
 
 -- ---- How long the outputs are.
 
-module _ {live : List ℕ} {to : ℕ → ℕ} {net : F.Net} {store : Store} {inputs : ℕ} {outs : List O.Output} (r : Renames live to (length (store_of store))) (o : Holds net store inputs outs) where
+module _ {live : NewNumbers} {to : ℕ → ℕ} {net : P.Option F.Net} {store : Store} {inputs : ℕ} {outs : List O.Output} (r : Renames live to (length (store_of store))) (o : Holds net store inputs outs) where
   small_wire : (w : Wire) → no_node (length (store_of store)) w ≡ false → WireBit w → SmallWire (new_wire live w)
   unfolding SmallWire WireBit
   small_wire (Const b) s k = omega arith
@@ -79,13 +82,13 @@ module _ {live : List ℕ} {to : ℕ → ℕ} {net : F.Net} {store : Store} {inp
 
 -- ---- Back to the plain text: the numbers stay.
 
-module _ {live : List ℕ} (w : Network) (r : Renames live stays (length (store_of w.store))) (d : Holds w.net w.store w.inputs w.outputs.items) where
-  pub plain_same : written.network_of w.net (map output_of w.outputs.items) w.store live ≡ network_of w
+module _ {live : NewNumbers} (net : F.Net) (w : Network) (r : Renames live stays (length (store_of w.store))) (d : w.net ≡ P.Some net) where
+  pub plain_same : {os : List O.Output} → os ≡ w.outputs.items → written.network_of net (map output_of os) w.store live ≡ network_of net w
   unfolding written.network_of
-  plain_same =
-      ap₂ {C = R.Network} (λ (ns : List LutNode) (os : List Output). record { p = w.net.p; m = w.net.m; norm = w.net.norm; nodes = ns; outputs = os })
+  plain_same e = rw e (
+      ap₂ {C = R.Network} (λ (ns : List LutNode) (os : List Output). record { p = net.p; m = net.m; norm = net.norm; nodes = ns; outputs = os })
       (stay_nodes live w.store r)
-      (moved_outputs r w.outputs.items d.outputs ∙ stay_outputs (map output_of w.outputs.items))
+      (moved_outputs r w.outputs.items w.holds.outputs ∙ stay_outputs (map output_of w.outputs.items)))
 
   plain-nodes : length (nodes_text (live_nodes live w.store)) ≤ 134400
   plain-nodes =
@@ -94,21 +97,21 @@ module _ {live : List ℕ} (w : Network) (r : Renames live stays (length (store_
       (omega (
         arith,
         nodes-length (store_of w.store)
-            (each_node Small (store_of w.store) (λ i l. subst Small (stay_same live w.store r i l) (small-node r d i l))),
+            (each_node Small (store_of w.store) (λ i l. subst Small (stay_same live w.store r i l) (small-node r w.holds i l))),
       ))
 
-  pub plain-room : LimitFits w.net.norm → Room 0 (network_text (written.network_of w.net (map output_of w.outputs.items) w.store live))
-  plain-room f =
+  pub plain-room : {os : List O.Output} → os ≡ w.outputs.items → SmallLimit net.norm → Room 0 (network_text (written.network_of net (map output_of os) w.store live))
+  plain-room e f = rw e
       record {
         fits =
             omega (
               arith,
-              ap length (written.whole_text w.net (map output_of w.outputs.items) w.store live),
-              length-append (net_text w.net.p w.net.m w.net.norm ++ nodes_text (live_nodes live w.store)) (outputs_text (live_outputs live (map output_of w.outputs.items))),
-              length-append (net_text w.net.p w.net.m w.net.norm) (nodes_text (live_nodes live w.store)),
-              net-length w.net.p w.net.m w.net.norm (limits_period w.net.p w.net.m d.limits) (limits_most w.net.p w.net.m d.limits) f,
+              ap length (written.whole_text net (map output_of w.outputs.items) w.store live),
+              length-append (net_text net.p net.m net.norm ++ nodes_text (live_nodes live w.store)) (outputs_text (live_outputs live (map output_of w.outputs.items))),
+              length-append (net_text net.p net.m net.norm) (nodes_text (live_nodes live w.store)),
+              net-length net.p net.m net.norm (limits_period net.p net.m (w.holds.limits net d)) (limits_most net.p net.m (w.holds.limits net d)) f,
               plain-nodes,
-              outs-length r d,
+              outs-length r w.holds,
             );
       }
 
@@ -148,7 +151,7 @@ whole-lines n ns os =
     (lines-append (node_lines n.p ns) (map (λ (o : Output). Plain (OutLine o)) os) ∙ ap₂ {C = List ℕ} (λ a b. a ++ b) (lines-stream n.p ns) (out_lines os))
     ∙ sym (append_assoc (net2_text n.p n.m n.norm) (stream n.p None ns) (outputs_text os))
 
-centred_new : (P i : ℕ) (live : List ℕ) (n : LutNode) → Fine i n → Turns P n → Centred P (new_node live n)
+centred_new : (P i : ℕ) (live : NewNumbers) (n : LutNode) → Fine i n → Turns P n → Centred P (new_node live n)
 unfolding Fine Turns new_node Centred
 centred_new P i live (Input g) f t = tt
 centred_new P i live (Linear c ts) f t = tt
@@ -165,7 +168,7 @@ order_fits store o e =
     let b = ordered-below (store_of store) in
     rw e (omega (arith, all-ordered (store_of store)), record { at = λ i h. let q = b.at i h in omega arith })
 
-module _ {live o : List ℕ} (w : Network) (e : o ≡ order (store_of w.store)) (n : Numbers o live) (d : Holds w.net w.store w.inputs w.outputs.items) (t : AllTurn w.net.p (store_of w.store)) where
+module _ {live : NewNumbers} {o : List ℕ} (net : F.Net) (w : Network) (e : o ≡ order (store_of w.store)) (n : Numbers o live) (d : w.net ≡ P.Some net) (t : AllTurn net.p (store_of w.store)) where
   abbrev to : ℕ → ℕ
   to = place_in (order (store_of w.store))
 
@@ -178,8 +181,7 @@ module _ {live o : List ℕ} (w : Network) (e : o ≡ order (store_of w.store)) 
   pub renames : Renames live to (length (store_of w.store))
   renames =
       record {
-        long = n.long;
-        at = λ j l. subst (λ (x : List ℕ). get_or live j 0 ≡ place_in x j + 1) e (n.at j (subst (λ (x : List ℕ). member j x ≡ true) (sym e) (is_ordered (store_of w.store) j l)));
+        at = λ j l. subst (λ (x : List ℕ). get_or live j None ≡ Some (place_in x j)) e (n.at j (subst (λ (x : List ℕ). member j x ≡ true) (sym e) (is_ordered (store_of w.store) j l)));
         near = λ j l. let m = store_few w.store in omega (arith, places j);
       }
 
@@ -187,8 +189,13 @@ module _ {live o : List ℕ} (w : Network) (e : o ≡ order (store_of w.store)) 
   within : (k : ℕ) → k < length o → get_or o k 0 < length (store_of w.store)
   within k l = (subst (λ (x : List ℕ). Below (length (store_of w.store)) x) (sym e) (ordered-below (store_of w.store))).at k l
 
-  pub second-ordered : Ordered w.net.p live w.store o
-  second-ordered = record { below = within; long = n.long; numbered = λ j l. let q = renames.at j l in omega arith; turns = t }
+  pub second-ordered : Ordered net.p live w.store o
+  second-ordered = record { below = within; numbered = has-number renames; turns = t }
+
+  -- what a node needs has a number, as all have
+  pub second-sourced : Sourced live w.store
+  unfolding Sourced
+  second-sourced = λ i h p j m. let b = store_ordered w.store i h j m in has-number renames j (omega arith)
 
   second-nodes : ordered live (store_of w.store) o ≡ map (λ i. moved_node to (node_at (store_of w.store) i)) (order (store_of w.store))
   unfolding ordered
@@ -199,13 +206,13 @@ module _ {live o : List ℕ} (w : Network) (e : o ≡ order (store_of w.store)) 
       moved : (i : ℕ) → i < length (store_of w.store) → new_node live (node_at (store_of w.store) i) ≡ moved_node to (node_at (store_of w.store) i)
       moved i l = moved_node_lem renames i (omega arith) (node_at (store_of w.store) i) (node_fine w.store i l)
 
-  pub second_same : text2 w.net (map output_of w.outputs.items) w.store live o ≡ network_text2 (regrouped (network_of w))
+  pub second_same : {os : List O.Output} → os ≡ w.outputs.items → text2 net (map output_of os) w.store live o ≡ network_text2 (regrouped (network_of net w))
   unfolding text2 network_text2 lines_of regrouped reordered
-  second_same =
-      ap₂ {C = List ℕ} (λ (ns : List LutNode) (os : List Output). net2_text w.net.p w.net.m w.net.norm ++ stream w.net.p None ns ++ outputs_text os) second-nodes (moved_outputs renames w.outputs.items d.outputs)
-      ∙ sym (whole-lines (record { p = w.net.p; m = w.net.m; norm = w.net.norm }) (map (λ i. moved_node to (node_at (store_of w.store) i)) (order (store_of w.store))) (map (moved_output to) (map output_of w.outputs.items)))
+  second_same q = rw q (
+      ap₂ {C = List ℕ} (λ (ns : List LutNode) (os : List Output). net2_text net.p net.m net.norm ++ stream net.p None ns ++ outputs_text os) second-nodes (moved_outputs renames w.outputs.items w.holds.outputs)
+      ∙ sym (whole-lines (record { p = net.p; m = net.m; norm = net.norm }) (map (λ i. moved_node to (node_at (store_of w.store) i)) (order (store_of w.store))) (map (moved_output to) (map output_of w.outputs.items))))
 
-  second-stream : length (stream w.net.p None (ordered live (store_of w.store) o)) ≤ 135746
+  second-stream : length (stream net.p None (ordered live (store_of w.store) o)) ≤ 135746
   unfolding ordered
   second-stream =
       let m = store_few w.store in
@@ -213,25 +220,25 @@ module _ {live o : List ℕ} (w : Network) (e : o ≡ order (store_of w.store)) 
         arith,
         all-placed,
         length-map o (λ i. new_node live (node_at (store_of w.store) i)),
-        stream-length w.net.p None (map (λ i. new_node live (node_at (store_of w.store) i)) o)
-            (each_map (Fit w.net.p) (λ i. new_node live (node_at (store_of w.store) i)) o (λ k l. fit (get_or o k 0) (within k l))),
+        stream-length net.p None (map (λ i. new_node live (node_at (store_of w.store) i)) o)
+            (each_map (Fit net.p) (λ i. new_node live (node_at (store_of w.store) i)) o (λ k l. fit (get_or o k 0) (within k l))),
       )
     where
-      fit : (i : ℕ) → i < length (store_of w.store) → Fit w.net.p (new_node live (node_at (store_of w.store) i))
-      fit i l = record { small = small-node renames d i l; centred = centred_new w.net.p i live (node_at (store_of w.store) i) (node_fine w.store i l) (t i l) }
+      fit : (i : ℕ) → i < length (store_of w.store) → Fit net.p (new_node live (node_at (store_of w.store) i))
+      fit i l = record { small = small-node renames w.holds i l; centred = centred_new net.p i live (node_at (store_of w.store) i) (node_fine w.store i l) (t i l) }
 
-  pub second-room : LimitFits w.net.norm → Room 0 (text2 w.net (map output_of w.outputs.items) w.store live o)
+  pub second-room : {os : List O.Output} → os ≡ w.outputs.items → SmallLimit net.norm → Room 0 (text2 net (map output_of os) w.store live o)
   unfolding text2
-  second-room f =
+  second-room q f = rw q
       record {
         fits =
             omega (
               arith,
-              length-append (net2_text w.net.p w.net.m w.net.norm ++ stream w.net.p None (ordered live (store_of w.store) o)) (outputs_text (live_outputs live (map output_of w.outputs.items))),
-              length-append (net2_text w.net.p w.net.m w.net.norm) (stream w.net.p None (ordered live (store_of w.store) o)),
-              net2_length w.net.p w.net.m w.net.norm (limits_period w.net.p w.net.m d.limits) (limits_most w.net.p w.net.m d.limits) f,
+              length-append (net2_text net.p net.m net.norm ++ stream net.p None (ordered live (store_of w.store) o)) (outputs_text (live_outputs live (map output_of w.outputs.items))),
+              length-append (net2_text net.p net.m net.norm) (stream net.p None (ordered live (store_of w.store) o)),
+              net2_length net.p net.m net.norm (limits_period net.p net.m (w.holds.limits net d)) (limits_most net.p net.m (w.holds.limits net d)) f,
               second-stream,
-              outs-length renames d,
+              outs-length renames w.holds,
             );
       }
 
@@ -249,6 +256,6 @@ pass_turns n before [] p k l = absurd (not-suc-le-zero l)
 pass_turns n before (x ∷ xs) p zero l = turn_one n before x p.0
 pass_turns n before (x ∷ xs) p (suc k) l = pass_turns n (before ++ (x ∷ [])) xs p.1 k (le_of_suc-le-suc l)
 
-pub all-turn : (w : Network) → Admissible (network_of w) → AllTurn w.net.p (store_of w.store)
+pub all-turn : (net : F.Net) (w : Network) → Admissible (network_of net w) → AllTurn net.p (store_of w.store)
 unfolding net_of
-all-turn w a = pass_turns (record { p = w.net.p; m = w.net.m; norm = w.net.norm }) [] (store_of w.store) a.nodes
+all-turn net w a = pass_turns (record { p = net.p; m = net.m; norm = net.norm }) [] (store_of w.store) a.nodes

@@ -1,6 +1,6 @@
 -- The whole: what was read, written in the other edition.
 use Rattle.std.specs.Prelude as P
-use Rattle.std.specs.Prelude.{◌≡◌, Bool, true, false, List, ℕ}
+use Rattle.std.specs.Prelude.{◌≡◌, refl, Bool, true, false, List, ℕ}
 use Rattle.std.proofs.Common.{sym, ◌∙◌}
 use Rattle.std.proofs.Math.Path.{ap}
 use Rattle.rules.specs.Converter.{network_text2, other_edition, convert, answer_text, converter}
@@ -15,8 +15,13 @@ use Rattle.rules.specs.Refusal.{reason_number}
 use Rattle.rules.specs.Regroup.{regrouped}
 use Rattle.rules.specs.Writing.{network_text}
 use Rattle.theorems.specs.Admissible.{admitted_admissible}
+use Rattle.theorems.specs.Admissible2.{read_2, read_plain}
+use Rattle.theorems.specs.SoundCircuits.{SmallLimit}
+use Rattle.editions.specs.Said2.{said_2}
+use Rattle.editions.specs.WrittenEach.{plain_writable}
 use Rattle.nodes.specs.Store.{store_of}
-use Rattle.network.specs.declared.Network.{Network}
+use Rattle.forms.specs.declared.Net as N
+use Rattle.network_judge.specs.declared.network.Network.{Network}
 use Rattle.network.specs.View.{network_of}
 use Rattle.convert.specs.Both.{AllTurn, all-turn}
 
@@ -41,9 +46,17 @@ module _ (text : List ℕ) (w : R.Network) (e : Good w ≡ read_either text) {b 
   second_is t q = other_is (q ∙ ap (λ (c : Bool). answer_text out (Good (other_edition c w))) (sym t))
 
 -- A plain text that was read is admitted.
-pub plain-turns : (text : List ℕ) (w : Network) → Good (network_of w) ≡ read_either text → {b : Bool} → b ≡ is_edition2 text → b ≡ false → AllTurn w.net.p (store_of w.store)
+pub plain-turns : (text : List ℕ) (net : N.Net) (w : Network) → Good (network_of net w) ≡ read_either text → {b : Bool} → b ≡ is_edition2 text → b ≡ false → AllTurn net.p (store_of w.store)
 unfolding read_either
-plain-turns text w e {b} f t =
+plain-turns text net w e {b} f t =
     let z : is_edition2 text ≡ false = sym f ∙ t in
-    let q : read_admitted text ≡ Good (network_of w) = sym (rw z at e) in
-    all-turn w (admitted_admissible text (network_of w) q)
+    let q : read_admitted text ≡ Good (network_of net w) = sym (rw z at e) in
+    all-turn net w (admitted_admissible text (network_of net w) q)
+
+-- NORM of a text that was read is at most 4096.
+pub small_limit : (text : List ℕ) (net : N.Net) (w : Network) → Good (network_of net w) ≡ read_either text → SmallLimit net.norm
+small_limit text net w e = by (is_edition2 text) refl
+  where
+    by : (b : Bool) → is_edition2 text ≡ b → SmallLimit net.norm
+    by true k = (said_2 text (network_of net w) (sym (read_2 text k) ∙ sym e)).writable.limit
+    by false k = (plain_writable text (network_of net w) (sym (read_plain text k) ∙ sym e)).limit

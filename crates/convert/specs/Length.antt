@@ -1,6 +1,6 @@
 -- How long a network's text can be: numbers below 1000, at most 200 bytes a node, 50 an output.
 use mathlib.Core.List.{List, [], ◌∷◌, ◌++◌, map}
-use Rattle.std.specs.Prelude.{ℕ, suc, ◌+◌, ◌*◌, ◌<◌, ◌≤◌, ◌^◌, ℤ, pos, negsuc, nat_abs, length, get_or, Option, Some, None}
+use Rattle.std.specs.Prelude.{ℕ, suc, ◌+◌, ◌*◌, ◌<◌, ◌≤◌, ℤ, pos, negsuc, nat_abs, length, get_or, Option, Some, None}
 use native.Mathlib.Omega.{arith}
 use Rattle.std.proofs.Math.ListN.{length-append}
 use Rattle.std.proofs.lemmas.List.{length-map}
@@ -17,16 +17,13 @@ use Rattle.rules.specs.Rotation.{centre_of}
 use Rattle.rules.specs.Writing.{digits, signed_text, bits_text, limit_text, wire_text, weight_text, terms_text, node_text, nodes_text, output_text, outputs_text}
 use Rattle.theorems.specs.Decimals.{two_digits, three_digits, digits_within_lem}
 use Rattle.theorems.specs.Pieces.{bits-length, weight_short}
+use Rattle.theorems.specs.SoundCircuits.{SmallLimit}
 use Rattle.theorems.specs.Weights.{GoodWeight}
 use Rattle.nodes.specs.View.{Fine, FineTerms}
 use Rattle.lines.specs.Lines.{net_text}
 use Rattle.lines.specs.Lines2.{net2_text, many_text, table_text}
-use Rattle.writer.specs.Live.{new_number, new_term, new_node}
+use Rattle.writer.specs.Live.{NewNumbers, new_number, new_term, new_node}
 use Rattle.writer2.specs.Stream.{closing, open_on, opening, piece, open_behind, stream}
-
-abbrev pub LimitFits : Limit → Type 0
-LimitFits Unlimited = Unit {0}
-LimitFits (AtMost k) = k < 2 ^ 64
 
 unfoldable pub SmallTerms : List Term → Type 0
 SmallTerms [] = Unit {0}
@@ -37,7 +34,7 @@ Small (Input g) = (length g.name ≤ 16) × GoodWeight g.weight
 Small (Linear c ts) = (length ts ≤ 11) × (nat_abs c ≤ 31) × SmallTerms ts
 Small (Bootstrap j table) = (j < 1000) × (length table ≤ 32)
 
-module _ (live : List ℕ) (i : ℕ) (near : (j : ℕ) → j < i → new_number live j < 1000) where
+module _ (live : NewNumbers) (i : ℕ) (near : (j : ℕ) → j < i → new_number live j < 1000) where
   new-terms : (ts : List Term) → FineTerms i ts → SmallTerms (map (new_term live) ts)
   unfolding FineTerms SmallTerms new_term
   new-terms [] f = tt
@@ -56,8 +53,8 @@ unfolding signed_text
 signed_length (pos n) h = omega (arith, two_digits n (omega arith))
 signed_length (negsuc n) h = omega (arith, two_digits (suc n) (omega arith))
 
-limit_length : (l : Limit) → LimitFits l → length (limit_text l) ≤ 20
-unfolding limit_text
+limit_length : (l : Limit) → SmallLimit l → length (limit_text l) ≤ 20
+unfolding limit_text SmallLimit
 limit_length Unlimited h = omega arith
 limit_length (AtMost k) h = digits_within_lem 19 k (omega arith)
 
@@ -194,7 +191,7 @@ outputs-length (o ∷ os) s = omega (arith, length-append (output_text o) (outpu
 
 -- ---- The first line.
 
-module _ (p m : ℕ) (l : Limit) (a : p ≤ 16) (b : m ≤ 32) (f : LimitFits l) where
+module _ (p m : ℕ) (l : Limit) (a : p ≤ 16) (b : m ≤ 32) (f : SmallLimit l) where
   pub net-length : length (net_text p m l) ≤ 60
   unfolding net_text
   net-length =

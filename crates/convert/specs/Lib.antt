@@ -1,5 +1,4 @@
--- The converter in code's terms: new numbers, how long a text is, the text in the buffer.
-pub mod Buffer
+-- The converter in code's terms: new numbers, how long a text is.
 pub mod Moved
 pub mod Length
 pub mod Both

@@ -1,7 +1,7 @@
 -- The writers' numbers are a renumbering.
-use Rattle.std.specs.Prelude.{◌≡◌, false, ℕ, zero, suc, ◌+◌, ◌<◌, ◌≤◌, length, All}
+use Rattle.std.specs.Prelude.{◌≡◌, false, ℕ, zero, suc, ◌+◌, ◌<◌, ◌≤◌, length, All, Some, None}
 use Rattle.std.proofs.Math.Path.{refl, ap, ap₂}
-use Rattle.std.proofs.Common.{subst, ◌∙◌, add-zero, zero-add, ne_eqb}
+use Rattle.std.proofs.Common.{subst, ◌∙◌, add-zero, zero-add}
 use Rattle.std.proofs.lemmas.Bool.{leb-false}
 use mathlib.Core.List.{List, [], ◌∷◌, map}
 use native.Mathlib.Omega.{arith}
@@ -17,25 +17,26 @@ use Rattle.forms.specs.Forms.{output_of}
 use Rattle.nodes.specs.declared.store.Store.{Store}
 use Rattle.nodes.specs.Store.{store_of, node_fine, store_ordered}
 use Rattle.nodes.specs.View.{Fine, FineTerms}
-use Rattle.writer.specs.Live.{new_number, new_term, new_node, live_from, live_nodes, Sourced}
+use Rattle.writer.specs.Live.{NewNumbers, HasNumber, new_number, new_term, new_node, live_from, live_nodes, Sourced}
 use Rattle.writer.specs.Outputs.{new_wire, live_outputs, IsLive, AllLive}
-use Rattle.network.specs.View.{GoodOutput}
+use Rattle.network_judge.specs.Holds.{GoodOutput}
 
--- `live` has each node's new number and one more.
-pub record Renames (live : List ℕ) (to : ℕ → ℕ) (count : ℕ) : Type 0 where
-  pub long : length live ≡ 672
-  pub at : (j : ℕ) → j < count → get_or live j 0 ≡ to j + 1
+-- `live` has each node's new number.
+pub record Renames (live : NewNumbers) (to : ℕ → ℕ) (count : ℕ) : Type 0 where
+  pub at : (j : ℕ) → j < count → get_or live j None ≡ Some (to j)
   pub near : (j : ℕ) → j < count → to j ≤ 672
 
--- the first n are their numbers and one more
-pub record Counted (n : ℕ) (live : List ℕ) : Type 0 where
-  pub long : length live ≡ 672
-  pub at : (j : ℕ) → j < n → get_or live j 0 ≡ j + 1
+-- each has its own number
+pub record Counted (live : NewNumbers) : Type 0 where
+  pub at : (j : ℕ) → j < 672 → get_or live j None ≡ Some j
 
-module _ {live : List ℕ} {to : ℕ → ℕ} {count : ℕ} (r : Renames live to count) where
+module _ {live : NewNumbers} {to : ℕ → ℕ} {count : ℕ} (r : Renames live to count) where
   pub new-number : (j : ℕ) → j < count → new_number live j ≡ to j
   unfolding new_number
-  new-number j h = let e = r.at j h in omega arith
+  new-number j h = rw (r.at j h) refl
+
+  pub has-number : (j : ℕ) → j < count → HasNumber live j
+  has-number j h = rw (r.at j h) refl
 
   moved_terms : (i : ℕ) → i ≤ count → (ts : List Term) → FineTerms i ts → map (new_term live) ts ≡ map (moved_term to) ts
   unfolding FineTerms new_term moved_term
@@ -62,11 +63,12 @@ module _ {live : List ℕ} {to : ℕ → ℕ} {count : ℕ} (r : Renames live to
 
   live_wire : count ≤ 672 → (w : Wire) → no_node count w ≡ false → IsLive live w
   live_wire m (Const b) s = tt
-  live_wire m (Node i) s = let l = near_node i s in let e = r.at i l in (r.long, omega arith, omega arith)
+  live_wire m (Node i) s = let l = near_node i s in (omega arith, has-number i l)
 
   -- ---- The outputs.
 
   pub outputs-live : count ≤ 672 → (os : List O.Output) → All (GoodOutput count) os → AllLive live (map output_of os)
+  unfolding AllLive
   outputs-live m [] a k d h = absurd (omega arith)
   outputs-live m (o ∷ os) a zero d h = live_wire m o.wire (a 0 o (omega arith)).known
   outputs-live m (o ∷ os) a (suc k) d h = outputs-live m os (λ j e l. a (suc j) e (omega arith)) k d (omega arith)
@@ -107,33 +109,27 @@ pub stay_outputs : (os : List Output) → map (moved_output stays) os ≡ os
 stay_outputs [] = refl
 stay_outputs (o ∷ os) = ap₂ {C = List Output} (λ x l. x ∷ l) (stay_output o) (stay_outputs os)
 
-all_live : (live : List ℕ) (i : ℕ) (xs : List LutNode) → ((k : ℕ) → k < length xs → 0 < get_or live (i + k) 0) → ((k : ℕ) → k < length xs → new_node live (node_at xs k) ≡ node_at xs k)
+all_live : (live : NewNumbers) (i : ℕ) (xs : List LutNode) → ((k : ℕ) → k < length xs → HasNumber live (i + k)) → ((k : ℕ) → k < length xs → new_node live (node_at xs k) ≡ node_at xs k)
     → live_from live i xs ≡ xs
 unfolding live_from node_at
 all_live live i [] p q = refl
 all_live live i (x ∷ xs) p q =
-    let z : (get_or live i 0 ≡ 0 → ⊥) = λ e. let b : 0 < get_or live i 0 = rw add-zero at (p 0 (omega arith)) in omega arith in
-    rw (ne_eqb (get_or live i 0) 0 z)
+    let z : HasNumber live i = rw add-zero at (p 0 (omega arith)) in
+    rw z
     (ap₂ {C = List LutNode} (λ y l. y ∷ l) (q 0 (omega arith))
-    (all_live live (i + 1) xs (λ k l. let e : i + suc k ≡ i + 1 + k = omega arith in subst (λ v. 0 < get_or live v 0) e (p (suc k) (omega arith))) (λ k l. q (suc k) (omega arith))))
+    (all_live live (i + 1) xs (λ k l. let e : i + suc k ≡ i + 1 + k = omega arith in subst (HasNumber live) e (p (suc k) (omega arith))) (λ k l. q (suc k) (omega arith))))
 
-pub counted_stays : {live : List ℕ} {count : ℕ} → count ≤ 672 → Counted 672 live → Renames live stays count
-counted_stays h c = record { long = c.long; at = λ j l. c.at j (omega arith); near = λ j l. omega arith }
+pub counted_stays : {live : NewNumbers} {count : ℕ} → count ≤ 672 → Counted live → Renames live stays count
+counted_stays h c = record { at = λ j l. c.at j (omega arith); near = λ j l. omega arith }
 
-module _ (live : List ℕ) (store : Store) (r : Renames live stays (length (store_of store))) where
+module _ (live : NewNumbers) (store : Store) (r : Renames live stays (length (store_of store))) where
   pub stay_same : (i : ℕ) → i < length (store_of store) → new_node live (node_at (store_of store) i) ≡ node_at (store_of store) i
   stay_same i h = moved_node_lem r i (omega arith) (node_at (store_of store) i) (node_fine store i h) ∙ stay_node (node_at (store_of store) i)
 
   pub stay_nodes : live_nodes live store ≡ store_of store
   unfolding live_nodes
-  stay_nodes = all_live live 0 (store_of store) (λ k h. let e = r.at k h in rw zero-add (omega arith)) stay_same
+  stay_nodes = all_live live 0 (store_of store) (λ k h. rw zero-add (has-number r k h)) stay_same
 
   pub stay_sourced : Sourced live store
-  stay_sourced =
-      record {
-        long = r.long;
-        needed = λ i h p j m.
-            let b = store_ordered store i h j m in
-            let e = r.at j (omega arith) in
-            omega arith;
-      }
+  unfolding Sourced
+  stay_sourced = λ i h p j m. let b = store_ordered store i h j m in has-number r j (omega arith)

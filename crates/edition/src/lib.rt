@@ -2,30 +2,31 @@
 // reader (`network`), on one line of edition 2 (`many_text`) and on the conditions of its `many` lines (`many_judge`).
 #![tactic(auto)]
 
-ghost use Rattle.std.specs.Prelude.{◌≡◌, true, ℕ, OnOk, length};
+ghost use Rattle.std.specs.Prelude.{◌≡◌, true, ℕ, OnOk, IfOk, Some};
 ghost use Rattle.std.proofs.Math.Option.{some};
 ghost use Rattle.rules.specs.Builder.{table_limits};
-ghost use Rattle.rules.specs.NetworkText.{NetLine};
+ghost use Rattle.rules.specs.NetworkText.{NetLine, with_network_line};
 ghost use Rattle.text.specs.Judged.{lowest};
 ghost use Rattle.network_text.specs.Lines.{net_of};
-ghost use Rattle.rules.specs.Edition2.{Plain, line2, is_edition2, read_admitted2, read_either};
+ghost use Rattle.rules.specs.Edition2.{Plain, is_edition2, read_admitted2, read_either};
 ghost use Rattle.rules.specs.Refusal.{number_met};
 ghost use Rattle.many_text.specs.Lines.{refusal2};
-ghost use Rattle.many_text.specs.Tables.{tables_in, GoodTables};
+ghost use Rattle.many_text.specs.View.{tables_left};
 ghost use Rattle.many_judge.specs.Conditions.{many_conditions};
 ghost use Rattle.network_judge.specs.View.{prefix_of};
-ghost use Rattle.network.specs.Added.{Added};
-ghost use Rattle.network.specs.View.{reading_of, Held, HoldsSoFar};
-ghost use Rattle.edition.specs.Put.{TablesReady, TablesPut};
-ghost use Rattle.edition.specs.Reading.{with_form2};
+ghost use Rattle.network.specs.Put.{period};
+ghost use Rattle.network.specs.View.{reading_of};
+ghost use Rattle.edition.specs.Put.{TablesReady, with_tables};
+ghost use Rattle.network.specs.Reading.{Takes};
+ghost use Rattle.edition.specs.Reading.{second};
 
 use forms::Net;
 use many_judge::check_many;
-use many_text::{Line, read_line, read_table};
-use network::{Network, end, put_boot};
-use network_judge::Prefix;
+use many_text::{Line, Tables, read_line};
+use network::{put_boot, take_lines};
+use network_judge::{Network, check_line};
 use rules::{Reason, Refusal};
-use text::{read_word, split_line};
+use text::read_word;
 
 // Edition 2 begins `(net2 `.
 #[tactic(auto, unfolding(rules::specs::Edition2::is_edition2))]
@@ -35,90 +36,72 @@ pub fn is_edition_2(text: &[u8]) -> bool
     read_word(text, b"(net2 ").is_some()
 }
 
-// The tables at the front of some bytes, each a boot on this node.
-fn put_tables(w: &mut Prefix, source: usize, tables: &[u8])
-    requires { TablesReady w.old source tables.now }
-    ensures { TablesPut w.old source (tables_in tables.now) w.new }
+// Each of the tables a boot on this node, of a network with the period p.
+#[tactic(auto, using(crate::specs::Put::putting))]
+fn put_tables(network: &mut Network, p: usize, source: usize, tables: Tables)
+    requires period { p ≡ period network.old.net }
+    requires ready { TablesReady network.old source (tables_left tables) }
+    ensures { prefix_of network.new ≡ with_tables source (tables_left tables.entry) (prefix_of network.old) }
 {
-    let p = w.net.map_or(0, |net| net.p);
-    let mut rest = tables;
-    while let Some((table, after)) = read_table(rest) {
-        put_boot(&mut w.store, p, source, table.bits);
-        rest = after;
+    for table in tables {
+        put_boot(&mut network.store, p, source, table.text);
     }
 }
 
-// `net2`, with P and M within their limits.
-#[tactic(auto, using(crate::specs::Put::net_met, crate::specs::Put::net_free), unfolding(rules::specs::NetworkText::started))]
-fn take_net(w: &mut Prefix, net: Net) -> Result<(), Reason>
-    requires { (table_limits net.p net.m ≡ true) × HoldsSoFar w.old }
-    ensures number { number_met result ≡ refusal2 (prefix_of w.old) (some (Plain (NetLine (net_of net)))) }
-    ensures added { OnOk result (Added w.old (NetLine (net_of net)) w.new) }
+// `net2`, with P and M within their limits, is taken as the plain text's `net` line is.
+// It is put here: `network::take_line` reads the plain text's lines, and its proof knows of a line only what was read from those bytes.
+#[tactic(auto, using(crate::specs::Put::net_number, crate::specs::Put::net_free, network::specs::Added::holds_net), unfolding(rules::specs::NetworkText::with_network_line))]
+fn take_net(network: &mut Network, net: Net) -> Result<(), Reason>
+    requires { table_limits net.p net.m ≡ true }
+    ensures number { number_met result ≡ refusal2 (prefix_of network.old) (some (Plain (NetLine (net_of net)))) }
+    ensures added { (i : ℕ) → OnOk result (prefix_of network.new ≡ with_network_line i (prefix_of network.old) (NetLine (net_of net))) }
 {
-    if w.net.is_some() {
-        return Err(Reason::BadLine);
-    }
-    w.net = Some(net);
+    check_line(network, true, &network_text::Line::Net(net))?;
+    network.net = Some(net);
     Ok(())
 }
 
-// `many`: the n tables at the front of some bytes.
-#[tactic(auto, using(crate::specs::Put::tables_ready))]
-fn take_many(w: &mut Prefix, source: usize, tables: &[u8], n: usize) -> Result<(), Reason>
-    requires { HoldsSoFar w.old × GoodTables tables.now × (length (tables_in tables.now) ≡ n) }
-    ensures number { number_met result ≡ lowest (many_conditions (prefix_of w.old) source (tables_in tables.now)) }
-    ensures put { OnOk result (TablesPut w.old source (tables_in tables.now) w.new) }
+// `many`: a node and its tables.
+#[tactic(auto, using(crate::specs::Put::tables_ready, network::specs::Put::period_is))]
+fn take_many(network: &mut Network, source: usize, tables: Tables) -> Result<(), Reason>
+    ensures number { number_met result ≡ lowest (many_conditions (prefix_of network.old) source (tables_left tables.entry)) }
+    ensures put { OnOk result (prefix_of network.new ≡ with_tables source (tables_left tables.entry) (prefix_of network.old)) }
 {
-    check_many(w, source, tables, n)?;
-    put_tables(w, source, tables);
+    let net = check_many(network, source, tables)?;
+    put_tables(network, net.p, source, tables);
     Ok(())
 }
 
 // A line judged by those before it, and put behind them.
-#[tactic(auto, using(crate::specs::Put::taking))]
-fn take_line<'a>(w: &mut Prefix<'a>, l: &'a [u8]) -> Result<(), Reason>
-    requires { HoldsSoFar w.old }
-    ensures number { number_met result ≡ refusal2 (prefix_of w.old) (line2 l.now) }
-    ensures holds { OnOk result (HoldsSoFar w.new) }
-    ensures added { (i : ℕ) → OnOk result (prefix_of w.new ≡ with_form2 i (prefix_of w.old) (line2 l.now)) }
+#[tactic(auto, using(crate::specs::Put::taking), unfolding(crate::specs::Reading::second, network::specs::Reading::plain))]
+fn take_line<'a>(network: &mut Network<'a>, l: &'a [u8]) -> Result<(), Reason>
+    ensures { Takes second network.old l.now result network.new }
 {
     match read_line(l) {
         None => Err(Reason::BadLine),
-        Some(Line::Net(net)) => take_net(w, net),
-        Some(Line::Many(source, tables, n)) => take_many(w, source, tables, n),
-        Some(Line::Plain) => network::take_line(w, true, l),
+        Some(Line::Net(net)) => take_net(network, net),
+        Some(Line::Many { source, tables }) => take_many(network, source, tables),
+        Some(Line::Plain) => network::take_line(network, true, l),
     }
 }
 
-// As `network::read`, of edition 2. Not inlined, so that a call's stack holds the nodes of one reader alone.
-#[inline(never)]
-#[tactic(auto, using(crate::specs::Reading::reads_start, network::specs::View::empty_holds, crate::specs::Reading::reads_end, crate::specs::Reading::reads_refused, crate::specs::Reading::reads_next, text::specs::FirstLine::after_shorter))]
-fn read_edition_2(text: &[u8]) -> Result<Network<'_>, Refusal>
-    ensures is { reading_of result ≡ read_admitted2 text.now }
-    ensures held { Held result }
+// As `network::read_admitted`, of edition 2.
+fn read_edition_2<'a>(text: &'a [u8], network: &mut Network<'a>) -> Result<Net, Refusal>
+    ensures is { reading_of result network.new ≡ read_admitted2 text.now }
+    ensures net { IfOk result (λ net. network.new.net ≡ Some net) }
 {
-    let mut prefix = Prefix::new();
-    let mut rest = text;
-    let mut line = 1;
-    while !rest.is_empty() {
-        let (l, next) = split_line(rest);
-        if let Err(reason) = take_line(&mut prefix, l) {
-            return Err(Refusal { reason, line });
-        }
-        rest = next;
-        line += 1;
-    }
-    end(prefix, line)
+    take_lines(text, network, take_line)
 }
 
-// The network that a text describes; every number of admission is judged.
+// The network that a text describes, put in the place of the lent one; every number of admission is judged.
+// `convert` asks `is_edition_2` of the same text again, as its definition does.
 #[tactic(auto, unfolding(rules::specs::Edition2::read_either))]
-pub fn read(text: &[u8]) -> Result<Network<'_>, Refusal>
-    ensures is { reading_of result ≡ read_either text.now }
-    ensures held { Held result }
+pub fn read<'a>(text: &'a [u8], network: &mut Network<'a>) -> Result<Net, Refusal>
+    ensures is { reading_of result network.new ≡ read_either text.now }
+    ensures net { IfOk result (λ net. network.new.net ≡ Some net) }
 {
     if is_edition_2(text) {
-        return read_edition_2(text);
+        return read_edition_2(text, network);
     }
-    network::read(text, true)
+    network::read_admitted(text, network)
 }

@@ -16,13 +16,11 @@ ghost use Rattle.rules.specs.Runs.{Numbered, ran, run_circuit, run_network};
 ghost use Rattle.rules.specs.SumReading.{sum_reading, sum_answer};
 ghost use Rattle.exports.specs.Numbers.{answer, table_answer, admission_numbers, numbered, sum_places, slot_numbers};
 
-use crate::numbers::{
-    admission_numbers, builder_numbers, map_numbers, run_numbers, slot_numbers, sum_numbers,
-};
+use crate::numbers::sum_numbers;
 
 // 0 and the count of bytes or values written, or the number and the line of the refusal.
 #[repr(C)]
-#[derive(Clone, Copy)]
+#[derive(Clone, Copy, Default)]
 pub struct FbsReply {
     pub number: usize,
     pub line: usize,
@@ -31,7 +29,7 @@ pub struct FbsReply {
 
 // 0, the count of bits written and the centre of the table, or the number; the line is 0.
 #[repr(C)]
-#[derive(Clone, Copy)]
+#[derive(Clone, Copy, Default)]
 pub struct FbsTable {
     pub number: usize,
     pub line: usize,
@@ -63,7 +61,7 @@ pub struct FbsAdmission {
 
 // 0 and the count of bits, or the number and the line; the bits of the terms in their order, 0 in each place that is none of theirs.
 #[repr(C)]
-#[derive(Clone, Copy)]
+#[derive(Clone, Copy, Default)]
 pub struct FbsSum {
     pub number: usize,
     pub line: usize,
@@ -73,7 +71,7 @@ pub struct FbsSum {
 
 // 0 and the slot, or the number; the line is 0.
 #[repr(C)]
-#[derive(Clone, Copy)]
+#[derive(Clone, Copy, Default)]
 pub struct FbsSlot {
     pub number: usize,
     pub line: usize,
@@ -85,7 +83,7 @@ pub struct FbsSlot {
 pub extern "C" fn fbs_map(text: &[u8], out: &mut [u8]) -> FbsReply
     ensures { outcome (answer result) out.new ≡ mapper text.now out.old }
 {
-    map_numbers(mapper::map(text, out))
+    FbsReply::from(mapper::map(text, out))
 }
 
 // A network's text of either edition judged.
@@ -93,7 +91,7 @@ pub extern "C" fn fbs_map(text: &[u8], out: &mut [u8]) -> FbsReply
 pub extern "C" fn fbs_admit(text: &[u8]) -> FbsAdmission
     ensures { result ≡ admission_numbers (admission text.now) }
 {
-    admission_numbers(admission::admit(text))
+    FbsAdmission::from(admission::admit(text))
 }
 
 // A network's text in the other edition.
@@ -101,7 +99,7 @@ pub extern "C" fn fbs_admit(text: &[u8]) -> FbsAdmission
 pub extern "C" fn fbs_convert(text: &[u8], out: &mut [u8]) -> FbsReply
     ensures { outcome (answer result) out.new ≡ converter text.now out.old }
 {
-    map_numbers(convert::convert(text, out))
+    FbsReply::from(convert::convert(text, out))
 }
 
 // A bootstrap table from rows, a value and a truth each, and its centre.
@@ -115,7 +113,7 @@ pub extern "C" fn fbs_build_table(
 ) -> FbsTable
     ensures { built (table_answer result) out.new ≡ builder p m values.now truths.now out.old }
 {
-    builder_numbers(builder::composed_bootstrap_table(p, m, values, truths, out))
+    FbsTable::from(builder::composed_bootstrap_table(p, m, values, truths, out))
 }
 
 // A circuit run on a bit for each input.
@@ -123,7 +121,7 @@ pub extern "C" fn fbs_build_table(
 pub extern "C" fn fbs_run_circuit(text: &[u8], bits: &[u8], values: &mut [u8]) -> FbsReply
     ensures { ran (Numbered (answer result)) values.new ≡ numbered (run_circuit text.now bits.now values.old) }
 {
-    run_numbers(circuit_run::run_circuit(text, bits, values))
+    FbsReply::from(circuit_run::run_circuit(text, bits, values))
 }
 
 // A network run on a bit for each input.
@@ -131,7 +129,7 @@ pub extern "C" fn fbs_run_circuit(text: &[u8], bits: &[u8], values: &mut [u8]) -
 pub extern "C" fn fbs_run_network(text: &[u8], bits: &[u8], values: &mut [i64]) -> FbsReply
     ensures { ran (Numbered (answer result)) values.new ≡ numbered (run_network text.now bits.now values.old) }
 {
-    run_numbers(network_run::run_network(text, bits, values))
+    FbsReply::from(network_run::run_network(text, bits, values))
 }
 
 // The first bits for the nodes that a `lin` adds with which its sum is the value.
@@ -147,5 +145,5 @@ pub extern "C" fn fbs_sum_reading(text: &[u8], node: usize, value: i32) -> FbsSu
 pub extern "C" fn fbs_find_slot(p: usize, value: i32, error: i32) -> FbsSlot
     ensures { result ≡ slot_numbers (slot_answer p value error) }
 {
-    slot_numbers(phase::slot(p, value, error))
+    FbsSlot::from(phase::slot(p, value, error))
 }

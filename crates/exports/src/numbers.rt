@@ -17,9 +17,8 @@ fn accepted(count: usize) -> FbsReply
     ensures { answer result ≡ written count }
 {
     FbsReply {
-        number: 0,
-        line: 0,
         count,
+        ..FbsReply::default()
     }
 }
 
@@ -29,53 +28,57 @@ fn turned_away(number: usize, line: usize) -> FbsReply
     FbsReply {
         number,
         line,
-        count: 0,
+        ..FbsReply::default()
     }
 }
 
-pub fn map_numbers(reply: Result<usize, Refusal>) -> FbsReply
-    ensures { answer result ≡ map_reply reply }
-{
-    match reply {
-        Ok(written) => accepted(written),
-        Err(r) => turned_away(r.reason.number(), r.line),
+impl From<Result<usize, Refusal>> for FbsReply {
+    fn from(reply: Result<usize, Refusal>) -> FbsReply
+        ensures { answer result ≡ map_reply reply }
+    {
+        match reply {
+            Ok(written) => accepted(written),
+            Err(r) => turned_away(r.reason.number(), r.line),
+        }
     }
 }
 
-pub fn builder_numbers(reply: Result<Table, Reason>) -> FbsTable
-    ensures { table_answer result ≡ builder_reply reply }
-{
-    match reply {
-        Ok(table) => FbsTable {
-            number: 0,
-            line: 0,
-            count: table.count,
-            centre: table.centre,
-        },
-        Err(reason) => FbsTable {
-            number: reason.number(),
-            line: 0,
-            count: 0,
-            centre: 0,
-        },
+impl From<Result<Table, Reason>> for FbsTable {
+    fn from(reply: Result<Table, Reason>) -> FbsTable
+        ensures { table_answer result ≡ builder_reply reply }
+    {
+        match reply {
+            Ok(table) => FbsTable {
+                count: table.count,
+                centre: table.centre,
+                ..FbsTable::default()
+            },
+            Err(reason) => FbsTable {
+                number: reason.number(),
+                ..FbsTable::default()
+            },
+        }
     }
 }
 
 // Document 01 has no number for the last three: 100 to 102 are ours.
-#[tactic(auto, unfolding(crate::specs::Numbers::run_numbers))]
-pub fn run_numbers(reply: Result<usize, RunError>) -> FbsReply
-    ensures { answer result ≡ run_numbers (run_reply reply) }
-{
-    match reply {
-        Ok(count) => accepted(count),
-        Err(RunError::Unreadable(r)) => turned_away(r.reason.number(), r.line),
-        Err(RunError::BadBits) => turned_away(100, 0),
-        Err(RunError::ShortBuffer) => turned_away(101, 0),
-        Err(RunError::BrokenOff) => turned_away(102, 0),
+impl From<Result<usize, RunError>> for FbsReply {
+    #[tactic(auto, unfolding(crate::specs::Numbers::run_numbers))]
+    fn from(reply: Result<usize, RunError>) -> FbsReply
+        ensures { answer result ≡ run_numbers (run_reply reply) }
+    {
+        match reply {
+            Ok(count) => accepted(count),
+            Err(RunError::Unreadable(r)) => turned_away(r.reason.number(), r.line),
+            Err(RunError::BadBits) => turned_away(100, 0),
+            Err(RunError::ShortBuffer) => turned_away(101, 0),
+            Err(RunError::BrokenOff) => turned_away(102, 0),
+        }
     }
 }
 
-// No document has a number for the second: 103 is ours.
+// No document has a number for the second: 103 is ours. A function, since it asks something of the reply, which a `From` may not.
+// `Shown` could promise it by a ghost field, since no definition makes one; but `rules` lies below every crate, and two functions ask it.
 #[tactic(auto, unfolding(crate::specs::Numbers::sum_numbers, crate::specs::Numbers::sum_places))]
 pub fn sum_numbers(reply: Result<Option<Shown>, Refusal>) -> FbsSum
     requires { FewShown reply }
@@ -85,65 +88,63 @@ pub fn sum_numbers(reply: Result<Option<Shown>, Refusal>) -> FbsSum
         Ok(Some(shown)) => {
             let bits = shown.bits;
             FbsSum {
-                number: 0,
-                line: 0,
                 count: shown.count,
                 bits,
+                ..FbsSum::default()
             }
         }
         Ok(None) => FbsSum {
             number: 103,
-            line: 0,
-            count: 0,
-            bits: [0; 11],
+            ..FbsSum::default()
         },
         Err(r) => FbsSum {
             number: r.reason.number(),
             line: r.line,
-            count: 0,
-            bits: [0; 11],
+            ..FbsSum::default()
         },
     }
 }
 
-pub fn slot_numbers(reply: Result<usize, Reason>) -> FbsSlot
-    ensures { result ≡ slot_numbers (slot_reply reply) }
-{
-    match reply {
-        Ok(slot) => FbsSlot {
-            number: 0,
-            line: 0,
-            slot,
-        },
-        Err(reason) => FbsSlot {
-            number: reason.number(),
-            line: 0,
-            slot: 0,
-        },
+impl From<Result<usize, Reason>> for FbsSlot {
+    fn from(reply: Result<usize, Reason>) -> FbsSlot
+        ensures { result ≡ slot_numbers (slot_reply reply) }
+    {
+        match reply {
+            Ok(slot) => FbsSlot {
+                slot,
+                ..FbsSlot::default()
+            },
+            Err(reason) => FbsSlot {
+                number: reason.number(),
+                ..FbsSlot::default()
+            },
+        }
     }
 }
 
-#[tactic(auto, unfolding(crate::specs::Numbers::admission_numbers, crate::specs::Numbers::statistics))]
-pub fn admission_numbers(reply: Result<Stats, Refusal>) -> FbsAdmission
-    ensures { result ≡ admission_numbers (admit_reply reply) }
-{
-    let (number, line, stats) = match reply {
-        Ok(stats) => (0, 0, stats),
-        Err(r) => (r.reason.number(), r.line, Stats::default()),
-    };
-    FbsAdmission {
-        number,
-        line,
-        inputs: stats.inputs,
-        sums: stats.sums,
-        boots: stats.boots,
-        sources: stats.sources,
-        longest: stats.longest,
-        norm: stats.norm,
-        outputs: stats.outputs,
-        depth: stats.depth,
-        centre0: stats.centre0,
-        centre1: stats.centre1,
-        centre2: stats.centre2,
+impl From<Result<Stats, Refusal>> for FbsAdmission {
+    #[tactic(auto, unfolding(crate::specs::Numbers::admission_numbers, crate::specs::Numbers::statistics))]
+    fn from(reply: Result<Stats, Refusal>) -> FbsAdmission
+        ensures { result ≡ admission_numbers (admit_reply reply) }
+    {
+        let (number, line, stats) = match reply {
+            Ok(stats) => (0, 0, stats),
+            Err(r) => (r.reason.number(), r.line, Stats::default()),
+        };
+        FbsAdmission {
+            number,
+            line,
+            inputs: stats.inputs,
+            sums: stats.sums,
+            boots: stats.boots,
+            sources: stats.sources,
+            longest: stats.longest,
+            norm: stats.norm,
+            outputs: stats.outputs,
+            depth: stats.depth,
+            centre0: stats.centre0,
+            centre1: stats.centre1,
+            centre2: stats.centre2,
+        }
     }
 }

@@ -24,7 +24,7 @@ fn read_node(s: &[u8]) -> Option<(Wire, &[u8])>
     Some((Wire::Node(id), s))
 }
 
-// `(n ID)`, `(k 0)` or `(k 1)`, the ID up to 65536.
+// `(n ID)`, `(k 0)` or `(k 1)`; an ID of 65536 stands for all that are more.
 pub fn read_wire(s: &[u8]) -> Option<(Wire, &[u8])>
     ensures { piece result ≡ capped cap_wire (wire s.now) }
 {
@@ -37,14 +37,11 @@ pub fn read_wire(s: &[u8]) -> Option<(Wire, &[u8])>
 pub fn read_norm(s: &[u8]) -> Option<(Limit, &[u8])>
     ensures { piece result ≡ norm s.now }
 {
-    if let Some(rest) = read_word(s, b"none") {
-        return Some((Limit::Unlimited, rest));
-    }
-    let (v, rest) = read_number(s)?;
-    if v > 4096 {
-        return None;
-    }
-    Some((Limit::AtMost(v), rest))
+    let none = read_word(s, b"none").map(|rest| (Limit::Unlimited, rest));
+    none.or_else(|| {
+        let (v, rest) = read_number(s)?;
+        (v <= 4096).then_some((Limit::AtMost(v), rest))
+    })
 }
 
 // A minus and a number that is not 0.
@@ -53,13 +50,10 @@ fn read_negative(s: &[u8]) -> Option<(i64, &[u8])>
 {
     let s = read_word(s, b"-")?;
     let (v, rest) = read_number(s)?;
-    if v == 0 {
-        return None;
-    }
-    Some((-(v as i64), rest))
+    (v != 0).then_some((-(v as i64), rest))
 }
 
-// A number, or a minus and a number that is not 0, from -65536 to 65536.
+// A number, or a minus and a number that is not 0; 65536 and -65536 stand for all that are further from 0.
 pub fn read_signed(s: &[u8]) -> Option<(i64, &[u8])>
     ensures { piece result ≡ capped cap_signed (signed s.now) }
 {
@@ -75,7 +69,8 @@ fn read_written(s: &[u8]) -> Option<(u8, &[u8])>
 {
     let s = read_word(s, b" ")?;
     let (v, rest) = read_number(s)?;
-    if v < 2 || v > 64 {
+    // Not `.then_some(..)`, which would cast a larger v too.
+    if !(2..=64).contains(&v) {
         return None;
     }
     Some((v as u8, rest))
@@ -113,7 +108,7 @@ pub struct Output<'a> {
     pub wire: Wire,
 }
 
-// What an `ArrayVec` holds where it has no output.
+// What an `ArrayVec` holds where it has no output. By hand: `#[default]` takes only a case without fields.
 impl Default for Output<'_> {
     fn default() -> Self {
         Output {
@@ -123,7 +118,7 @@ impl Default for Output<'_> {
     }
 }
 
-// `(out NAME WIRE)` and its newline, the wire's ID up to 65536.
+// `(out NAME WIRE)` and its newline; an ID of 65536 stands for all that are more.
 pub fn read_out(s: &[u8]) -> Option<(Output<'_>, &[u8])>
     ensures { piece_as output_of result ≡ capped cap_output (out_line s.now) }
 {

@@ -19,7 +19,7 @@ use Rattle.framing.specs.declared.Feed.{Feed}
 
 -- `job` has come in whole lines, and `line` of the current one; `old` is what the array held before.
 unfoldable pub feed_of : List ℕ → List ℕ → Feed
-feed_of job line = record { count = min 32769 (length (job ++ line)); line = min 32769 (length job); matched = match_from 0 line }
+feed_of job line = record { count = min 32769 (length (job ++ line)); line = min 32769 (length job); matched = match_from (Some 0) line }
 
 unfoldable pub room_of : List ℕ → List ℕ → List ℕ
 room_of old t = over (take 32768 t) old
@@ -79,16 +79,16 @@ module _ (old : List ℕ) (size : length old ≡ 32768) (job line : List ℕ) wh
   unfolding feed_of
   step_on b n =
       fed_on (feed_of job line) b (room_of old (job ++ line)) n
-      ∙ rw (room_more old size (job ++ line) b, one_more (job ++ line) b, match_more 0 line b, append_assoc)
+      ∙ rw (room_more old size (job ++ line) b, one_more (job ++ line) b, match_more (Some 0) line b, append_assoc)
 
-  pub step_newline : (match_from 0 line ≡ 5 → ⊥)
+  pub step_newline : (match_from (Some 0) line ≡ Some 5 → ⊥)
       → fed (feed_of job line) 10 (room_of old (job ++ line)) ≡ fed_to (feed_of (job ++ (line ++ (10 ∷ []))) []) None (room_of old ((job ++ (line ++ (10 ∷ []))) ++ []))
   unfolding feed_of match_from
   step_newline n =
       fed_newline (feed_of job line) 10 (room_of old (job ++ line)) refl n
       ∙ rw (append-nil (job ++ (line ++ (10 ∷ []))), room_more old size (job ++ line) 10, one_more (job ++ line) 10, append_assoc)
 
-  pub step_closes : match_from 0 line ≡ 5 → fed (feed_of job line) 10 (room_of old (job ++ line)) ≡ fed_to start (Some (closed_by (min 32769 (length job)))) (room_of old (job ++ line))
+  pub step_closes : match_from (Some 0) line ≡ Some 5 → fed (feed_of job line) 10 (room_of old (job ++ line)) ≡ fed_to start (Some (closed_by (min 32769 (length job)))) (room_of old (job ++ line))
   unfolding feed_of
   step_closes e = fed_closes (feed_of job line) 10 (room_of old (job ++ line)) refl e
 

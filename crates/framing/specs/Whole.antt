@@ -1,5 +1,5 @@
 -- Byte by byte: the state and what is printed follow the definition.
-use Rattle.std.specs.Prelude.{◌≡◌, ℕ, length}
+use Rattle.std.specs.Prelude.{◌≡◌, ℕ, Some, length}
 use Rattle.std.proofs.Math.Path.{refl, sym, ap, ap₂}
 use Rattle.std.proofs.Common.{◌∙◌, ⊎_elim}
 use mathlib.Core.List.{List, [], ◌∷◌, ◌++◌, append_assoc, append-nil}
@@ -8,7 +8,7 @@ use Rattle.rules.specs.Form.{lines}
 use Rattle.framing.specs.Jobs.{jobs, rest, replies}
 use Rattle.framing.specs.Step.{start}
 use Rattle.framing.specs.Feeding.{State, state_with, fed_all, fed_all_step, printed, printed-step}
-use Rattle.framing.specs.Lines.{Plain, plain_none, plain_more, match_from, jobs_stop, rest_stop, jobs_closes, rest_closes, jobs_newline, rest_newline}
+use Rattle.framing.specs.Lines.{Plain, plain_none, plain_more, match_from, whole_or, jobs_stop, rest_stop, jobs_closes, rest_closes, jobs_newline, rest_newline}
 use Rattle.framing.specs.Text.{feed_of, room_of, state_of, room-length, room_none, step_on, step_newline, step_closes, said-reply}
 
 -- The state is that after these bytes of a job.
@@ -59,7 +59,7 @@ module _ (answer : List ℕ → List ℕ) where
             holds = held _ _ _ _ (fed_all_step here b s _ e) (sym (ap (λ x. rest job (lines x)) l)) f.holds;
           }
 
-      newline : (match_from 0 line ≡ 5 → ⊥) → Follows (state_of old (job ++ (line ++ (10 ∷ []))) []) s (job ++ (line ++ (10 ∷ []))) (lines s)
+      newline : (match_from (Some 0) line ≡ Some 5 → ⊥) → Follows (state_of old (job ++ (line ++ (10 ∷ []))) []) s (job ++ (line ++ (10 ∷ []))) (lines s)
           → Follows here (10 ∷ s) job (lines (line ++ (10 ∷ s)))
       newline m f =
           let e = step_newline old size job line m in
@@ -68,7 +68,7 @@ module _ (answer : List ℕ → List ℕ) where
             holds = held _ _ _ _ (fed_all_step here 10 s _ e) (rest_newline job line p s m) f.holds;
           }
 
-      closes : match_from 0 line ≡ 5 → Follows (state_of room [] []) s [] (lines s) → Follows here (10 ∷ s) job (lines (line ++ (10 ∷ s)))
+      closes : match_from (Some 0) line ≡ Some 5 → Follows (state_of room [] []) s [] (lines s) → Follows here (10 ∷ s) job (lines (line ++ (10 ∷ s)))
       unfolding replies
       closes m f =
           let e = step_closes old size job line m in
@@ -90,9 +90,9 @@ module _ (answer : List ℕ → List ℕ) where
       ⊎_elim
       (λ (e : b ≡ 10).
       rw e
-      (⊎_elim (λ (m : match_from 0 line ≡ 5). closes old job line size p s m (every (room_of old (job ++ line)) [] [] (room-length old size (job ++ line)) plain_none))
-      (λ (m : match_from 0 line ≡ 5 → ⊥). newline old job line size p s m (every old (job ++ (line ++ (10 ∷ []))) [] size plain_none))
-      (eq-or-ne (match_from 0 line) 5)))
+      (⊎_elim (λ (m : match_from (Some 0) line ≡ Some 5). closes old job line size p s m (every (room_of old (job ++ line)) [] [] (room-length old size (job ++ line)) plain_none))
+      (λ (m : match_from (Some 0) line ≡ Some 5 → ⊥). newline old job line size p s m (every old (job ++ (line ++ (10 ∷ []))) [] size plain_none))
+      (whole_or (match_from (Some 0) line))))
       (λ (n : b ≡ 10 → ⊥). goes_on old job line size p s b n (every old job (line ++ (b ∷ [])) size (plain_more line b p n)))
       (eq-or-ne b 10)
 

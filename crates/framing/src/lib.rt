@@ -14,26 +14,28 @@ const LIMIT: usize = 32768;
 // What is known of the bytes since the last job. Both counts stop at one over the limit, so that no input is too long for them.
 #[derive(Clone, Copy)]
 pub struct Feed {
-    // how many bytes have come
+    // How many bytes have come. The caller's buffer keeps them: an `ArrayVec` there would fix its room, and any lent buffer will do.
     pub count: usize,
-    // how many of them stand before the current line
+    // How many of them stand before the current line.
     pub line: usize,
-    // how many bytes the current line has if it agrees with `(end)`, else 6
-    pub matched: usize,
+    // How many bytes the current line has, if they are the first of `(end)`.
+    pub matched: Option<usize>,
 }
 
-impl Feed {
-    // Nothing has come since the last job.
-    pub fn begin() -> Feed
+// Nothing has come since the last job.
+impl Default for Feed {
+    fn default() -> Feed
         ensures { result ≡ start }
     {
         Feed {
             count: 0,
             line: 0,
-            matched: 0,
+            matched: Some(0),
         }
     }
+}
 
+impl Feed {
     // Whether input that ends here stops after bytes but before an `(end)`.
     pub fn is_cut(&self) -> bool
         ensures { result ≡ ltb 0 self.now.count }
@@ -43,21 +45,21 @@ impl Feed {
 
     // One byte. `job` keeps the bytes since the last job and wants 32,768 places. Where the byte closes a job: how many bytes
     // it has, from the first that was kept, or that they are too many.
-    #[tactic(auto, unfolding(crate::specs::Step::fed))]
+    #[tactic(auto, using(crate::specs::Step::fed_closes, crate::specs::Step::fed_newline, crate::specs::Step::fed_on))]
     pub fn feed_byte(&mut self, b: u8, job: &mut [u8]) -> Option<Result<usize, Reason>>
         ensures step { fed_to self.new result job.new ≡ fed self.old b job.old }
         ensures within { Within result }
     {
-        if b == b'\n' && self.matched == END.len() {
+        if b == b'\n' && self.matched == Some(END.len()) {
             let n = self.line;
-            *self = Feed::begin();
+            *self = Feed::default();
             return Some(closed(n));
         }
         keep(job, self.count, b);
         self.count = self.count.saturating_add(1).min(LIMIT + 1);
         if b == b'\n' {
             self.line = self.count;
-            self.matched = 0;
+            self.matched = Some(0);
         } else {
             self.matched = next_match(self.matched, b);
         }
@@ -86,9 +88,15 @@ fn closed(n: usize) -> Result<usize, Reason>
     }
 }
 
+// What is matched with a byte more that is no newline. No `then_some`: it adds 1 first, and of m nothing is known where the byte does not match.
 #[tactic(auto, unfolding(crate::specs::Step::next_match, crate::specs::Step::end_word))]
-fn next_match(m: usize, b: u8) -> usize
-    ensures { result ≡ next_match m b }
+fn next_match(matched: Option<usize>, b: u8) -> Option<usize>
+    ensures { result ≡ next_match matched b }
 {
-    if END.get(m) == Some(&b) { m + 1 } else { 6 }
+    let m = matched?;
+    if END.get(m) == Some(&b) {
+        Some(m + 1)
+    } else {
+        None
+    }
 }

@@ -18,7 +18,7 @@ use Rattle.cone.specs.declared.Cone.{Cone}
 use Rattle.cone.specs.declared.order.Side.{Side}
 use Rattle.cone.specs.declared.order.Sides.{Sides}
 use Rattle.cone.specs.Order.{side_of, sides_of}
-use Rattle.cone.specs.View.{cone_of, IsCone, view_sources}
+use Rattle.cone.specs.View.{cone_of, view_sources}
 use Rattle.nodes.specs.declared.store.Store.{Store}
 use Rattle.nodes.specs.Store.{store_of}
 use Rattle.cone.specs.Sources.{Stands}
@@ -43,7 +43,7 @@ pub record Ready (store : Store) (w : Sides) : Type 0 where
 -- A side with the cone c bootstrapped: what it adds to the store it no longer asks for.
 pub record Booted (s : Settings) (old : Store) (c : Cone) (new : Store) (b : Side) : Type 0 where
   pub is : booted_of new b.cone ≡ bootstrap_cone s (store_of old) (cone_of c)
-  pub marked : b.new ≡ true
+  pub marked : b.booted ≡ true
   pub stands : Stands (length (store_of new)) b.cone
   pub least : length (store_of old) ≤ length (store_of new)
   pub most : length (store_of new) + room (cone_of b.cone) ≤ length (store_of old) + room (cone_of c)
@@ -88,8 +88,8 @@ moves s nodes c h = rw (lt-leb (length c.support) 1 h) (omega arith)
 -- ---- what each bootstrap leaves
 
 -- the room that it asks for
-pub asks : (c : Cone) (count : ℕ) → IsCone c → count + room (cone_of c) ≤ 672 → 1 < c.n → count + 2 ≤ 672
-asks c count is f h = omega (arith, room_two (cone_of c) (omega (arith, view_sources c is)))
+pub asks : (c : Cone) (count : ℕ) → count + room (cone_of c) ≤ 672 → 1 < c.n → count + 2 ≤ 672
+asks c count f h = omega (arith, room_two (cone_of c) (omega (arith, view_sources c)))
 
 module _ (s : Settings) (old : Store) (c : Cone) (new : Store) (b : Cone) (boots : Boots s.p old new b) (e : booted_of new b ≡ bootstrap_cone s (store_of old) (cone_of c)) where
   stayed : length (cone_of c).support ≤ 1 → (length (store_of new) ≡ length (store_of old)) × (room (cone_of b) ≡ room (cone_of c))
@@ -107,11 +107,11 @@ module _ (s : Settings) (old : Store) (c : Cone) (new : Store) (b : Cone) (boots
       (λ (h : length (cone_of c).support ≤ 1). let w = stayed h in omega (arith, w.0, w.1))
       (lt_or_le 1 (length (cone_of c).support))
 
-  pub booted : Booted s old c new (record { cone = b; new = true })
+  pub booted : Booted s old c new (record { cone = b; booted = true })
   booted = record { is = e; marked = refl; stands = boots.stands; least = boots.grown.least; most = most; centred = boots.grown.centred }
 
 stands_more : {count more : ℕ} {c : Cone} → count ≤ more → Stands count c → Stands more c
-stands_more h st = record { cone = st.cone; below = record { at = λ i l. let k = st.below.at i l in omega arith } }
+stands_more h st = record { below = record { at = λ i l. let k = st.below.at i l in omega arith } }
 
 -- ---- both sides with the bootstrapped one
 

@@ -15,12 +15,12 @@ use Rattle.rules.specs.Network.{LutNode}
 use Rattle.rules.specs.declared.Reason.{Reason}
 use Rattle.rules.specs.declared.Settings.{Settings}
 use Rattle.rules.specs.Runs.{all_bits}
-use Rattle.theorems.specs.Bits.{bit_at, all-bits_of}
+use Rattle.theorems.specs.Bits.{bit_at, all-bits_nil, all-bits_cons, all-bits_of}
 use Rattle.theorems.specs.Truths.{through_gate}
 use Rattle.cone.specs.declared.Cone.{Cone}
 use Rattle.cone.specs.declared.order.Sides.{Sides}
 use Rattle.cone.specs.Order.{side_of, sides_of}
-use Rattle.cone.specs.View.{cone_of, IsCone, constant_of}
+use Rattle.cone.specs.View.{cone_of, constant_of}
 use Rattle.nodes.specs.declared.store.Store.{Store}
 use Rattle.nodes.specs.Store.{store_of}
 use Rattle.gate.specs.declared.map.Mapped.{Mapped}
@@ -144,7 +144,7 @@ module _ (w v : Sides) (is : (nodes : List LutNode) → sides_of nodes v ≡ M.s
 
 module _ (left right : Cone) (gate : List ℕ) where
   abbrev pub unswitched : Sides
-  unswitched = record { left = record { cone = left; new = false }; right = record { cone = right; new = false }; gate = gate; switched = false }
+  unswitched = record { left = record { cone = left; booted = false }; right = record { cone = right; booted = false }; gate = gate; switched = false }
 
   module _ (nodes : List LutNode) where
     pub sides_switched : (v : Sides) → C.less (C.cone_order_key nodes (cone_of left)) (C.cone_order_key nodes (cone_of right)) ≡ true
@@ -168,14 +168,16 @@ module _ (left right : Cone) (gate : List ℕ) where
 -- ---- what a gate gives
 
 -- an attempt's cone
-module _ (store : Store) (w : Sides) (c : Cone) where
-  pub mapped_switched : w.switched ≡ true → mapped_of store (Ok (record { cone = c; first = w.right; second = w.left })) ≡ ok (M.mapped (sides_of (store_of store) w) (cone_of c))
+module _ (store : Store) (w : Sides) (c : Cone) (first second : P.Option Cone) where
+  pub mapped_switched : w.switched ≡ true → tried_of first ≡ M.update (side_of w.right) → tried_of second ≡ M.update (side_of w.left)
+      → mapped_of store (Ok (record { cone = c; first = first; second = second })) ≡ ok (M.mapped (sides_of (store_of store) w) (cone_of c))
   unfolding mapped_of M.mapped sides_of
-  mapped_switched e = rw e
+  mapped_switched e f g = rw (e, f, g) refl
 
-  pub mapped_kept : w.switched ≡ false → mapped_of store (Ok (record { cone = c; first = w.left; second = w.right })) ≡ ok (M.mapped (sides_of (store_of store) w) (cone_of c))
+  pub mapped_kept : w.switched ≡ false → tried_of first ≡ M.update (side_of w.left) → tried_of second ≡ M.update (side_of w.right)
+      → mapped_of store (Ok (record { cone = c; first = first; second = second })) ≡ ok (M.mapped (sides_of (store_of store) w) (cone_of c))
   unfolding mapped_of M.mapped sides_of
-  mapped_kept e = rw e
+  mapped_kept e f g = rw (e, f, g) refl
 
 -- ---- unary gates
 
@@ -194,10 +196,10 @@ module _ (s : Settings) (nodes : List LutNode) (c d : C.Cone) (gate : List ℕ) 
       t : all_equal d.truth ≡ false → all_equal (through_gate c gate).truth ≡ false
       t e = ap (λ x. all_equal x.truth) (sym is) ∙ e
 
-pub through_stands : (count : ℕ) (c d : Cone) (gate : List ℕ) → IsCone d → cone_of d ≡ through_gate (cone_of c) gate → Stands count c → Stands count d
+pub through_stands : (count : ℕ) (c d : Cone) (gate : List ℕ) → cone_of d ≡ through_gate (cone_of c) gate → Stands count c → Stands count d
 unfolding through_gate
-through_stands count c d gate is e st =
-    record { cone = is; below = below_same count (cone_of d) (cone_of c) (ap (λ (x : C.Cone). x.support) e) st.below }
+through_stands count c d gate e st =
+    record { below = below_same count (cone_of d) (cone_of c) (ap (λ (x : C.Cone). x.support) e) st.below }
 
 pub first_ready : (store : Store) (left right : Cone) (gate : List ℕ) (w : Sides) → Same left right gate w → length (store_of store) + 4 ≤ 672 → Stands (length (store_of store)) left
     → Stands (length (store_of store)) right → all_bits gate ≡ true → Ready store w
@@ -220,6 +222,9 @@ no_of c e = by (M.is_constant c) refl e
     by : (t : Bool) → M.is_constant c ≡ t → None ≡ (if t then Some (M.constant_value c) otherwise None) → M.is_constant c ≡ false
     by true f g = absurd cc
     by false f g = f
+
+pub two_bits : (gate : List ℕ) (i j : ℕ) → all_bits gate ≡ true → all_bits (get_or gate i 0 ∷ get_or gate j 0 ∷ []) ≡ true
+two_bits gate i j e = T-is _ (all-bits_cons _ _ (bit_at gate i (is_T _ e)) (all-bits_cons _ _ (bit_at gate j (is_T _ e)) all-bits_nil))
 
 two_of : (l : List ℕ) (n : ℕ) → n + 2 ≤ length l → get_or l n 0 ∷ get_or l (suc n) 0 ∷ [] ≡ take 2 (drop n l)
 two_of (a ∷ b ∷ l) zero h = refl

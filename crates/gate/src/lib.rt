@@ -2,4 +2,4 @@
 #![tactic(auto)]
 
 pub mod map;
-pub mod sides;
+mod sides;

@@ -1,7 +1,7 @@
 -- The gates in turn: what is asked of them, what the loop's results stand for, and each step.
 use Rattle.std.specs.Prelude as P
 use Rattle.std.specs.Prelude.{◌≡◌, ⊤, Bool, false, ◌||◌, ◌↔◌, IsTrue, ℕ, ◌+◌, ◌≤◌, ◌<◌, leb, length}
-use Rattle.std.proofs.Math.Path.{refl, sym, ap, ap₂}
+use Rattle.std.proofs.Math.Path.{refl, sym, ap}
 use Rattle.std.proofs.Common.{subst, ⊎_elim, true≢false, ◌∙◌}
 use Rattle.std.specs.List.{Any, list_any}
 use Rattle.std.proofs.lemmas.List.{length-map, map-append}
@@ -10,20 +10,18 @@ use Rattle.std.proofs.Math.Bool.{true}
 use mathlib.Core.List.{List, [], ◌∷◌, ◌++◌, map}
 use native.Mathlib.Omega.{arith}
 use Rattle.std.proofs.Math.ListN.{get_or}
-use borrow.Author.Tests.{leb-true}
 use Rattle.laws.specs.Select.{any}
-use Rattle.laws.specs.Test.{if◌then◌otherwise◌, decide, both_left, both_right}
+use Rattle.laws.specs.Test.{if◌then◌otherwise◌, decide}
 use Rattle.rules.specs.declared.Reason.{Reason}
 use Rattle.rules.specs.declared.Refusal.{Refusal}
 use Rattle.rules.specs.declared.Settings.{Settings}
 use Rattle.rules.specs.declared.Wire.{Wire}
-use Rattle.rules.specs.declared.Wire.TheVariants.{Const}
 use Rattle.rules.specs.Circuit.{Gate, Output}
 use Rattle.rules.specs.Cone as C
 use Rattle.rules.specs.Cone.{Result, ok, err, ◌>>=◌}
 use Rattle.rules.specs.Form.{Reading, Good, Refused}
 use Rattle.rules.specs.Mapper as M
-use Rattle.rules.specs.Mapper.{State, leads_to, is_forced, map_next, map_gate, cone_at, replaced, replace, update}
+use Rattle.rules.specs.Mapper.{State, leads_to, is_forced, map_next, map_gate, cone_at, replaced, replace}
 use Rattle.rules.specs.Network.{LutNode}
 use Rattle.rules.specs.Refusal.{reason_number}
 use Rattle.rules.specs.Runs.{all_bits}
@@ -36,30 +34,24 @@ use Rattle.circuit.specs.declared.Gate as G
 use Rattle.circuit.specs.View.{wires_of, answers_of}
 use Rattle.cone.specs.declared.Cone.{Cone}
 use Rattle.cone.specs.View.{cone_of}
-use Rattle.cone.specs.declared.order.Side.{Side}
-use Rattle.cone.specs.Order.{side_of}
+use Rattle.cone.specs.Sources.{Stands}
 use Rattle.nodes.specs.declared.store.Store as S
 use Rattle.nodes.specs.Store.{store_of}
 use Rattle.gate.specs.declared.map.Mapped.{Mapped}
 use Rattle.bootstrap.specs.View.{booted_of, Boots, Grown, centres_then}
-use Rattle.gate.specs.View.{mapped_of, Maps}
-use Rattle.gates.specs.Wired.{WireIn, Wired, state_of, renewed, stands_more, wired_more, renewed_cones, renewed_wired, wired_push}
+use Rattle.gate.specs.View.{tried_of, mapped_of, Maps}
+use Rattle.gates.specs.Wired.{WireIn, Wired, state_of, renewed, renewed_long, some_stands_more, wired_more, renewed_cones, renewed_wired, wired_push}
 
 -- ---- What is asked of a gate.
 
--- its wires as `replaced` takes them
-abbrev pub first_of : Function → Wire
-first_of (Unary w answers) = w
-first_of (Binary u v answers) = u
+-- It reads the first n nodes and the constants.
+abbrev pub Reads : ℕ → Function → Type 0
+Reads n (Unary w answers) = WireIn n w
+Reads n (Binary u v answers) = WireIn n u × WireIn n v
 
-abbrev pub second_of : Function → Wire
-second_of (Unary w answers) = Const 0
-second_of (Binary u v answers) = v
-
--- It reads the first n nodes and the constants, and its answers are bits.
+-- What it reads is there, and its answers are bits.
 pub record GoodFunction (n : ℕ) (f : Function) : Type 0 where
-  pub first : WireIn n (first_of f)
-  pub second : WireIn n (second_of f)
+  pub reads : Reads n f
   pub bits : all_bits (answers_of f) ≡ true
 
 pub record GoodGates (inputs : ℕ) (gates : List G.Gate) : Type 0 where
@@ -73,9 +65,15 @@ pub record GoodGates (inputs : ℕ) (gates : List G.Gate) : Type 0 where
 abbrev pub cones_of : List Cone → Function → List C.Cone
 cones_of wires f = map (cone_at (map cone_of wires)) (wires_of f)
 
--- What a gate leaves among the cones: of its own wires, and its cone.
-unfoldable pub settled : Function → Side → Side → Cone → List Cone → List Cone
-settled f first second own wires = renewed (second_of f) second (renewed (first_of f) first wires) ++ (own ∷ [])
+-- What a gate leaves of its own wires' cones.
+unfoldable pub settled : Function → P.Option Cone → P.Option Cone → List Cone → List Cone
+settled (Unary w answers) first second wires = renewed w first wires
+settled (Binary u v answers) first second wires = renewed v second (renewed u first wires)
+
+pub settled_long : (f : Function) (first second : P.Option Cone) (wires : List Cone) → length (settled f first second wires) ≡ length wires
+unfolding settled
+settled_long (Unary w answers) first second wires = renewed_long w first wires
+settled_long (Binary u v answers) first second wires = renewed_long v second (renewed u first wires) ∙ renewed_long u first wires
 
 -- map_next, which does not read the gate's line
 unfoldable pub gate_next : Settings → List Output → State → Function → Result State
@@ -120,40 +118,25 @@ module _ (id : ℕ) where
 
 -- ---- laws: what a gate reads
 
-pub second_in : (n : ℕ) (f : Function) → GoodFunction n f → (w : Wire) → w ≡ second_of f → (m : ℕ) → m ≡ n → WireIn m w
-second_in n f g w e m q = rw (e, q) g.second
-
--- the two answers of a unary gate
-two_answers : (l : List ℕ) → length l ≡ 2 → l ≡ get_or l 0 0 ∷ get_or l 1 0 ∷ []
-two_answers (x ∷ y ∷ []) h = refl
-two_answers (x ∷ y ∷ z ∷ l) h = absurd (omega arith)
-two_answers (x ∷ []) h = absurd (omega arith)
-two_answers [] h = absurd (omega arith)
-
-two_bits : (l : List ℕ) → length l ≡ 2 → all_bits l ≡ true → (get_or l 0 0 ≤ 1) × (get_or l 1 0 ≤ 1)
-unfolding all_bits
-two_bits l e h =
-    let f : all_bits (get_or l 0 0 ∷ get_or l 1 0 ∷ []) ≡ true = ap all_bits (sym (two_answers l e)) ∙ h in
-    (leb-true (get_or l 0 0) 1 (both_left _ _ f), leb-true (get_or l 1 0) 1 (both_left _ _ (both_right (leb (get_or l 0 0) 1) _ f)))
+-- the second one of a binary gate, when the first one's cone has its place
+pub second_in : (n m : ℕ) (f : Function) → GoodFunction n f → m ≡ n → (u v : Wire) (l : List ℕ) → f ≡ Binary u v l → WireIn m v
+second_in n m f g q u v l e =
+    let r : Reads n (Binary u v l) = subst (Reads n) e g.reads in
+    subst (λ k. WireIn k v) (sym q) r.1
 
 module _ (n : ℕ) (f : Function) (g : GoodFunction n f) (l : List ℕ) where
-  pub unary_bits : (w : Wire) → f ≡ Unary w l → length l ≡ 2 → (get_or l 0 0 ≤ 1) × (get_or l 1 0 ≤ 1)
-  unary_bits w e h = two_bits l h (ap (λ (k : Function). all_bits (answers_of k)) (sym e) ∙ g.bits)
+  pub unary_bits : (w : Wire) → f ≡ Unary w l → all_bits l ≡ true
+  unary_bits w e = ap (λ (k : Function). all_bits (answers_of k)) (sym e) ∙ g.bits
 
   pub binary_bits : (u v : Wire) → f ≡ Binary u v l → all_bits l ≡ true
   binary_bits u v e = ap (λ (k : Function). all_bits (answers_of k)) (sym e) ∙ g.bits
 
-pub unary_is : (s : Settings) (nodes : List LutNode) (wires : List Cone) (f : Function) (w : Wire) (l : List ℕ) → f ≡ Unary w l → length l ≡ 2 → (c : C.Cone) → c ≡ cone_at (map cone_of wires) w
-    → M.map_unary_gate s nodes c (get_or l 0 0 ∷ get_or l 1 0 ∷ []) ≡ map_gate s nodes (cones_of wires f) (answers_of f)
+pub unary_is : (s : Settings) (nodes : List LutNode) (wires : List Cone) (f : Function) (w : Wire) (l : List ℕ) → f ≡ Unary w l → (c : C.Cone) → c ≡ cone_at (map cone_of wires) w
+    → M.map_unary_gate s nodes c l ≡ map_gate s nodes (cones_of wires f) (answers_of f)
 unfolding map_gate
-unary_is s nodes wires f w l e long c q =
-    ap₂ (M.map_unary_gate s nodes) q (sym (two_answers l long))
+unary_is s nodes wires f w l e c q =
+    ap (λ k. M.map_unary_gate s nodes k l) q
     ∙ subst (λ (g : Function). M.map_unary_gate s nodes (cone_at (map cone_of wires) w) l ≡ map_gate s nodes (cones_of wires g) (answers_of g)) (sym e) refl
-
-replaced_is : (f : Function) (m : M.Mapped) (cones : List C.Cone) → replaced (wires_of f) m cones ≡ replace (second_of f) m.second (replace (first_of f) m.first cones)
-unfolding replaced
-replaced_is (Unary w answers) m cones = refl
-replaced_is (Binary u v answers) m cones = refl
 
 -- ---- laws: one gate mapped
 
@@ -166,7 +149,7 @@ grown_then {p} {old} {mid} {new} {a} {b} f g =
     record { least = omega arith; most = omega arith; centred = centres_then f.centred g.centred }
 
 unfoldable gate_result : S.Store → Mapped → M.Mapped
-gate_result store m = record { nodes = store_of store; cone = cone_of m.cone; first = update (side_of m.first); second = update (side_of m.second) }
+gate_result store m = record { nodes = store_of store; cone = cone_of m.cone; first = tried_of m.first; second = tried_of m.second }
 
 mapped_ok : (store : S.Store) (m : Mapped) → mapped_of store (P.Ok m) ≡ ok (gate_result store m)
 unfolding mapped_of gate_result
@@ -184,15 +167,16 @@ next_is : (s : Settings) (outputs : List Output) (st : State) (g : Gate)
 unfolding map_next next_with
 next_is s outputs st g = refl
 
-settled_cones : (f : Function) (store : S.Store) (m : Mapped) (own : Cone) (wires : List Cone)
-    → map cone_of (settled f m.first m.second own wires) ≡ replaced (wires_of f) (gate_result store m) (map cone_of wires) ++ (cone_of own ∷ [])
-unfolding settled gate_result
-settled_cones f store m own wires =
-    map-append cone_of (renewed (second_of f) m.second (renewed (first_of f) m.first wires)) (own ∷ [])
-    ∙ ap (λ l. l ++ (cone_of own ∷ []))
-    (renewed_cones (second_of f) m.second (renewed (first_of f) m.first wires)
-    ∙ ap (replace (second_of f) (update (side_of m.second))) (renewed_cones (first_of f) m.first wires)
-    ∙ sym (replaced_is f (gate_result store m) (map cone_of wires)))
+settled_cones : (f : Function) (store : S.Store) (m : Mapped) (wires : List Cone) → map cone_of (settled f m.first m.second wires) ≡ replaced (wires_of f) (gate_result store m) (map cone_of wires)
+unfolding settled gate_result replaced replace
+settled_cones (Unary w answers) store m wires = renewed_cones w m.first wires
+settled_cones (Binary u v answers) store m wires = renewed_cones v m.second (renewed u m.first wires) ∙ ap (replace v (tried_of m.second)) (renewed_cones u m.first wires)
+
+-- with the gate's own cone
+settled_own : (f : Function) (store : S.Store) (m : Mapped) (own : Cone) (wires : List Cone)
+    → map cone_of (settled f m.first m.second wires ++ (own ∷ [])) ≡ replaced (wires_of f) (gate_result store m) (map cone_of wires) ++ (cone_of own ∷ [])
+settled_own f store m own wires =
+    map-append cone_of (settled f m.first m.second wires) (own ∷ []) ∙ ap (λ l. l ++ (cone_of own ∷ [])) (settled_cones f store m wires)
 
 module _ (s : Settings) (outputs : List Output) (store : S.Store) (wires : List Cone) (f : Function) (force : Bool) (ef : force ≡ is_forced s outputs (length wires)) where
   next_force : gate_next s outputs (state_of store wires) f ≡ (map_gate s (store_of store) (cones_of wires f) (answers_of f) >>= next_with s force (wires_of f) (map cone_of wires))
@@ -217,22 +201,28 @@ module _ (s : Settings) (outputs : List Output) (store : S.Store) (wires : List 
           ∙ ap (λ x. x >>= next_with s force (wires_of f) (map cone_of wires)) (sym (mapped_ok after m) ∙ ap (mapped_of after) (sym e) ∙ em)
           ∙ sym next_force
 
-      pub gate_done : (slots : List Cone) → slots ≡ settled f m.first m.second b wires → next_read last slots (P.Ok tt) ≡ gate_next s outputs (state_of store wires) f
+      pub gate_done : (slots : List Cone) → slots ≡ settled f m.first m.second wires ++ (b ∷ []) → next_read last slots (P.Ok tt) ≡ gate_next s outputs (state_of store wires) f
       unfolding next_read state_of booted_of
       gate_done slots t =
-          ap (λ l. ok (record { nodes = store_of last; cones = l })) (ap (map cone_of) t ∙ settled_cones f after m b wires) ∙ next_boot
+          ap (λ l. ok (record { nodes = store_of last; cones = l })) (ap (map cone_of) t ∙ settled_own f after m b wires) ∙ next_boot
 
 -- the cones after a gate
-pub gate_wired : {p : ℕ} (store : S.Store) (wires : List Cone) (n : ℕ) (f : Function) (after : S.Store) (m : Mapped) (last : S.Store) (b : Cone) (slots : List Cone)
-    → Wired store wires n → Maps p store 4 after m → Boots p after last b → slots ≡ settled f m.first m.second b wires → Worked p store 6 last slots (n + 1)
+settled_wired : (store : S.Store) (f : Function) (first second : P.Option Cone) (wires : List Cone) (n : ℕ) → P.IfSome first (Stands (length (store_of store)))
+    → P.IfSome second (Stands (length (store_of store))) → Wired store wires n → Wired store (settled f first second wires) n
 unfolding settled
+settled_wired store (Unary w answers) first second wires n a b h = renewed_wired store w first wires n a h
+settled_wired store (Binary u v answers) first second wires n a b h = renewed_wired store v second (renewed u first wires) n b (renewed_wired store u first wires n a h)
+
+pub gate_wired : {p : ℕ} (store : S.Store) (wires : List Cone) (n : ℕ) (f : Function) (after : S.Store) (m : Mapped) (last : S.Store) (b : Cone) (slots : List Cone)
+    → Wired store wires n → Maps p store 4 after m → Boots p after last b → slots ≡ settled f m.first m.second wires ++ (b ∷ []) → Worked p store 6 last slots (n + 1)
 gate_wired store wires n f after m last b slots wired maps boots t =
     let grown = grown_then maps.grown boots.grown in
     let more : length (store_of after) ≤ length (store_of last) = boots.grown.least in
     let w0 = wired_more store last wires n wired grown.least in
-    let w1 = renewed_wired last (first_of f) m.first wires n (stands_more (length (store_of after)) (length (store_of last)) _ more maps.first) w0 in
-    let w2 = renewed_wired last (second_of f) m.second (renewed (first_of f) m.first wires) n (stands_more (length (store_of after)) (length (store_of last)) _ more maps.second) w1 in
-    record { wired = wired_push last _ b slots n t boots.stands w2; grown = grown }
+    let first = some_stands_more (length (store_of after)) (length (store_of last)) _ more maps.first in
+    let second = some_stands_more (length (store_of after)) (length (store_of last)) _ more maps.second in
+    let w = settled_wired last f m.first m.second wires n first second w0 in
+    record { wired = wired_push last _ b slots n t boots.stands w; grown = grown }
 
 -- ---- laws: one cone forced
 

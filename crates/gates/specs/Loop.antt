@@ -1,7 +1,7 @@
 -- The loop over the gates: what is left of them on the way, and each turn.
 use Rattle.std.specs.Prelude as P
-use Rattle.std.specs.Prelude.{◌≡◌, ⊤, Bool, ℕ, ◌+◌, ◌*◌, ◌≤◌, ◌<◌, length, drop, IsOk, OnOk}
-use Rattle.std.proofs.Math.Path.{refl, sym, ap, ap₂}
+use Rattle.std.specs.Prelude.{◌≡◌, ⊤, ℕ, ◌+◌, ◌*◌, ◌≤◌, ◌<◌, length, drop, IsOk, OnOk}
+use Rattle.std.proofs.Math.Path.{refl, sym, ap}
 use Rattle.std.proofs.Common.{subst, true≢false, ◌∙◌, add-one, drop_of_length-le, drop-cons}
 use mathlib.Core.List.{List, map}
 use native.Mathlib.Omega.{arith}
@@ -11,7 +11,7 @@ use Rattle.rules.specs.declared.Refusal.{Refusal}
 use Rattle.rules.specs.declared.Settings.{Settings}
 use Rattle.rules.specs.Circuit.{Output}
 use Rattle.rules.specs.Form.{Reading}
-use Rattle.rules.specs.Mapper.{State, is_forced, at_line, and_then, map_next, map_gates}
+use Rattle.rules.specs.Mapper.{State, at_line, and_then, map_next, map_gates}
 use Rattle.forms.specs.declared.Output as O
 use Rattle.forms.specs.Forms.{output_of}
 use Rattle.circuit.specs.declared.Function.{Function}
@@ -57,6 +57,14 @@ module _ (s : Settings) (outputs : List Output) (gates : List G.Gate) where
   unfolding gates_from state_read map_gates
   gates_done i store wires h = rw (drop_of_length-le gates {i = i} h) refl
 
+-- a refusal gets its line
+pub lined : (line : ℕ) (Gives : Reason → Refusal → Type 0) → ((e : Reason) (d : Refusal) → Gives e d → d ≡ record { reason = e; line = line }) → (next : P.Result ⊤ Reason) (r : P.Result ⊤ Refusal)
+    → P.MatchResult next (λ x. r ≡ P.Ok x) (λ e. P.IsErrAnd r (Gives e)) → (store : S.Store) (wires : List Cone) → state_read store wires r ≡ at_line line (next_read store wires next)
+unfolding at_line next_read state_read
+lined line Gives told (P.Ok x) r h store wires = ap (state_read store wires) h
+lined line Gives told (P.Err e) (P.Err d) h store wires = ap (λ (k : Refusal). state_read store wires (P.Err k)) (told e d h)
+lined line Gives told (P.Err e) (P.Ok x) h store wires = absurd h
+
 pub worked_next : {p : ℕ} {old mid new : S.Store} {wires slots : List Cone} (i m : ℕ) → Worked p old (6 * i) mid wires (m + i) → Worked p mid 6 new slots (length wires + 1)
     → Worked p old (6 * (i + 1)) new slots (m + (i + 1))
 worked_next {p} {old} {mid} {new} {wires} {slots} i m a b =
@@ -85,13 +93,11 @@ next_asks inputs gates items q g i d h old store wires e w =
       (omega arith, (subst (Wired store wires) (sym c) w.wired, subst (λ n. GoodFunction n (get_or items i d).function) (sym c) good)),
     )
 
--- what one gate leaves, as the code counts the cones and has the outputs
-pub turn_is : (s : Settings) (store : S.Store) (wires : List Cone) (last : S.Store) (slots : List Cone) (force : Bool) (f : Function) (r : P.Result ⊤ Reason) (os items : List O.Output) → items ≡ os
-    → (n : ℕ) → n ≡ length wires → force ≡ is_forced s (map output_of items) n
-    → ((outputs : List Output) → force ≡ is_forced s outputs (length wires) → next_read last slots r ≡ gate_next s outputs (state_of store wires) f)
+-- what one gate leaves, as the code has the outputs
+pub turn_is : (s : Settings) (store : S.Store) (wires : List Cone) (last : S.Store) (slots : List Cone) (f : Function) (r : P.Result ⊤ Reason) (os items : List O.Output) → items ≡ os
+    → next_read last slots r ≡ gate_next s (map output_of items) (state_of store wires) f
     → next_read last slots r ≡ gate_next s (map output_of os) (state_of store wires) f
-turn_is s store wires last slots force f r os items q n e ef is =
-    is (map output_of os) (ef ∙ ap₂ (λ l k. is_forced s (map output_of l) k) q e)
+turn_is s store wires last slots f r os items q is = is ∙ ap (λ l. gate_next s (map output_of l) (state_of store wires) f) q
 
 pub worked_as : {A : Type 0} (r : P.Result ⊤ Reason) → IsOk r → OnOk r A → A
 worked_as (P.Ok t) h a = a

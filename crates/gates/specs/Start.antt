@@ -15,7 +15,7 @@ use Rattle.theorems.specs.Weights.{GoodWeight}
 use Rattle.forms.specs.declared.Input as I
 use Rattle.forms.specs.Forms.{given_of}
 use Rattle.cone.specs.declared.Cone.{Cone}
-use Rattle.cone.specs.View.{cone_of, IsCone}
+use Rattle.cone.specs.View.{cone_of}
 use Rattle.cone.specs.Sources.{identity_stands}
 use Rattle.nodes.specs.declared.store.Store.{Store}
 use Rattle.nodes.specs.Store.{store_of, Centred, Adds}
@@ -59,7 +59,7 @@ started_none store wires e f =
 
 -- one more
 module _ (inputs : List Given) (store : Store) (wires : List Cone) (h : Started inputs store wires) (g : Given) (last : Store) (a : Adds 0 (Input g) store last)
-    (slots : List Cone) (c : Cone) (is : IsCone c) (own : cone_of c ≡ identity (length inputs)) (t : slots ≡ wires ++ (c ∷ [])) where
+    (slots : List Cone) (c : Cone) (own : cone_of c ≡ identity (length inputs)) (t : slots ≡ wires ++ (c ∷ [])) where
   one_more : length (store_of last) ≡ length inputs + 1
   one_more = ap length a.store ∙ length-append (store_of store) (Input g ∷ []) ∙ ap (λ k. k + 1) (started_count inputs store wires h)
 
@@ -75,7 +75,7 @@ module _ (inputs : List Given) (store : Store) (wires : List Cone) (h : Started 
       let long = length-append inputs (g ∷ []) in
       record {
         wired = rw long
-            (wired_push last wires c slots (length inputs) t (identity_stands (length (store_of last)) (length inputs) c (omega (arith, one_more)) is own)
+            (wired_push last wires c slots (length inputs) t (identity_stands (length (store_of last)) (length inputs) c (omega (arith, one_more)) own)
             (wired_more store last wires (length inputs) h.wired (omega (arith, one_more, started_count inputs store wires h))));
         centred = λ p. a.centred p refl (h.centred p);
         state = ap₂ {C = State} (λ ns cs. record { nodes = ns; cones = cs })

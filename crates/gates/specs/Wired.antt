@@ -1,21 +1,18 @@
--- The store and the cones of the circuit's nodes on the way: what holds of them, and what a side that was bootstrapped changes.
-use Rattle.std.specs.Prelude.{◌≡◌, Bool, List, [], ◌∷◌, ◌++◌, map, ℕ, ◌+◌, ◌≤◌, ◌<◌, length, get_or, set, All}
-use Rattle.std.proofs.Common.{◌∙◌, sym, refl, ap, subst, arith, true, false, zero, suc, length-append, length-set}
-use Rattle.std.proofs.Math.Option.{some, none}
+-- The store and the cones of the circuit's nodes on the way: what holds of them, and what a bootstrapped cone changes.
+use Rattle.std.specs.Prelude.{◌≡◌, Option, Some, None, IfSome, List, [], ◌∷◌, ◌++◌, map, ℕ, ◌+◌, ◌≤◌, ◌<◌, length, get_or, set, All}
+use Rattle.std.proofs.Common.{◌∙◌, sym, refl, ap, subst, arith, zero, suc, length-append, length-set}
 use Rattle.std.proofs.lemmas.List.{get_or-map}
 use Rattle.std.proofs.lemmas.List.Elements.{All-push, All-set}
-use Rattle.laws.specs.Test.{if◌then◌otherwise◌, if_both}
 use Rattle.rules.specs.declared.Wire.{Wire}
 use Rattle.rules.specs.declared.Wire.TheVariants.{Const, Node}
 use Rattle.rules.specs.Cone.{constant}
-use Rattle.rules.specs.Mapper.{State, cone_at, replace, update}
+use Rattle.rules.specs.Mapper.{State, cone_at, replace}
 use Rattle.cone.specs.declared.Cone.{Cone}
-use Rattle.cone.specs.declared.order.Side.{Side}
 use Rattle.cone.specs.View.{cone_of}
-use Rattle.cone.specs.Order.{side_of}
 use Rattle.cone.specs.Sources.{Stands}
 use Rattle.nodes.specs.declared.store.Store.{Store}
 use Rattle.nodes.specs.Store.{store_of}
+use Rattle.gate.specs.View.{tried_of}
 
 -- ---- What is held.
 
@@ -32,16 +29,21 @@ pub record Wired (store : Store) (wires : List Cone) (n : ℕ) : Type 0 where
   pub count : length wires ≡ n
   pub stands : All (Stands (length (store_of store))) wires
 
--- A bootstrapped side takes its wire's place, if that is no constant.
-unfoldable pub renewed : Wire → Side → List Cone → List Cone
-renewed (Const b) side wires = wires
-renewed (Node i) side wires = if side.new then set wires i side.cone otherwise wires
+-- A bootstrapped cone takes its wire's place, if that is no constant.
+unfoldable pub renewed : Wire → Option Cone → List Cone → List Cone
+renewed (Const b) update wires = wires
+renewed (Node i) None wires = wires
+renewed (Node i) (Some c) wires = set wires i c
 
 -- ---- laws: more nodes
 
 pub stands_more : (count more : ℕ) (c : Cone) → count ≤ more → Stands count c → Stands more c
 stands_more count more c h s =
-    record { cone = s.cone; below = record { at = λ i l. (let b = s.below.at i l in omega arith) } }
+    record { below = record { at = λ i l. (let b = s.below.at i l in omega arith) } }
+
+pub some_stands_more : (count more : ℕ) (update : Option Cone) → count ≤ more → IfSome update (Stands count) → IfSome update (Stands more)
+some_stands_more count more None h s = tt
+some_stands_more count more (Some c) h s = stands_more count more c h s
 
 pub wired_more : (store after : Store) (wires : List Cone) (n : ℕ) → Wired store wires n → length (store_of store) ≤ length (store_of after) → Wired after wires n
 wired_more store after wires n w h = record { count = w.count; stands = λ i d l. stands_more (length (store_of store)) (length (store_of after)) _ h (w.stands i d l) }
@@ -60,40 +62,46 @@ wired_push store wires c after n e s w =
 
 -- ---- laws: a wire that is read
 
-pub node_cone : (wires items : List Cone) → items ≡ wires → (w : Wire) (i : ℕ) (d : Cone) → w ≡ Node i → WireIn (length wires) w → cone_of (get_or items i d) ≡ cone_at (map cone_of wires) w
-unfolding cone_at
-node_cone wires items q w i d e h =
-    let l : i < length wires = rw e at h in
-    rw e (ap (λ x. cone_of (get_or x i d)) q ∙ sym (get_or-map cone_of wires i d (constant 0) l))
+-- c is what stands at place i
+module _ (wires items : List Cone) (q : items ≡ wires) (w : Wire) (i : ℕ) (c : Cone) (e : w ≡ Node i) (h : WireIn (length wires) w) (r : c ≡ get_or items i c) where
+  at_wire : c ≡ get_or wires i c
+  at_wire = r ∙ ap (λ l. get_or l i c) q
+
+  pub node_cone : cone_of c ≡ cone_at (map cone_of wires) w
+  unfolding cone_at
+  node_cone =
+      let l : i < length wires = rw e at h in
+      rw e (ap cone_of at_wire ∙ sym (get_or-map cone_of wires i c (constant 0) l))
+
+  pub node_stands : (store : Store) (n : ℕ) → Wired store wires n → Stands (length (store_of store)) c
+  node_stands store n k = let l : i < length wires = rw e at h in subst (Stands (length (store_of store))) (sym at_wire) (k.stands i c l)
 
 pub constant_cone : (wires : List Cone) (w : Wire) (b : ℕ) (c : Cone) → w ≡ Const b → cone_of c ≡ constant b → cone_of c ≡ cone_at (map cone_of wires) w
 unfolding cone_at
 constant_cone wires w b c e f = rw e f
 
--- ---- laws: the sides that were bootstrapped
+-- ---- laws: the cones that were bootstrapped
 
 map_set : (wires : List Cone) (i : ℕ) (c : Cone) → map cone_of (set wires i c) ≡ set (map cone_of wires) i (cone_of c)
 map_set [] i c = refl
 map_set (w ∷ wires) zero c = refl
 map_set (w ∷ wires) (suc i) c = ap (λ l. cone_of w ∷ l) (map_set wires i c)
 
-pub renewed_cones : (wire : Wire) (side : Side) (wires : List Cone) → map cone_of (renewed wire side wires) ≡ replace wire (update (side_of side)) (map cone_of wires)
-unfolding renewed replace update side_of
-renewed_cones (Const b) side wires = refl
-renewed_cones (Node i) side wires = by side.new
-  where
-    by : (b : Bool) → map cone_of (if b then set wires i side.cone otherwise wires) ≡ replace (Node i) (if b then some (cone_of side.cone) otherwise none) (map cone_of wires)
-    by true = map_set wires i side.cone
-    by false = refl
+pub renewed_cones : (wire : Wire) (update : Option Cone) (wires : List Cone) → map cone_of (renewed wire update wires) ≡ replace wire (tried_of update) (map cone_of wires)
+unfolding renewed replace
+renewed_cones (Const b) update wires = refl
+renewed_cones (Node i) None wires = refl
+renewed_cones (Node i) (Some c) wires = map_set wires i c
 
-pub renewed_long : (wire : Wire) (side : Side) (wires : List Cone) → length (renewed wire side wires) ≡ length wires
+pub renewed_long : (wire : Wire) (update : Option Cone) (wires : List Cone) → length (renewed wire update wires) ≡ length wires
 unfolding renewed
-renewed_long (Const b) side wires = refl
-renewed_long (Node i) side wires = if_both {A = List Cone} (λ l. length l ≡ length wires) side.new (length-set wires i side.cone) refl
+renewed_long (Const b) update wires = refl
+renewed_long (Node i) None wires = refl
+renewed_long (Node i) (Some c) wires = length-set wires i c
 
-pub renewed_wired : (store : Store) (wire : Wire) (side : Side) (wires : List Cone) (n : ℕ) → Stands (length (store_of store)) side.cone → Wired store wires n → Wired store (renewed wire side wires) n
+pub renewed_wired : (store : Store) (wire : Wire) (update : Option Cone) (wires : List Cone) (n : ℕ) → IfSome update (Stands (length (store_of store))) → Wired store wires n
+    → Wired store (renewed wire update wires) n
 unfolding renewed
-renewed_wired store (Const b) side wires n s w = w
-renewed_wired store (Node i) side wires n s w =
-    if_both (λ l. Wired store l n) side.new
-    (record { count = length-set wires i side.cone ∙ w.count; stands = All-set (Stands (length (store_of store))) wires i side.cone s w.stands }) w
+renewed_wired store (Const b) update wires n s w = w
+renewed_wired store (Node i) None wires n s w = w
+renewed_wired store (Node i) (Some c) wires n s w = record { count = length-set wires i c ∙ w.count; stands = All-set (Stands (length (store_of store))) wires i c s w.stands }

@@ -4,13 +4,10 @@
 
 pub mod start;
 
-ghost use Rattle.std.specs.Prelude.{◌≡◌, true, List, map, ℕ, ◌+◌, ◌*◌, ◌≤◌, ◌<◌, length, IfOk, OnOk, IsOk};
-ghost use Rattle.rules.specs.Circuit as C;
-ghost use Rattle.rules.specs.CircuitText.{in_limits};
-ghost use Rattle.rules.specs.Mapper.{is_basic, used_settings, leads_to, is_forced, at_line, cone_at, map_gate, map_gates};
+ghost use Rattle.std.specs.Prelude.{◌≡◌, map, ℕ, ◌+◌, ◌*◌, ◌≤◌, ◌<◌, length, IfOk, OnOk};
+ghost use Rattle.rules.specs.Mapper.{used_settings, is_forced, cone_at, map_gate, map_gates};
 ghost use Rattle.forms.specs.Forms.{output_of};
 ghost use Rattle.circuit.specs.View.{answers_of, gate_of};
-ghost use Rattle.cone.specs.declared.Cone.{Cone};
 ghost use Rattle.cone.specs.View.{cone_of};
 ghost use Rattle.cone.specs.Sources.{Stands};
 ghost use Rattle.nodes.specs.declared.store.Store as S;
@@ -18,31 +15,24 @@ ghost use Rattle.nodes.specs.Store.{store_of};
 ghost use Rattle.bootstrap.specs.View.{Boots, booted_of};
 ghost use Rattle.gate.specs.View.{Maps, mapped_of};
 ghost use Rattle.gates.specs.Wired.{WireIn, Wired, renewed, state_of};
-ghost use Rattle.gates.specs.Gates.{named, forced_cone, first_of, second_of, cones_of, settled, GoodFunction, GoodGates, gate_next, next_read, state_read, Worked};
+ghost use Rattle.gates.specs.Gates.{named, forced_cone, cones_of, settled, GoodFunction, GoodGates, gate_next, next_read, state_read, Worked};
 
 use arrayvec::ArrayVec;
 use bootstrap::boot::bootstrap_cone;
 use circuit::{Circuit, Function};
 use cone::Cone;
-use cone::order::Side;
+use cone::settings::ValidSettings;
 use forms::Output;
-use gate::map::{Mapped, map_two, map_unary};
+use gate::map::{Mapped, map_unary, map_with_two_wires};
 use nodes::store::Store;
-use rules::{Policy, Reason, Refusal, Settings, Wire};
-
-#[tactic(auto, unfolding(rules::specs::Mapper::is_basic))]
-pub fn is_basic(policy: Policy) -> bool
-    ensures { result ≡ is_basic policy }
-{
-    matches!(policy, Policy::Basic)
-}
+use rules::{Reason, Refusal, Settings, Wire};
 
 // The settings as they are used: Basic's are its own.
 #[tactic(auto, unfolding(rules::specs::Mapper::used_settings))]
-pub fn used(s: Settings) -> Settings
+pub fn used_settings(s: Settings) -> Settings
     ensures { result ≡ used_settings s }
 {
-    if !is_basic(s.policy) {
+    if !s.policy.is_basic() {
         return s;
     }
     Settings {
@@ -52,21 +42,14 @@ pub fn used(s: Settings) -> Settings
     }
 }
 
+// An output names the node: by the cases of its wire, as the definition has it.
 #[tactic(auto, unfolding(rules::specs::Mapper::leads_to))]
-fn leads_to(id: usize, wire: Wire) -> bool
-    ensures { result ≡ leads_to id wire }
-{
-    match wire {
-        Wire::Const(_) => false,
-        Wire::Node(node) => id == node,
-    }
-}
-
-// An output names the node.
 fn is_output(outputs: &[Output<'_>], id: usize) -> bool
     ensures { result ≡ named id (map output_of outputs.now) }
 {
-    outputs.iter().any(|o| leads_to(id, o.wire))
+    outputs
+        .iter()
+        .any(|o| matches!(o.wire, Wire::Node(node) if node == id))
 }
 
 // Basic bootstraps every gate; with one table a sum, the gates that an output names are.
@@ -74,7 +57,7 @@ fn is_output(outputs: &[Output<'_>], id: usize) -> bool
 fn is_forced(s: Settings, outputs: &[Output<'_>], id: usize) -> bool
     ensures { result ≡ is_forced s (map output_of outputs.now) id }
 {
-    is_basic(s.policy) || (!s.many && is_output(outputs, id))
+    s.policy.is_basic() || (!s.many && is_output(outputs, id))
 }
 
 // The cone of a wire.
@@ -89,22 +72,23 @@ pub fn wire_cone(wires: &ArrayVec<Cone, 128>, wire: Wire) -> Cone
     }
 }
 
-// map_gate
+// map_gate: the function over the cones of its wires. Store and wires are no struct: here the wires are read while the store changes, and
+// `update_wires` changes them alone.
 fn map_gate(
-    s: Settings,
+    s: ValidSettings,
     store: &mut Store,
     wires: &ArrayVec<Cone, 128>,
     function: Function,
 ) -> Result<Mapped, Reason>
-    requires { (in_limits s ≡ true) × ((length (store_of store.old) + 4 ≤ 672) × (Wired store.old wires.now.items (length wires.now.items) × GoodFunction (length wires.now.items) function)) }
-    ensures is { mapped_of store.new result ≡ map_gate s (store_of store.old) (cones_of wires.now.items function) (answers_of function) }
-    ensures stands { IfOk result (λ m. Maps s.p store.old 4 store.new m) }
+    requires { (length (store_of store.old) + 4 ≤ 672) × (Wired store.old wires.now.items (length wires.now.items) × GoodFunction (length wires.now.items) function) }
+    ensures is { mapped_of store.new result ≡ map_gate s.settings (store_of store.old) (cones_of wires.now.items function) (answers_of function) }
+    ensures stands { IfOk result (λ m. Maps s.settings.p store.old 4 store.new m) }
 {
     match function {
         Function::Unary(wire, answers) => {
-            map_unary(s, store, wire_cone(wires, wire), answers[0], answers[1])
+            map_unary(s.settings, store, wire_cone(wires, wire), answers)
         }
-        Function::Binary(left, right, answers) => map_two(
+        Function::Binary(left, right, answers) => map_with_two_wires(
             s,
             store,
             wire_cone(wires, left),
@@ -114,96 +98,91 @@ fn map_gate(
     }
 }
 
-// The gate's own cone, bootstrapped where the policy or an output asks for it.
-fn forced(s: Settings, store: &mut Store, c: Cone, force: bool) -> Cone
-    requires { (in_limits s ≡ true) × ((length (store_of store.old) + 2 ≤ 672) × Stands (length (store_of store.old)) c) }
-    ensures is { booted_of store.new result ≡ forced_cone force s (store_of store.old) (cone_of c) }
-    ensures stands { Boots s.p store.old store.new result }
+// The cone of the gate of that number, bootstrapped where the policy or an output asks for it.
+fn forced(
+    s: ValidSettings,
+    store: &mut Store,
+    outputs: &[Output<'_>],
+    id: usize,
+    cone: Cone,
+) -> Cone
+    requires { (length (store_of store.old) + 2 ≤ 672) × Stands (length (store_of store.old)) cone }
+    ensures is { booted_of store.new result ≡ forced_cone (is_forced s.settings (map output_of outputs.now) id) s.settings (store_of store.old) (cone_of cone) }
+    ensures stands { Boots s.settings.p store.old store.new result }
 {
-    if force {
-        return bootstrap_cone(s, store, c);
+    if is_forced(s.settings, outputs, id) {
+        return bootstrap_cone(s, store, cone);
     }
-    c
+    cone
 }
 
-// The gate's wires. A second one that there is not is a constant, which no side replaces.
-fn wires_of(function: Function) -> (Wire, Wire)
-    ensures { (result.0 ≡ first_of function) × (result.1 ≡ second_of function) }
+// A bootstrapped cone takes its wire's place; a constant keeps its cone.
+#[tactic(auto, unfolding(crate::specs::Wired::renewed))]
+fn update_wire(wires: &mut ArrayVec<Cone, 128>, wire: Wire, update: Option<Cone>)
+    requires { WireIn (length wires.old.items) wire }
+    ensures { wires.new.items ≡ renewed wire update wires.old.items }
+{
+    if let (Wire::Node(id), Some(cone)) = (wire, update) {
+        wires[id] = cone;
+    }
+}
+
+// The gate's bootstrapped cones take the places of their wires.
+#[tactic(auto, unfolding(crate::specs::Gates::settled))]
+fn update_wires(
+    wires: &mut ArrayVec<Cone, 128>,
+    function: Function,
+    first: Option<Cone>,
+    second: Option<Cone>,
+)
+    requires { GoodFunction (length wires.old.items) function }
+    ensures { wires.new.items ≡ settled function first second wires.old.items }
 {
     match function {
-        Function::Unary(wire, _) => (wire, Wire::Const(0)),
-        Function::Binary(left, right, _) => (left, right),
+        Function::Unary(wire, _) => update_wire(wires, wire, first),
+        Function::Binary(left, right, _) => {
+            update_wire(wires, left, first);
+            update_wire(wires, right, second);
+        }
     }
-}
-
-// A side that was bootstrapped takes its wire's place; a constant keeps its cone.
-#[tactic(auto, unfolding(crate::specs::Wired::renewed))]
-fn put_new(wires: &mut ArrayVec<Cone, 128>, wire: Wire, side: Side)
-    requires { WireIn (length wires.old.items) wire }
-    ensures { wires.new.items ≡ renewed wire side wires.old.items }
-{
-    let Wire::Node(id) = wire else {
-        return;
-    };
-    if side.new {
-        wires[id] = side.cone;
-    }
-}
-
-// What a gate leaves among the cones: of its own wires, and its cone.
-#[tactic(auto, unfolding(crate::specs::Gates::settled))]
-fn settle(wires: &mut ArrayVec<Cone, 128>, function: Function, first: Side, second: Side, own: Cone)
-    requires { (length wires.old.items < 128) × GoodFunction (length wires.old.items) function }
-    ensures { wires.new.items ≡ settled function first second own wires.old.items }
-{
-    let (left, right) = wires_of(function);
-    put_new(wires, left, first);
-    put_new(wires, right, second);
-    wires.push(own);
 }
 
 // One gate, which is the circuit's next node.
 fn map_one(
-    s: Settings,
+    s: ValidSettings,
     store: &mut Store,
     wires: &mut ArrayVec<Cone, 128>,
+    outputs: &[Output<'_>],
     function: Function,
-    force: bool,
 ) -> Result<(), Reason>
-    requires { (in_limits s ≡ true) × ((length (store_of store.old) + 6 ≤ 672) × ((length wires.old.items < 128) × (Wired store.old wires.old.items (length wires.old.items) × GoodFunction (length wires.old.items) function))) }
-    ensures is { (outputs : List C.Output) → force ≡ is_forced s outputs (length wires.old.items) → next_read store.new wires.new.items result ≡ gate_next s outputs (state_of store.old wires.old.items) function }
-    ensures works { OnOk result (Worked s.p store.old 6 store.new wires.new.items (length wires.old.items + 1)) }
+    requires { (length (store_of store.old) + 6 ≤ 672) × ((length wires.old.items < 128) × (Wired store.old wires.old.items (length wires.old.items) × GoodFunction (length wires.old.items) function)) }
+    ensures is { next_read store.new wires.new.items result ≡ gate_next s.settings (map output_of outputs.now) (state_of store.old wires.old.items) function }
+    ensures works { OnOk result (Worked s.settings.p store.old 6 store.new wires.new.items (length wires.old.items + 1)) }
 {
-    let m = map_gate(s, store, wires, function)?;
-    let own = forced(s, store, m.cone, force);
-    settle(wires, function, m.first, m.second, own);
+    let mapped = map_gate(s, store, wires, function)?;
+    let own = forced(s, store, outputs, wires.len(), mapped.cone);
+    update_wires(wires, function, mapped.first, mapped.second);
+    wires.push(own);
     Ok(())
-}
-
-// A refusal gets its line.
-#[tactic(auto, unfolding(rules::specs::Mapper::at_line, crate::specs::Gates::next_read, crate::specs::Gates::state_read))]
-fn at_line(line: usize, next: Result<(), Reason>) -> Result<(), Refusal>
-    ensures is { (store : S.Store) (wires : List Cone) → state_read store wires result ≡ at_line line (next_read store wires next) }
-    ensures good { OnOk result (IsOk next) }
-{
-    next.map_err(|reason| Refusal { reason, line })
 }
 
 // The loop of map_once over the gates. Asks that the inputs are the nodes, each its own cone.
 pub fn map_gates(
-    s: Settings,
+    s: ValidSettings,
     store: &mut Store,
     wires: &mut ArrayVec<Cone, 128>,
-    c: &Circuit<'_>,
+    circuit: &Circuit<'_>,
 ) -> Result<(), Refusal>
-    requires { (in_limits s ≡ true) × ((length (store_of store.old) ≡ length c.now.inputs.items) × (Wired store.old wires.old.items (length c.now.inputs.items) × GoodGates (length c.now.inputs.items) c.now.gates.items)) }
-    ensures is { state_read store.new wires.new.items result ≡ map_gates s (map output_of c.now.outputs.items) (state_of store.old wires.old.items) (map gate_of c.now.gates.items) }
-    ensures works { OnOk result (Worked s.p store.old (6 * length c.now.gates.items) store.new wires.new.items (length c.now.inputs.items + length c.now.gates.items)) }
+    requires { (length (store_of store.old) ≡ length circuit.now.inputs.items) × (Wired store.old wires.old.items (length circuit.now.inputs.items) × GoodGates (length circuit.now.inputs.items) circuit.now.gates.items) }
+    ensures is { state_read store.new wires.new.items result ≡ map_gates s.settings (map output_of circuit.now.outputs.items) (state_of store.old wires.old.items) (map gate_of circuit.now.gates.items) }
+    ensures works { OnOk result (Worked s.settings.p store.old (6 * length circuit.now.gates.items) store.new wires.new.items (length circuit.now.inputs.items + length circuit.now.gates.items)) }
 {
-    for gate in c.gates.iter() {
-        let force = is_forced(s, &c.outputs, wires.len());
-        let next = map_one(s, store, wires, gate.function, force);
-        at_line(gate.line, next)?;
+    for gate in circuit.gates.iter() {
+        let next = map_one(s, store, wires, &circuit.outputs, gate.function);
+        next.map_err(|reason| Refusal {
+            reason,
+            line: gate.line,
+        })?;
     }
     Ok(())
 }

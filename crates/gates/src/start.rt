@@ -20,11 +20,12 @@ fn put_input(store: &mut Store, name: &[u8], weight: u8)
     store.push(LutNode::of_input(name, weight), 0);
 }
 
-pub fn start(c: &Circuit<'_>, store: &mut Store, wires: &mut ArrayVec<Cone, 128>)
-    requires { (store_of store.old ≡ []) × ((wires.old.items ≡ []) × GoodInputs (map given_of c.now.inputs.items)) }
-    ensures { Started (map given_of c.now.inputs.items) store.new wires.new.items }
+// The circuit's inputs become the first nodes, and each has its own cone among the wires.
+pub fn start(circuit: &Circuit<'_>, store: &mut Store, wires: &mut ArrayVec<Cone, 128>)
+    requires { (store_of store.old ≡ []) × ((wires.old.items ≡ []) × GoodInputs (map given_of circuit.now.inputs.items)) }
+    ensures { Started (map given_of circuit.now.inputs.items) store.new wires.new.items }
 {
-    for (i, input) in c.inputs.iter().enumerate() {
+    for (i, input) in circuit.inputs.iter().enumerate() {
         put_input(store, input.name, input.weight);
         wires.push(Cone::identity(i));
     }

@@ -1,7 +1,8 @@
 // The values of a linear form, one for each assignment of its sources, their span and the least of them. It leans on `scale`.
+// What a function asks of its coefficients (at most 11, each within 1984) is asked of a lent slice: a type of its own would be made for one call.
 #![tactic(auto)]
 
-ghost use Rattle.std.specs.Prelude.{◌≡◌, ◌≤◌, ◌^◌, length, take, nat_abs};
+ghost use Rattle.std.specs.Prelude.{◌≡◌, ◌≤◌, ◌^◌, length, nat_abs};
 ghost use Rattle.laws.specs.Over.{over};
 ghost use Rattle.rules.specs.Cone.{linear_table};
 ghost use Rattle.rules.specs.Span.{least, span};
@@ -54,14 +55,6 @@ pub fn linear_least(coefs: &[i64]) -> i64
         sum += c.min(0);
     }
     sum
-}
-
-// linear_table of the first coefficients of an array, as the callers have them from a cone or a node.
-pub fn values_of(coefs: [i64; 11], n: usize, table: &mut [i32])
-    requires { (n ≤ 11) × ((2 ^ n ≤ length table.old) × Within 1984 (take n coefs)) }
-    ensures { table.new ≡ over (linear_table (take n coefs)) table.old }
-{
-    linear_table(&coefs[..n], table);
 }
 
 // How many assignments n sources have.

@@ -3,3 +3,4 @@ pub mod Put
 pub mod Lines
 pub mod Lines2
 pub mod Front
+pub mod Answer

@@ -5,118 +5,117 @@ ghost use Rattle.rules.specs.Writing.{digits, limit_text, wire_text, weight_text
 ghost use Rattle.lines.specs.Put.{Put, Room};
 ghost use Rattle.lines.specs.Lines.{settings_text, in_text, term_text, out_text};
 
-use crate::put::{put, put_all, put_bits, put_number, put_signed};
+use crate::cursor::Cursor;
 use rules::{Limit, Wire};
 
 // NORM
-pub fn put_norm(out: &mut [u8], at: usize, norm: Limit) -> usize
-    requires { Room at (limit_text norm) }
-    ensures { Put at (limit_text norm) out.old result out.new }
+pub fn put_norm(cursor: &mut Cursor<'_>, norm: Limit)
+    requires { Room cursor.old.at (limit_text norm) }
+    ensures { Put (limit_text norm) cursor.old cursor.new }
 {
     match norm {
-        Limit::Unlimited => put_all(out, at, b"none"),
-        Limit::AtMost(k) => put_number(out, at, k),
+        Limit::Unlimited => cursor.put_all(b"none"),
+        Limit::AtMost(k) => cursor.put_number(k),
     }
 }
 
 // The first line, `(net P M NORM)` or `(net2 P M NORM)`, from the word that opens it.
 #[tactic(auto, using(crate::specs::Put::pieces))]
-pub fn put_net(out: &mut [u8], at: usize, word: &[u8], p: usize, m: usize, norm: Limit) -> usize
-    requires { Room at (settings_text word.now p m norm) }
-    ensures { Put at (settings_text word.now p m norm) out.old result out.new }
+pub fn put_net(cursor: &mut Cursor<'_>, word: &[u8], p: usize, m: usize, norm: Limit)
+    requires { Room cursor.old.at (settings_text word.now p m norm) }
+    ensures { Put (settings_text word.now p m norm) cursor.old cursor.new }
 {
-    let a = put_all(out, at, word);
-    let b = put_number(out, a, p);
-    let c = put(out, b, b' ');
-    let d = put_number(out, c, m);
-    let e = put(out, d, b' ');
-    let f = put_norm(out, e, norm);
-    put_all(out, f, b")\n")
+    cursor.put_all(word);
+    cursor.put_number(p);
+    cursor.put(b' ');
+    cursor.put_number(m);
+    cursor.put(b' ');
+    put_norm(cursor, norm);
+    cursor.put_all(b")\n");
 }
 
 // A blank and W; 1 is not written.
-fn put_weight(out: &mut [u8], at: usize, weight: usize) -> usize
-    requires { Room at (weight_text weight) }
-    ensures { Put at (weight_text weight) out.old result out.new }
+fn put_weight(cursor: &mut Cursor<'_>, weight: usize)
+    requires { Room cursor.old.at (weight_text weight) }
+    ensures { Put (weight_text weight) cursor.old cursor.new }
 {
-    if weight == 1 {
-        return at;
+    if weight != 1 {
+        cursor.put(b' ');
+        cursor.put_number(weight);
     }
-    let to = put(out, at, b' ');
-    put_number(out, to, weight)
 }
 
 // `(in NAME)` or `(in NAME W)`
 #[tactic(auto, using(crate::specs::Put::pieces), unfolding(crate::specs::Lines::in_text))]
-pub fn put_in(out: &mut [u8], at: usize, name: &[u8], weight: usize) -> usize
-    requires { Room at (in_text name.now weight) }
-    ensures { Put at (in_text name.now weight) out.old result out.new }
+pub fn put_in(cursor: &mut Cursor<'_>, name: &[u8], weight: usize)
+    requires { Room cursor.old.at (in_text name.now weight) }
+    ensures { Put (in_text name.now weight) cursor.old cursor.new }
 {
-    let a = put_all(out, at, b"(in ");
-    let b = put_all(out, a, name);
-    let c = put_weight(out, b, weight);
-    put_all(out, c, b")\n")
+    cursor.put_all(b"(in ");
+    cursor.put_all(name);
+    put_weight(cursor, weight);
+    cursor.put_all(b")\n");
 }
 
 // ` (COEF ID)`
 #[tactic(auto, using(crate::specs::Put::pieces), unfolding(crate::specs::Lines::term_text))]
-pub fn put_term(out: &mut [u8], at: usize, c: i64, node: usize) -> usize
+pub fn put_term(cursor: &mut Cursor<'_>, c: i64, node: usize)
     requires c_bound { nat_abs c ≤ 31 }
-    requires room { Room at (term_text c node) }
-    ensures { Put at (term_text c node) out.old result out.new }
+    requires room { Room cursor.old.at (term_text c node) }
+    ensures { Put (term_text c node) cursor.old cursor.new }
 {
-    let a = put_all(out, at, b" (");
-    let b = put_signed(out, a, c);
-    let d = put(out, b, b' ');
-    let e = put_number(out, d, node);
-    put(out, e, b')')
+    cursor.put_all(b" (");
+    cursor.put_signed(c);
+    cursor.put(b' ');
+    cursor.put_number(node);
+    cursor.put(b')');
 }
 
 // `(boot ID BITS)`
 #[tactic(auto, using(crate::specs::Put::pieces), unfolding(rules::specs::Writing::node_text))]
-pub fn put_boot(out: &mut [u8], at: usize, source: usize, table: &[u8]) -> usize
+pub fn put_boot(cursor: &mut Cursor<'_>, source: usize, table: &[u8])
     requires by_index { (i : ℕ) → get_or table.now i 0 ≤ 1 }
-    requires room { Room at (node_text (Bootstrap source table.now)) }
-    ensures { Put at (node_text (Bootstrap source table.now)) out.old result out.new }
+    requires room { Room cursor.old.at (node_text (Bootstrap source table.now)) }
+    ensures { Put (node_text (Bootstrap source table.now)) cursor.old cursor.new }
 {
-    let a = put_all(out, at, b"(boot ");
-    let b = put_number(out, a, source);
-    let c = put(out, b, b' ');
-    let d = put_bits(out, c, table);
-    put_all(out, d, b")\n")
+    cursor.put_all(b"(boot ");
+    cursor.put_number(source);
+    cursor.put(b' ');
+    cursor.put_bits(table);
+    cursor.put_all(b")\n");
 }
 
 // A bracket with a number in it, as wires are.
 #[tactic(auto, using(crate::specs::Put::pieces))]
-fn put_numbered(out: &mut [u8], at: usize, word: &[u8], n: usize) -> usize
-    requires { Room at (word.now ++ digits n ++ (41 ∷ [])) }
-    ensures { Put at (word.now ++ digits n ++ (41 ∷ [])) out.old result out.new }
+fn put_numbered(cursor: &mut Cursor<'_>, word: &[u8], n: usize)
+    requires { Room cursor.old.at (word.now ++ digits n ++ (41 ∷ [])) }
+    ensures { Put (word.now ++ digits n ++ (41 ∷ [])) cursor.old cursor.new }
 {
-    let a = put_all(out, at, word);
-    let b = put_number(out, a, n);
-    put(out, b, b')')
+    cursor.put_all(word);
+    cursor.put_number(n);
+    cursor.put(b')');
 }
 
 // WIRE
-fn put_wire(out: &mut [u8], at: usize, wire: Wire) -> usize
-    requires { Room at (wire_text wire) }
-    ensures { Put at (wire_text wire) out.old result out.new }
+fn put_wire(cursor: &mut Cursor<'_>, wire: Wire)
+    requires { Room cursor.old.at (wire_text wire) }
+    ensures { Put (wire_text wire) cursor.old cursor.new }
 {
     match wire {
-        Wire::Const(b) => put_numbered(out, at, b"(k ", b as usize),
-        Wire::Node(i) => put_numbered(out, at, b"(n ", i),
+        Wire::Const(b) => put_numbered(cursor, b"(k ", b as usize),
+        Wire::Node(i) => put_numbered(cursor, b"(n ", i),
     }
 }
 
 // `(out NAME WIRE)`
 #[tactic(auto, using(crate::specs::Put::pieces), unfolding(crate::specs::Lines::out_text))]
-pub fn put_out(out: &mut [u8], at: usize, name: &[u8], wire: Wire) -> usize
-    requires { Room at (out_text name.now wire) }
-    ensures { Put at (out_text name.now wire) out.old result out.new }
+pub fn put_out(cursor: &mut Cursor<'_>, name: &[u8], wire: Wire)
+    requires { Room cursor.old.at (out_text name.now wire) }
+    ensures { Put (out_text name.now wire) cursor.old cursor.new }
 {
-    let a = put_all(out, at, b"(out ");
-    let b = put_all(out, a, name);
-    let c = put(out, b, b' ');
-    let d = put_wire(out, c, wire);
-    put_all(out, d, b")\n")
+    cursor.put_all(b"(out ");
+    cursor.put_all(name);
+    cursor.put(b' ');
+    put_wire(cursor, wire);
+    cursor.put_all(b")\n");
 }

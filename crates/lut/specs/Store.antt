@@ -9,6 +9,7 @@ use Rattle.std.proofs.Math.Option.{Option, none, some, get_or}
 use Rattle.laws.specs.Test.{if◌then◌otherwise◌}
 use Rattle.rules.specs.declared.Wire.{Wire}
 use Rattle.rules.specs.declared.Wire.TheVariants.{Node}
+use Rattle.rules.specs.declared.Entry.{Entry}
 use Rattle.rules.specs.Builder.{Entries, opposed, completion, last_tried}
 use Rattle.rules.specs.Network.{LutNode, Linear, Bootstrap, node_at}
 use Rattle.rules.specs.Runs.{all_bits}
@@ -17,6 +18,7 @@ use Rattle.theorems.specs.Interned.{number-new}
 use Rattle.theorems.specs.NodesAt.{no_input}
 use Rattle.theorems.specs.Bits.{bit_at, all-bits_of}
 use Rattle.theorems.specs.Completions.{Completes, completes_bits, opposed_completes, completion_is}
+use Rattle.rotation.specs.Entries.{numbers, numbers-length, entries_of}
 use Rattle.lut.specs.First.{FirstOf, first_is, position_some, position_none}
 use Rattle.lut.specs.Order.{Arranged}
 use Rattle.nodes.specs.declared.node.LutNode as L
@@ -90,7 +92,7 @@ module _ (c : ℕ) (n : LutNode) (old : Store) where
 
 -- ---- laws: a sum, a bootstrap
 
-module _ (st : Store) (many : Bool) (t s : Terms) (g : GoodTerms (length (store_of st)) t) (a : Arranged t.n t.constant (linear_terms many (terms_in t)) s) where
+module _ (st : Store) (many : Bool) (t s : Terms) (g : GoodTerms (length (store_of st)) t) (a : Arranged (length t.terms.items) t.constant (linear_terms many (terms_in t)) s) where
   arranged_fine : FineTerms (length (store_of st)) (terms_in s)
   arranged_fine = rw a.are (fine_linear (length (store_of st)) many (terms_in t) g.fine)
 
@@ -98,9 +100,9 @@ module _ (st : Store) (many : Bool) (t s : Terms) (g : GoodTerms (length (store_
   arranged_good =
       record { few = omega (arith, a.few, g.few); near = rw a.same g.near; fine = fine_more (length (store_of st)) 672 (terms_in s) (store_few st) arranged_fine }
 
-  pub arranged_node : length s.coefs ≡ 11 → length s.sources ≡ 11 → (n : L.LutNode) → lut_node n ≡ Linear s.constant (terms_in s) → Fine (length (store_of st)) (lut_node n)
+  pub arranged_node : (n : L.LutNode) → lut_node n ≡ Linear s.constant (terms_in s) → Fine (length (store_of st)) (lut_node n)
   unfolding Fine
-  arranged_node e f n q = rw q (omega (arith, a.few, g.few, in_length s (omega (arith, a.few, g.few)) e f), rw a.same g.near, arranged_fine)
+  arranged_node n q = rw q (omega (arith, a.few, g.few, in_length s), rw a.same g.near, arranged_fine)
 
 pub ruleset arranged = (arranged_good, arranged_node)
 
@@ -113,15 +115,17 @@ tried_completes p known e = by (completion p known) refl
     by none q = opposed_completes known e p
     by (some t) q = (completion_is known e p t q).0
 
-module _ (p : ℕ) (known table : List ℕ) (k : Entries known) (e : table ≡ last_tried p known) where
-  bits : (i : ℕ) → P.get_or (last_tried p known) i 0 ≤ 1
-  bits i = bit_at (last_tried p known) i (completes_bits known (last_tried p known) (tried_completes p known k))
+module _ (p : ℕ) (known : List Entry) (table : List ℕ) (e : table ≡ last_tried p (numbers known)) where
+  bits : (i : ℕ) → P.get_or (last_tried p (numbers known)) i 0 ≤ 1
+  bits i = bit_at (last_tried p (numbers known)) i (completes_bits (numbers known) (last_tried p (numbers known)) (tried_completes p (numbers known) (entries_of known)))
 
   pub tried_bits : T (all_bits table)
-  tried_bits = rw e (all-bits_of (last_tried p known) (λ i h. bits i))
+  tried_bits = rw e (all-bits_of (last_tried p (numbers known)) (λ i h. bits i))
 
   pub tried_node : (count source : ℕ) (n : L.LutNode) → source < count → length known ≤ 32 → lut_node n ≡ Bootstrap source table → Fine count (lut_node n)
   unfolding Fine
-  tried_node count source n h l q = let c = tried_completes p known k in rw (q, e) (h, rw c.long l, bits)
+  tried_node count source n h l q =
+      let c = tried_completes p (numbers known) (entries_of known) in
+      rw (q, e) (h, rw (c.long, numbers-length known) l, bits)
 
 pub ruleset tried = (tried_bits, tried_node)

@@ -24,7 +24,7 @@ fn terms_of(node: &LutNode) -> &[Term]
 fn coefficient(terms: &[Term], source: usize) -> Option<i64>
     ensures { result ≡ coefficient_in terms.now source }
 {
-    let term = terms.iter().find(|t| t.node as usize == source);
+    let term = terms.iter().find(|t| t.node.get() == source);
     term.map(|t| t.coef as i64)
 }
 
@@ -38,6 +38,7 @@ fn align(terms: &[Term], support: &[usize]) -> Option<[i64; 11]>
         return None;
     }
     let mut coefs = [0i64; 11];
+    // An index: of a zip over `iter_mut` the proof learns nothing of what was written (docs/proof-notes.md).
     for (k, &source) in support.iter().enumerate() {
         coefs[k] = coefficient(terms, source)?;
     }
@@ -51,9 +52,7 @@ pub fn form_at(store: &Store, i: usize, support: &[usize]) -> Option<[i64; 11]>
     ensures { FormOf support.now (form_terms (store_of store.now) (node_at (store_of store.now) i)) result }
 {
     match store.node(i) {
-        LutNode::Bootstrap { source, .. } => {
-            align(terms_of(store.node(*source as usize)), support)
-        }
+        LutNode::Bootstrap { source, .. } => { align(terms_of(store.node(source.get())), support) }
         _ => None,
     }
 }

@@ -19,12 +19,12 @@ fn takes(store: &Store, i: usize, node: &LutNode) -> bool
     ensures { result ≡ takes_node (lut_node node.now) (store_of store.now) (node_at (store_of store.now) i) }
 {
     match store.node(i) {
-        LutNode::Bootstrap { source, .. } => node == store.node(*source as usize),
+        LutNode::Bootstrap { source, .. } => node == store.node(source.get()),
         _ => false,
     }
 }
 
-// Whether a bootstrap takes an equal node.
+// Whether a bootstrap takes an equal node. By place: that a source is a node before it is known of node i.
 fn is_taken(store: &Store, node: &LutNode) -> bool
     ensures { result ≡ has_bootstrap (store_of store.now) (lut_node node.now) }
 {

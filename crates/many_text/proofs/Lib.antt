@@ -1,2 +1,3 @@
--- Which form a line of edition 2 is.
+-- The tables of a line one by one, and which form a line of edition 2 is.
+pub mod Walk
 pub mod LineForms

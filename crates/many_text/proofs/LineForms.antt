@@ -2,7 +2,7 @@
 use Rattle.std.specs.Prelude.{◌≡◌, refl, Bool, ◌||◌, not, List, ℕ, ◌+◌, min, ltb}
 use Rattle.std.specs.Prelude as P
 use Rattle.std.proofs.Math.Path.{ap, ap₂}
-use Rattle.std.proofs.Common.{sym, ◌∙◌, eq-eqb, ne_eqb}
+use Rattle.std.proofs.Common.{sym, ◌∙◌, ⊎_elim, eq-eqb, ne_eqb}
 use Rattle.std.proofs.Math.Bool.{true, false, or-true}
 use Rattle.std.proofs.Math.Dec.{eqb}
 use Rattle.std.proofs.Math.ListN.{length}
@@ -12,7 +12,7 @@ use Rattle.laws.specs.Test.{if◌then◌otherwise◌, same_of_four}
 use Rattle.rules.specs.declared.Limit.{Limit}
 use Rattle.rules.specs.Builder.{table_limits}
 use Rattle.rules.specs.Circuit.{Given, Output}
-use Rattle.rules.specs.Edition2.{Line2, Plain, Many, net2_line, many_line, line2, too_long, text_conditions2, conditions2}
+use Rattle.rules.specs.Edition2.{Table, Line2, Plain, Many, net2_line, many_line, line2, too_long, text_conditions2, conditions2}
 use Rattle.rules.specs.Form.{Piece, Reader, give, onward, either, only, exactly, bytes, ◌>>=◌, ◌>>◌, word, number, many, in_line, out_line}
 use Rattle.rules.specs.Network.{LutNode, Input}
 use Rattle.rules.specs.NetworkText.{Net, NetworkLine, NetLine, NodeLine, OutLine, NetPrefix, net_line, lin_line, boot_line, network_line, started, ending, text_conditions}
@@ -22,7 +22,8 @@ use Rattle.text.specs.Number.{cap_number}
 use Rattle.network_text.specs.Lines.{net_rest, net_form, good_form, good_value, good_piece}
 use Rattle.network_text.proofs.LineForms.{clash, clashes, either_none}
 use Rattle.many_text.specs.Lines.{refusal2, plain_of, ManyRead, LineRead}
-use Rattle.many_text.specs.Tables.{spaced_table, tables_in, rest_in, tables_are, counted}
+use Rattle.many_text.specs.Tables.{tables_in, rest_in}
+use Rattle.many_text.proofs.Walk.{spaced_table, all_in, all_are, AllRead, LongNext, ends_in}
 
 -- What stands behind `(many `.
 many_rest : Reader Line2
@@ -145,23 +146,6 @@ module _ (l x : List ℕ) (e : some (record { value = tt; rest = x }) ≡ exactl
 
 -- ---- `many`
 
-module _ (s : List ℕ) where
-  counted_none : none ≡ counted s → any too_long (tables_in s) ≡ true
-  unfolding counted
-  counted_none h = by (any too_long (tables_in s)) h
-    where
-      by : (b : Bool) → none ≡ (if b then none otherwise give (length (tables_in s)) (rest_in s)) → b ≡ true
-      by true h = refl
-      by false h = absurd (none-ne-some _ h)
-
-  counted_some : (n : ℕ) (r : List ℕ) → some (record { value = n; rest = r }) ≡ counted s → (any too_long (tables_in s) ≡ false) × (length (tables_in s) ≡ n) × (rest_in s ≡ r)
-  unfolding counted
-  counted_some n r h = by (any too_long (tables_in s)) h
-    where
-      by : (b : Bool) → some (record { value = n; rest = r }) ≡ (if b then none otherwise give (length (tables_in s)) (rest_in s)) → (b ≡ false) × (length (tables_in s) ≡ n) × (rest_in s ≡ r)
-      by true h = absurd (none-ne-some _ (sym h))
-      by false h = let f = some-injective _ _ h in (refl, sym (ap (λ (p : Piece ℕ). p.value) f), sym (ap (λ (p : Piece ℕ). p.rest) f))
-
 module _ (l x : List ℕ) (e : some (record { value = tt; rest = x }) ≡ exactly (bytes "(many ") l) where
   pub no_number : none ≡ capped cap_number (number x) → LineRead l P.None
   unfolding many_rest onward only
@@ -171,53 +155,62 @@ module _ (l x : List ℕ) (e : some (record { value = tt; rest = x }) ≡ exactl
     node : (j : ℕ) × (number x ≡ some (record { value = j; rest = s })) × (i ≡ cap_number j)
     node = exact_some cap_number (number x) (sym h)
 
-    closing : Option (Piece (Unit {0})) → Option Line2
-    closing o = only (onward o (λ _. give (Many node.0 (tables_in s))))
+    closing : List Table → Option (Piece (Unit {0})) → Option Line2
+    closing ts o = only (onward o (λ _. give (Many node.0 ts)))
 
-    whole : line2 l ≡ closing (exactly (bytes ")\n") (rest_in s))
-    unfolding many_rest closing onward
-    whole = let j = node in line_many l x (sym e) ∙ rw (j.1, tables_are s)
+    whole : line2 l ≡ only (onward (many spaced_table s) (λ ts. word ")\n" >> give (Many node.0 ts)))
+    unfolding many_rest onward
+    whole = let j = node in line_many l x (sym e) ∙ rw j.1
+
+    -- all tables were read
+    read : AllRead s → line2 l ≡ closing (tables_in s) (exactly (bytes ")\n") (rest_in s))
+    unfolding closing onward
+    read a = whole ∙ rw a.all
 
     -- no table, or one of over 32 bits
-    spoilt : (eqb (length (tables_in s)) 0 || any too_long (tables_in s)) ≡ true → LineRead l P.None
+    spoilt : (ts : List Table) (y : List ℕ) → many spaced_table s ≡ some (record { value = ts; rest = y }) → (eqb (length ts) 0 || any too_long ts) ≡ true → LineRead l P.None
     unfolding closing onward only refusal2 conditions2 text_conditions2 lowest
-    spoilt f w = ap (refusal2 w) whole ∙ by (exactly (bytes ")\n") (rest_in s))
+    spoilt ts y g f w = ap (refusal2 w) (whole ∙ rw g) ∙ by (exactly (bytes ")\n") y)
       where
-        ends : (b : Bool) → refusal2 w (if b then some (Many node.0 (tables_in s)) otherwise none) ≡ 21
-        ends true = rw f (same_of_four (not (started w)) (ending w) (ltb 672 (length w.nodes + length (tables_in s))) 21)
+        ends : (b : Bool) → refusal2 w (if b then some (Many node.0 ts) otherwise none) ≡ 21
+        ends true = rw f (same_of_four (not (started w)) (ending w) (ltb 672 (length w.nodes + length ts)) 21)
         ends false = refl
 
-        by : (o : Option (Piece (Unit {0}))) → refusal2 w (closing o) ≡ 21
+        by : (o : Option (Piece (Unit {0}))) → refusal2 w (closing ts o) ≡ 21
         by none = refl
         by (some q) = ends (eqb (length q.rest) 0)
 
-    pub long_table : none ≡ counted s → LineRead l P.None
-    long_table c = spoilt (rw (counted_none s c) (or-true (eqb (length (tables_in s)) 0)))
+    long_table : LongNext s → LineRead l P.None
+    long_table n = spoilt (all_in s) _ (all_are s) (rw n.long (or-true (eqb (length (all_in s)) 0)))
 
-    module _ (n : ℕ) (r : List ℕ) (c : some (record { value = n; rest = r }) ≡ counted s) where
-      pub no_bracket : none ≡ exactly (bytes ")\n") r → LineRead l P.None
+    pub no_bracket : none ≡ exactly (bytes ")\n") (rest_in s) → LineRead l P.None
+    unfolding closing onward only
+    no_bracket f = ⊎_elim (λ (a : AllRead s). no_line l (read a ∙ rw (sym f))) (λ (n : LongNext s). long_table n) (ends_in s).how
+
+    module _ (y : List ℕ) (f : some (record { value = tt; rest = y }) ≡ exactly (bytes ")\n") (rest_in s)) where
+      all_read : AllRead s
+      unfolding spaced_table onward clash
+      all_read =
+          ⊎_elim (λ (a : AllRead s). a)
+          (λ (n : LongNext s). absurd (none-ne-some _ (sym (rw (clashes (bytes ")\n") (bytes " ") (rest_in s) refl (sym f)) refl) ∙ n.next)))
+          (ends_in s).how
+
+      pub no_tables : length (tables_in s) ≡ 0 → LineRead l P.None
+      no_tables z = spoilt (tables_in s) _ all_read.all (rw (eq-eqb (length (tables_in s)) 0 z))
+
+      pub many_open : (length y ≡ 0 → ⊥) → LineRead l P.None
       unfolding closing onward only
-      no_bracket f = no_line l (whole ∙ rw ((counted_some s n r c).2, sym f))
+      many_open z = no_line l (read all_read ∙ rw (sym f, ne_eqb (length y) 0 z))
 
-      pub no_tables : n ≡ 0 → LineRead l P.None
-      no_tables z = spoilt (rw (eq-eqb (length (tables_in s)) 0 ((counted_some s n r c).1 ∙ z)))
+      pub many_is : length y ≡ 0 → (length (tables_in s) ≡ 0 → ⊥) → ManyRead l i (tables_in s)
+      unfolding closing onward only
+      many_is z k =
+          record {
+            node = node.0;
+            line = read all_read ∙ rw (sym f, eq-eqb (length y) 0 z);
+            cap = node.2;
+            some = k;
+            short = (ends_in s).short;
+          }
 
-      module _ (y : List ℕ) (f : some (record { value = tt; rest = y }) ≡ exactly (bytes ")\n") r) where
-        pub many_open : (length y ≡ 0 → ⊥) → LineRead l P.None
-        unfolding closing onward only
-        many_open z = no_line l (whole ∙ rw ((counted_some s n r c).2, sym f, ne_eqb (length y) 0 z))
-
-        pub many_is : length y ≡ 0 → (n ≡ 0 → ⊥) → ManyRead l i s n
-        unfolding closing onward only
-        many_is z k =
-            let g = counted_some s n r c in
-            record {
-              node = node.0;
-              line = whole ∙ rw (g.2, sym f, eq-eqb (length y) 0 z);
-              cap = node.2;
-              count = g.1;
-              some = k;
-              good = record { short = g.0 };
-            }
-
-pub ruleset lines2 = (net2_bad, net2_open, net2_is, net2_limits, no_number, long_table, no_bracket, no_tables, many_open, many_is, plain_line, net_line_bad, boot_line_bad)
+pub ruleset lines2 = (net2_bad, net2_open, net2_is, net2_limits, no_number, no_bracket, no_tables, many_open, many_is, plain_line, net_line_bad, boot_line_bad)

@@ -5,5 +5,5 @@ use Rattle.text.specs.Capped
 use Rattle.many_text.specs.Tables
 
 unfoldable pub readers : Unit {0}
-unfolding Edition2.centre_digit Edition2.table Form.onward Form.either Form.only Capped.capped Tables.spaced_table
+unfolding Edition2.centre_digit Form.onward Form.either Form.only Capped.capped Tables.good_table
 readers = tt

@@ -4,6 +4,8 @@
 
 mod line;
 mod table;
+mod tables;
 
 pub use line::{Line, read_line};
-pub use table::{Table, read_table};
+pub use table::Table;
+pub use tables::Tables;

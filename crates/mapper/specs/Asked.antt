@@ -44,10 +44,10 @@ wire_in n (Node i) e h = leb-false n i e
 function_good : (n line : ℕ) (f : Function) → SoundGate n (record { bits = answers_of f; wires = wires_of f; line = line }) → GoodFunction n f
 unfolding any_no_node WireBits
 function_good n line (Unary w answers) g =
-    record { first = wire_in n w (neither_left (no_node n w) _ g.earlier) g.constants.0; second = omega arith; bits = T-is _ g.answers }
+    record { reads = wire_in n w (neither_left (no_node n w) _ g.earlier) g.constants.0; bits = T-is _ g.answers }
 function_good n line (Binary u v answers) g =
     let r : (no_node n v || false) ≡ false = neither_right (no_node n u) _ g.earlier in
-    record { first = wire_in n u (neither_left (no_node n u) _ g.earlier) g.constants.0; second = wire_in n v (neither_left (no_node n v) _ r) g.constants.1.0; bits = T-is _ g.answers }
+    record { reads = (wire_in n u (neither_left (no_node n u) _ g.earlier) g.constants.0, wire_in n v (neither_left (no_node n v) _ r) g.constants.1.0); bits = T-is _ g.answers }
 
 gates_good : (n : ℕ) (gs : List Gate) → SoundGates n (map gate_of gs) → (i : ℕ) (d : Gate) → i < length gs → GoodFunction (n + i) (get_or gs i d).function
 unfolding SoundGates

@@ -8,8 +8,9 @@ ghost use Rattle.rules.specs.Outcome.{outcome};
 use arrayvec::ArrayVec;
 use circuit::read;
 use conclude::conclude;
+use cone::settings::ValidSettings;
 use gates::start::start;
-use gates::{map_gates, used};
+use gates::{map_gates, used_settings};
 use nodes::store::Store;
 use outputs::map_outputs;
 use rules::Refusal;
@@ -18,12 +19,13 @@ use rules::Refusal;
 pub fn map(text: &[u8], out: &mut [u8]) -> Result<usize, Refusal>
     ensures { outcome (map_reply result) out.new ≡ mapper text.now out.old }
 {
-    let c = read(text)?;
-    let settings = used(c.settings);
+    let circuit = read(text)?;
+    let settings = used_settings(circuit.settings);
+    let valid = ValidSettings { settings };
     let mut store = Store::new();
     let mut wires = ArrayVec::new();
-    start(&c, &mut store, &mut wires);
-    map_gates(settings, &mut store, &mut wires, &c)?;
-    let outputs = map_outputs(settings, &mut store, &wires, &c);
+    start(&circuit, &mut store, &mut wires);
+    map_gates(valid, &mut store, &mut wires, &circuit)?;
+    let outputs = map_outputs(valid, &mut store, &wires, &circuit);
     conclude(out, settings, &outputs, &store)
 }

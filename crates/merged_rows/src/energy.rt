@@ -3,7 +3,9 @@ ghost use Rattle.std.specs.Prelude.{◌≡◌, ◌+◌, ◌-◌, ◌≤◌, ◌<
 ghost use Rattle.laws.specs.Tabulate.{tabulate};
 ghost use Rattle.merged_rows.specs.EnergyRows.{Small, Grown, NearRows, InRows, row_of, add_row, add_record, moments_of};
 
-#[derive(Clone, Copy)]
+// Three sums over rows of the values x and y: of x², x·y and y². No ghost field says how large they are: `moments_of` and `add_row` make
+// them by an equation, for any rows.
+#[derive(Clone, Copy, Default)]
 pub struct Moments {
     pub xx: i64,
     pub xy: i64,
@@ -27,17 +29,17 @@ fn added(sum: i64, x: i32, y: i32, count: u16) -> i64
     sum + (x as i64) * (y as i64) * (count as i64)
 }
 
-// One more row, which stands for count assignments: a u16, as the caller learns.
+// One more row, which stands for count assignments. `few` tells the caller's proof that count, a u16, is below 2^16.
 #[tactic(auto, unfolding(crate::specs::EnergyRows::add_row))]
-fn with_row(m: Moments, x: i32, y: i32, count: u16) -> Moments
-    requires { Small m × ((nat_abs x ≤ 31) × (nat_abs y ≤ 31)) }
-    ensures row { result ≡ add_row m x y count }
+fn with_row(moments: Moments, x: i32, y: i32, count: u16) -> Moments
+    requires { Small moments × ((nat_abs x ≤ 31) × (nat_abs y ≤ 31)) }
+    ensures row { result ≡ add_row moments x y count }
     ensures few { count < 2 ^ 16 }
 {
     Moments {
-        xx: added(m.xx, x, x, count),
-        xy: added(m.xy, x, y, count),
-        yy: added(m.yy, y, y, count),
+        xx: added(moments.xx, x, x, count),
+        xy: added(moments.xy, x, y, count),
+        yy: added(moments.yy, y, y, count),
     }
 }
 
@@ -47,14 +49,15 @@ fn row_moments(rows: &[CandidateRow], sums: Moments) -> Moments
     requires room { (length rows.now ≤ 2048) × Grown (2048 - length rows.now) sums }
     ensures { result ≡ fold add_record sums rows.now }
 {
-    let mut m = sums;
+    let mut moments = sums;
     for row in rows {
-        m = with_row(m, row.x, row.y, row.count);
+        moments = with_row(moments, row.x, row.y, row.count);
     }
-    m
+    moments
 }
 
-// 8 rows from start on, as records.
+// 8 rows from start on, as records: energy_moments lends its rows in blocks. Document 01 names all four fields, so the truth is filled in too,
+// though no moment reads it.
 fn pack_rows(
     xs: &[i32; 2048],
     ys: &[i32; 2048],
@@ -73,7 +76,7 @@ fn pack_rows(
     })
 }
 
-// EnergyMoments::new: the sums of x², x·y and y² over the assignments that the first n rows stand for. Asks for tables of 2,048 entries, and values of at most 31 on either side of 0.
+// EnergyMoments::new: the sums of x², x·y and y² over the assignments that the first n rows stand for. Asks for values of at most 31 on either side of 0.
 pub fn energy_moments(
     xs: &[i32; 2048],
     ys: &[i32; 2048],
@@ -84,15 +87,12 @@ pub fn energy_moments(
     requires { InRows n xs.now ys.now counts.now }
     ensures { result ≡ moments_of (take n xs.now) (take n ys.now) (take n counts.now) }
 {
-    let mut m = Moments {
-        xx: 0,
-        xy: 0,
-        yy: 0,
-    };
+    let mut moments = Moments::default();
+    // By the block's number: a loop over `(0..n).step_by(8)` would want a measure besides the invariant.
     for block in 0..n.div_ceil(8) {
         let start = 8 * block;
         let rows = pack_rows(xs, ys, truth, counts, start);
-        m = row_moments(&rows[..(n - start).min(8)], m);
+        moments = row_moments(&rows[..(n - start).min(8)], moments);
     }
-    m
+    moments
 }

@@ -11,7 +11,7 @@ pub struct Frame {
     pub y_span: usize,
 }
 
-// How far a value lies above the least one.
+// How far a value lies above the least one. As rotation's `offset`, of the i64 that `linear_least` answers: this crate does not lean on rotation.
 fn above(x: i32, low: i64) -> usize
     requires { (low ≤ℤ x) × (nat_abs (x -ℤ low) < 32) }
     ensures { result ≡ nat_abs (x -ℤ low) }
@@ -29,7 +29,8 @@ fn cell(f: Frame, x: i32, y: i32, truth: u8) -> usize
 }
 
 // The distinct rows moved to the front, each with how many assignments it stands for; answers how many there are. What the counts were before does not matter.
-// Asks for tables of 2,048 entries whose first rows lie in the grid, which holds 2,048 cells.
+// Asks for first rows that lie in the grid, which holds 2,048 cells. Document 01 names the flat arrays xs, ys and truth. No struct
+// of them with the counts: they are filled one by one, and searched as slices, without the counts.
 pub fn compact_rows(
     f: Frame,
     rows: usize,
@@ -45,17 +46,18 @@ pub fn compact_rows(
     // Where each met cell's row stands.
     let mut places: [Option<u16>; 2048] = [None; 2048];
     let mut n = 0;
+    // By the index: rows move within the arrays that are read.
     for i in 0..rows {
         let x = xs[i];
         let y = ys[i];
-        let t = truth[i];
-        let k = cell(f, x, y, t);
+        let bit = truth[i];
+        let k = cell(f, x, y, bit);
         if let Some(p) = places[k] {
             counts[p as usize] += 1;
         } else {
             xs[n] = x;
             ys[n] = y;
-            truth[n] = t;
+            truth[n] = bit;
             counts[n] = 1;
             places[k] = Some(n as u16);
             n += 1;

@@ -278,7 +278,3 @@ module _ (judge : Bool) (w : NetPrefix) where
   boot_known i table e =
       let order = unmet _ _ (omega arith) (unmet _ _ (omega arith) (unmet _ _ (omega arith) (free (NodeLine (Bootstrap i table)) e)).1).1 in
       leb-false (length w.nodes) i (unmet _ _ (omega arith) (unmet _ _ (omega arith) order.1).1).0
-
-  pub out-started : (o : Output) → refusal judge w (some (OutLine o)) ≡ 0 → started w ≡ true
-  unfolding text_conditions
-  out-started o e = not-false (started w) (unmet _ _ (omega arith) (free (OutLine o) e)).0

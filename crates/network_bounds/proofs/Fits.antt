@@ -1,39 +1,30 @@
--- The length of the tables that a node's bounds fit, by the code's tests.
-use Rattle.std.specs.Prelude.{◌≡◌, refl, ◌≤◌, ℕ, zero, suc, ℤ, pos, negsuc, ◌+ℤ◌, nat_abs, Result, Ok, Err}
-use Rattle.std.specs.Result.{OkIff, result_unwrap_or}
-use Rattle.std.specs.Int.{w64, FitsUnsignedBits}
-use Rattle.std.proofs.Common.{ap, ◌∙◌, arith, of_z}
-use Rattle.laws.specs.Integer.{plus, minus, add_parts, one_part_zero, abs_add}
-use Rattle.network_bounds.specs.Bounds.{fit_of}
+-- The test for the bounds that a table asks for: whole numbers compared as locals of 64 bits.
+use Rattle.std.specs.Prelude.{◌≡◌, true, false, ◌&&◌, ◌≤◌, ◌<◌, ◌^◌, ℕ, ℤ, pos, ◌+ℤ◌, nat_abs, eqb}
+use Rattle.std.specs.Int.{w64}
+use Rattle.std.proofs.Common.{sym, ap, ◌∙◌, arith, of_z, to_z, eq-eqb, ne_eqb, ⊎_elim}
+use Rattle.laws.specs.Integer.{eq_z, eq_z_true, eq_z_of, abs_add}
+use Rattle.laws.specs.Test.{decide, eq-or-ne}
 use Rattle.network_bounds.proofs.Held.{held, held_is}
 
-pub fit_other : (low high : ℤ) → (of_z w64 low ≡ 0 → ⊥) → 0 ≡ fit_of low high
-unfolding fit_of
-fit_other (pos zero) high h = absurd (h refl)
-fit_other (pos (suc a)) high h = refl
-fit_other (negsuc a) high h = refl
+same_bits : (a b : ℤ) → nat_abs a < 2 ^ 63 → nat_abs b < 2 ^ 63 → eqb (of_z w64 a) (of_z w64 b) ≡ eq_z a b
+same_bits a b h k =
+    ⊎_elim
+    (λ (e : of_z w64 a ≡ of_z w64 b). eq-eqb (of_z w64 a) (of_z w64 b) e ∙ sym (eq_z_of a b (sym (held_is a h) ∙ ap (to_z w64) e ∙ held_is b k)))
+    (λ (e : of_z w64 a ≡ of_z w64 b → ⊥).
+    ne_eqb (of_z w64 a) (of_z w64 b) e ∙ ⊎_elim (λ (t : eq_z a b ≡ true). absurd (e (ap (of_z w64) (eq_z_true a b t)))) (λ (f : eq_z a b ≡ false). sym f) (decide (eq_z a b)))
+    (eq-or-ne (of_z w64 a) (of_z w64 b))
 
--- the number itself where it is none below 0
-try_is : {E : Type 0} (r : Result ℕ E) (z : ℤ) → OkIff r (FitsUnsignedBits 64 z) (nat_abs z) → nat_abs z ≤ 373 → result_unwrap_or r 0 ≡ plus z
-unfolding plus
-try_is (Ok x) (pos a) h k = h.1
-try_is (Err e) (pos a) h k = absurd (h (omega arith))
-try_is (Ok x) (negsuc a) h k = absurd h.0
-try_is (Err e) (negsuc a) h k = refl
+pub zero_same : (z : ℤ) → nat_abs z ≤ 372 → eqb (of_z w64 z) 0 ≡ eq_z z (pos 0)
+zero_same z h = same_bits z (pos 0) (omega arith) (omega arith)
 
-fit_plus : (low high : ℤ) → of_z w64 low ≡ 0 → nat_abs low ≤ 372 → plus (high +ℤ pos 1) ≡ fit_of low high
-unfolding fit_of plus minus
-fit_plus (pos zero) (pos a) e h = omega arith
-fit_plus (pos zero) (negsuc zero) e h = refl
-fit_plus (pos zero) (negsuc (suc a)) e h = let z = negsuc (suc a) +ℤ pos 1 in omega (arith, add_parts (negsuc (suc a)) (pos 1), one_part_zero z)
-fit_plus (pos (suc a)) high e h = absurd (omega arith)
-fit_plus (negsuc a) high e h = absurd (omega arith)
+-- the greatest, where the least is 0
+pub fits_then : {l g a b : ℤ} {n : ℕ} → (l ≡ a) × (nat_abs l ≤ 372) → (g ≡ b) × (nat_abs g ≤ 372) → of_z w64 l ≡ 0 → n ≤ 32
+    → eqb (of_z w64 (held g +ℤ pos 1)) n ≡ (eq_z a (pos 0) && eq_z (b +ℤ pos 1) (pos n))
+fits_then {l} {g} {a} {b} {n} (e, h) (f, k) z m =
+    let q : eq_z a (pos 0) ≡ true = ap (λ u. eq_z u (pos 0)) (sym e) ∙ sym (zero_same l h) ∙ eq-eqb (of_z w64 l) 0 z in
+    ap (λ u. eqb (of_z w64 (u +ℤ pos 1)) n) (held_is g (omega arith))
+    ∙ same_bits (g +ℤ pos 1) (pos n) (omega (arith, abs_add g (pos 1))) (omega arith)
+    ∙ ap (λ u. eq_z (u +ℤ pos 1) (pos n)) f
+    ∙ ap (λ t. t && eq_z (b +ℤ pos 1) (pos n)) (sym q)
 
-pub fit_is : {E : Type 0} (r : Result ℕ E) (low high : ℤ) → OkIff r (FitsUnsignedBits 64 (held (held high +ℤ pos 1))) (nat_abs (held (held high +ℤ pos 1))) → of_z w64 low ≡ 0 → nat_abs low ≤ 372
-    → nat_abs high ≤ 372 → result_unwrap_or r 0 ≡ fit_of low high
-fit_is r low high h e a b =
-    let n : nat_abs (high +ℤ pos 1) ≤ 373 = omega (arith, abs_add high (pos 1)) in
-    let q : held (held high +ℤ pos 1) ≡ high +ℤ pos 1 = ap (λ u. held (u +ℤ pos 1)) (held_is high (omega arith)) ∙ held_is (high +ℤ pos 1) (omega arith) in
-    try_is r (high +ℤ pos 1) (rw q at h) n ∙ fit_plus low high e a
-
-pub ruleset fits = (fit_other, fit_is)
+pub ruleset fits = (zero_same)

@@ -1,3 +1,3 @@
--- The bounds, the norm and the table of a node.
+-- A sum's sources, and the table of a node.
 pub mod Bounds
 pub mod Table

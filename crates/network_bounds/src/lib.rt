@@ -1,4 +1,4 @@
-// Bounds, norm and table of one node of a network. It leans on `nodes` and `network_text`.
+// Bounds and table of one node of a network. It leans on `nodes`, `network_text` and `rotation`.
 #![tactic(auto)]
 
 pub mod bounds;

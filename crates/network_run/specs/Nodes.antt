@@ -1,19 +1,20 @@
 -- The nodes run in order.
 use Rattle.std.specs.Prelude as P
-use Rattle.std.specs.Prelude.{◌≡◌, refl, Bool, true, false, ◌&&◌, List, [], ◌∷◌, ◌++◌, ℕ, suc, ◌+◌, ◌<◌, ◌≤◌, ℤ, pos, nat_abs, length, get_or, drop, All}
+use Rattle.std.specs.Prelude.{◌≡◌, refl, Bool, true, false, ◌&&◌, List, [], ◌∷◌, ◌++◌, ℕ, zero, suc, ◌+◌, ◌<◌, ◌≤◌, ℤ, pos, nat_abs, length, get_or, drop, All}
 use Rattle.std.proofs.Common.{sym, ap, ◌∙◌, true≢false, add-one, ⊎_elim, arith, drop_of_length-le, length-append}
 use Rattle.std.proofs.Math.ListN.{get_or-append}
 use Rattle.std.proofs.Math.Seq.{get_or_at}
 use Rattle.std.proofs.Math.Option.{Option, none, some}
 use Rattle.arrayvec.specs.ArrayVec.{ArrayVec}
+use Rattle.std.specs.List.{list_all, range_with_len}
 use Rattle.laws.specs.Select.{all, all-at}
 use Rattle.laws.specs.Test.{lt_or_le}
-use Rattle.rules.specs.Network.{Term, LutNode, Input, Linear, Bootstrap, is_linear, node_value, node_values, with_value, node_at}
+use Rattle.rules.specs.Network.{Term, LutNode, is_linear, node_value, node_values, with_value, node_at}
 use Rattle.rules.specs.Store.{terms_of}
 use Rattle.theorems.specs.NodesAt.{no_input, drop-node}
 use Rattle.nodes.specs.declared.store.Store.{Store}
 use Rattle.nodes.specs.Store.{store_of, node_fine}
-use Rattle.nodes.specs.View.{Fine, FineTerms, fine_at, terms_fine}
+use Rattle.nodes.specs.View.{fine_at, terms_fine}
 use Rattle.network_run.specs.Value.{turns, value_of, value_at, value_is, value_none, SmallValue, SmallSources}
 
 -- No `lin` on a `lin`.
@@ -33,28 +34,22 @@ pub record Running (bits : List ℕ) (ns : List LutNode) (values : List ℤ) (i 
 
 -- ---- laws: the tables judged
 
+-- what `all` gives over the nodes' numbers
 module _ (P : ℕ) (ns : List LutNode) where
-  unfoldable pub turns_from : ℕ → Bool
-  turns_from i = all (turns P) (drop i ns)
+  turn_first : (i : ℕ) → i < length ns → all (turns P) (drop i ns) ≡ (turns P (node_at ns i) && all (turns P) (drop (i + 1) ns))
+  unfolding all
+  turn_first i h = rw (drop-node ns i h, add-one i) refl
 
-  pub turns_start : all (turns P) ns ≡ turns_from 0
-  unfolding turns_from
-  turns_start = refl
+  turn_none : (i : ℕ) → length ns ≤ i → all (turns P) (drop i ns) ≡ true
+  unfolding all
+  turn_none i h = rw (drop_of_length-le ns {i = i} h)
 
-  module _ (i : ℕ) where
-    pub turns_next : i < length ns → turns P (node_at ns i) ≡ true → turns_from i ≡ turns_from (i + 1)
-    unfolding turns_from all
-    turns_next h e = rw (drop-node ns i h, e, add-one i)
+  turn_each : (k i : ℕ) → i + k ≡ length ns → list_all (λ j. turns P (node_at ns j)) (range_with_len i k) ≡ all (turns P) (drop i ns)
+  turn_each zero i e = sym (turn_none i (omega arith))
+  turn_each (suc k) i e = ap (λ b. turns P (node_at ns i) && b) (turn_each k (i + 1) (omega arith)) ∙ sym (turn_first i (omega arith))
 
-    pub turns_not : i < length ns → turns P (node_at ns i) ≡ false → turns_from i ≡ false
-    unfolding turns_from all
-    turns_not h e = rw (drop-node ns i h, e)
-
-    pub turns_end : length ns ≤ i → turns_from i ≡ true
-    unfolding turns_from all
-    turns_end h = rw (drop_of_length-le ns {i = i} h)
-
-pub ruleset judging = (turns_start, turns_next, turns_not, turns_end)
+  pub turn_all : (n : ℕ) → n ≡ length ns → list_all (λ j. turns P (node_at ns j)) (range_with_len 0 n) ≡ all (turns P) ns
+  turn_all n e = turn_each n 0 (omega arith)
 
 -- where one is no rotation's, every run breaks off
 pub unturned : (P : ℕ) (bits : List ℕ) (values : List ℤ) (ns : List LutNode) → all (turns P) ns ≡ false → node_values P bits values ns ≡ none

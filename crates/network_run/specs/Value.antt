@@ -4,6 +4,7 @@ use Rattle.std.specs.Prelude.{◌≡◌, Bool, true, false, List, [], ◌∷◌,
 use Rattle.std.proofs.Math.Path.{refl}
 use Rattle.std.proofs.Common.{sym, ◌∙◌, true≢false, ⊎_elim, arith, lt-ltb, le-ltb, drop_of_length-le, add-one, drop-cons, SFits, w64}
 use Rattle.std.proofs.lemmas.List.{length-map, get_or-map}
+use borrow.Author.Tests.{le-leb}
 use Rattle.std.specs.Int.Signed.{lt_z}
 use Rattle.std.proofs.Math.Option.{Option, none, some}
 use Rattle.laws.specs.Integer.{plus, minus, lt_z_true, lt_z_false, abs_add, abs_mul_le, fits_abs}
@@ -17,7 +18,7 @@ use Rattle.nodes.specs.declared.node.Term as C
 use Rattle.nodes.specs.declared.store.Store.{Store}
 use Rattle.nodes.specs.Seen.{term_below}
 use Rattle.nodes.specs.Store.{store_of, node_fine}
-use Rattle.nodes.specs.View.{term, term_of, terms_seen, Fine}
+use Rattle.nodes.specs.View.{term, term_of, terms_seen, table_in, Fine}
 
 abbrev pub value_of : P.Option ℤ → Option ℤ
 value_of (P.Some v) = some v
@@ -153,6 +154,18 @@ pub ruleset summing = (sum_start, sum_end, term_below)
 
 -- ---- laws: a store's tables
 
-pub table_bits : (s : Store) (i j : ℕ) (table : List ℕ) → i < length (store_of s) → Bootstrap j table ≡ node_at (store_of s) i → T (all_bits table)
-unfolding Fine
-table_bits s i j table h e = let f = rw (sym e) at (node_fine s i h) in all-bits_of table (λ k l. f.2 k)
+bits_in : (i : ℕ) (n : LutNode) → Fine i n → T (all_bits (table_in n))
+unfolding Fine table_in
+bits_in i (Input g) f = all-bits_of [] (λ k l. absurd (omega arith))
+bits_in i (Linear c ts) f = all-bits_of [] (λ k l. absurd (omega arith))
+bits_in i (Bootstrap j table) f = all-bits_of table (λ k l. f.2 k)
+
+pub table_bits : (s : Store) (i : ℕ) (table : List ℕ) → i < length (store_of s) → table ≡ table_in (node_at (store_of s) i) → T (all_bits table)
+table_bits s i table h e = rw e (bits_in i (node_at (store_of s) i) (node_fine s i h))
+
+-- a node without a table turns as no bits do
+pub turns_table : (P : ℕ) (n : LutNode) → rotatable P (table_in n) ≡ turns P n
+unfolding turns table_in rotatable centre
+turns_table P (Input g) = rw (le-leb 0 P (omega arith)) refl
+turns_table P (Linear c ts) = rw (le-leb 0 P (omega arith)) refl
+turns_table P (Bootstrap j table) = refl

@@ -25,7 +25,7 @@ fn sum_of(constant: i8, terms: &[Term], values: &[i64]) -> i64
 {
     let mut sum = constant as i64;
     for term in terms {
-        sum += term.coef as i64 * values[term.node as usize];
+        sum += term.coef as i64 * values[term.node.get()];
     }
     sum
 }
@@ -53,6 +53,6 @@ pub fn node_value(node: &LutNode, bits: &[u8], values: &[i64]) -> Option<i64>
     match node {
         LutNode::Input { .. } => Some(bit_at(bits, values.len())),
         LutNode::Linear { constant, terms } => Some(sum_of(*constant, terms, values)),
-        LutNode::Bootstrap { source, table } => look_up(table, values[*source as usize]),
+        LutNode::Bootstrap { source, table } => look_up(table, values[source.get()]),
     }
 }

@@ -1,20 +1,19 @@
 -- A table's bits, as they are read.
 use Rattle.std.specs.Prelude.{◌≡◌, Bool, true, false, List, ℕ, ◌≤◌, T, leb, length, drop}
 use Rattle.std.proofs.Math.Path.{refl}
-use Rattle.std.proofs.Common.{subst, arith, leb-true}
+use Rattle.std.proofs.Common.{sym, subst, arith, leb-true}
 use Rattle.std.proofs.Math.Option.{none, some}
 use Rattle.laws.specs.Test.{if◌then◌otherwise◌}
 use Rattle.rules.specs.Form.{give, run, run_of, bits, is_bits, is_bit_byte, bits_from}
 use Rattle.rules.specs.Runs.{all_bits}
 use Rattle.theorems.specs.LineBits.{Gives, onward_gives, bits_gives}
 use Rattle.theorems.specs.Pieces.{from_length}
-use Rattle.network_text.specs.Lines.{TableBits}
 
 -- One or more.
-abbrev pub SomeBits : List ℕ → Type 0
+abbrev SomeBits : List ℕ → Type 0
 SomeBits w = 1 ≤ length w
 
-pub some_gives : (l : List ℕ) → Gives SomeBits (bits l)
+some_gives : (l : List ℕ) → Gives SomeBits (bits l)
 unfolding bits run_of is_bits Gives
 some_gives l = onward_gives SomeBits SomeBits (run_of is_bit_byte is_bits l) _ (by (run is_bit_byte l) (leb 1 (length (run is_bit_byte l))) refl) (λ w s h. rw (from_length w) h)
   where
@@ -23,8 +22,13 @@ some_gives l = onward_gives SomeBits SomeBits (run_of is_bit_byte is_bits l) _ (
     by w false e = tt
 
 -- What was read as bits is bits, one or more.
-pub table_bits : (l x b : List ℕ) → bits l ≡ some (record { value = bits_from b; rest = x }) → length b ≤ 32 → TableBits b
-unfolding Gives
-table_bits l x b h k =
-    let n : 1 ≤ length (bits_from b) = subst (λ o. Gives SomeBits o) h (some_gives l) in
-    record { some = omega (arith, from_length b); short = k; bits = subst (λ o. Gives (λ v. T (all_bits v)) o) h (bits_gives l) }
+module _ (l x b : List ℕ) (h : some (record { value = bits_from b; rest = x }) ≡ bits l) where
+  pub some_bits : 1 ≤ length b
+  unfolding Gives
+  some_bits = let n : 1 ≤ length (bits_from b) = subst (λ o. Gives SomeBits o) (sym h) (some_gives l) in omega (arith, from_length b)
+
+  pub each_bit : T (all_bits (bits_from b))
+  unfolding Gives
+  each_bit = subst (λ o. Gives (λ v. T (all_bits v)) o) (sym h) (bits_gives l)
+
+pub ruleset table_bits = (some_bits, each_bit)

@@ -1,20 +1,17 @@
 -- The terms of a sum gathered one by one, as long as they are those of a good sum.
-use Rattle.std.specs.Prelude.{◌≡◌, ◌≢◌, Bool, ◌&&◌, leb, ℤ, pos, neg_ℤ, length, All, take, set, min, ◌+◌}
+use Rattle.std.specs.Prelude.{◌≡◌, ◌≢◌, Bool, ◌&&◌, leb, ℤ, pos, neg_ℤ, length, All, min}
 use Rattle.std.specs.Borrow.{Bor}
 use Rattle.std.proofs.Math.Path.{refl, sym, ap, ap₂}
-use Rattle.std.proofs.Common.{◌∙◌, true≢false, ⊎_elim, eq-eqb, ne_eqb, to_z, of_z, le-leb, leb→le, length-append, add-one}
+use Rattle.std.proofs.Common.{◌∙◌, true≢false, ⊎_elim, eq-eqb, ne_eqb, to_z, of_z, le-leb, leb→le, length-append}
 use Rattle.std.proofs.Math.Bool.{true, false, not, and-false, and_assoc}
 use mathlib.Core.List.{List, [], ◌∷◌, ◌++◌, append_assoc, append-nil, map, zip_with}
 use Rattle.std.proofs.Math.Option.{Option, none, some, none-ne-some}
-use Prim.Native.Nat.{ℕ, ◌<◌, ◌≤◌}
+use Prim.Native.Nat.{ℕ, suc, ◌<◌, ◌≤◌}
 use native.Mathlib.Omega.{arith}
 use Rattle.std.proofs.lemmas.Bool.{not-true, lt-leb}
 use Rattle.std.proofs.lemmas.List.Elements.{All-nil, All-cons, All-head, All-tail, All-append}
-use Rattle.std.proofs.lemmas.List.{map-set, take-map, length-map}
 use Rattle.std.proofs.Math.Dec.{eqb}
 use Rattle.std.proofs.Math.IntN.{nat_abs}
-use Rattle.std.proofs.Math.ListN.{length-set}
-use Rattle.std.proofs.Math.Seq.{take-suc-set, length-take-le}
 use Rattle.std.specs.Int.{w64}
 use Rattle.laws.specs.Test.{neither_left, neither_right, if◌then◌otherwise◌, both_left, both_right, decide, is_T}
 use Rattle.rules.specs.Form.{Piece, give, onward, below, signed, many, value_from}
@@ -26,12 +23,12 @@ use Rattle.text.specs.Decimal.{Decimal}
 use Rattle.text.specs.Many.{Keeps, Takes, keeps_then, takes_then, keeps_or, keeps_give, keeps_word, takes_word, keeps_number, many_none, many_some}
 use Rattle.theorems.specs.Members.{append-different, member_head, member_right}
 use Rattle.theorems.specs.OneDecimal.{same_digits}
-use Rattle.theorems.specs.Terms as T
 use Rattle.forms.specs.Signed.{cap_signed, cap_abs, cap_exact, cap_back}
-use Rattle.nodes.specs.Terms.{terms_in, terms_over, over-length, over_none}
+use Rattle.nodes.specs.declared.terms.Summand.{Summand}
+use Rattle.nodes.specs.Terms.{summands, summands_more, terms_in}
 use Rattle.nodes.specs.View.{term}
 use Rattle.network_text.specs.Lines.{cap_term, cap_terms}
-use Rattle.network_text.specs.Terms.{value, spaced_term, cap_coef, with_next, GoodNext, fine, good_list}
+use Rattle.network_text.specs.Terms.{value, spaced_term, cap_coef, Next, GoodNext, fine, good_list}
 use Rattle.network_text.specs.declared.sum.SoFar.{SoFar}
 
 -- ---- A term is a byte or longer.
@@ -56,19 +53,31 @@ takes_term =
 
 -- ---- Lists of terms with one more behind.
 
-zip_more : (cs : List ℤ) (ns : List ℕ) (c : ℤ) (n : ℕ) → length cs ≡ length ns → zip_with term (cs ++ (c ∷ [])) (ns ++ (n ∷ [])) ≡ zip_with term cs ns ++ (term c n ∷ [])
-unfolding zip_with
-zip_more [] [] c n e = refl
-zip_more [] (m ∷ ns) c n e = absurd (omega arith)
-zip_more (b ∷ cs) [] c n e = absurd (omega arith)
-zip_more (b ∷ cs) (m ∷ ns) c n e = ap {B = List Term} (λ r. term b m ∷ r) (zip_more cs ns c n (omega arith))
+-- A term as it was read, with its node's whole number.
+abbrev exact : Summand → Bor (List ℕ) → Term
+exact s d = term s.coef (value d)
 
-terms_more : (n : ℕ) (cs : List ℤ) (ns : List ℕ) (c : ℤ) (m : ℕ) → n < length cs → n < length ns → terms_over (n + 1) (set cs n c) (set ns n m) ≡ terms_over n cs ns ++ (term c m ∷ [])
-unfolding terms_over
-terms_more n cs ns c m h k =
-    let a = length-take-le n cs (omega arith) in
-    let b = length-take-le n ns (omega arith) in
-    rw (add-one, take-suc-set cs n c h, take-suc-set ns n m k) (zip_more (take n cs) (take n ns) c m (a ∙ sym b))
+module _ (s : Summand) (d : Bor (List ℕ)) where
+  zip_more : (ss : List Summand) (ds : List (Bor (List ℕ))) → length ss ≡ length ds → zip_with exact (ss ++ (s ∷ [])) (ds ++ (d ∷ [])) ≡ zip_with exact ss ds ++ (exact s d ∷ [])
+  unfolding zip_with
+  zip_more [] [] e = refl
+  zip_more [] (c ∷ ds) e = absurd (omega arith)
+  zip_more (r ∷ ss) [] e = absurd (omega arith)
+  zip_more (r ∷ ss) (c ∷ ds) e = ap {B = List Term} (λ us. exact r c ∷ us) (zip_more ss ds (omega arith))
+
+zip_nodes : (ss : List Summand) (ds : List (Bor (List ℕ))) → length ss ≡ length ds → sources (zip_with exact ss ds) ≡ map value ds
+unfolding zip_with sources term
+zip_nodes [] [] e = refl
+zip_nodes [] (d ∷ ds) e = absurd (omega arith)
+zip_nodes (s ∷ ss) [] e = absurd (omega arith)
+zip_nodes (s ∷ ss) (d ∷ ds) e = ap {B = List ℕ} (λ is. value d ∷ is) (zip_nodes ss ds (omega arith))
+
+zip_count : (ss : List Summand) (ds : List (Bor (List ℕ))) → length ss ≡ length ds → length (zip_with exact ss ds) ≡ length ds
+unfolding zip_with
+zip_count [] [] e = refl
+zip_count [] (d ∷ ds) e = absurd (omega arith)
+zip_count (s ∷ ss) [] e = absurd (omega arith)
+zip_count (s ∷ ss) (d ∷ ds) e = ap suc (zip_count ss ds (omega arith))
 
 cap_terms_more : (ts : List Term) (t : Term) → cap_terms (ts ++ (t ∷ [])) ≡ cap_terms ts ++ (cap_term t ∷ [])
 unfolding cap_terms
@@ -130,32 +139,28 @@ ahead_more ts t (some p) = ap (λ us. some (record { value = us; rest = p.rest }
 
 -- The terms so far, with their nodes' whole numbers.
 unfoldable pub exact_terms : SoFar → List Term
-exact_terms t = terms_over t.terms.n t.terms.coefs (map value t.nodes)
+exact_terms t = zip_with exact t.sum.terms.items t.nodes.items
 
 -- The terms before `rest` are those of a good sum, and kept so.
 pub record Kept (s : List ℕ) (c : ℤ) (t : SoFar) (rest : List ℕ) : Type 0 where
-  pub few : t.terms.n ≤ 11
-  pub constant : t.terms.constant ≡ c
-  pub coefs_long : length t.terms.coefs ≡ 11
-  pub sources_long : length t.terms.sources ≡ 11
-  pub nodes_long : length t.nodes ≡ 11
-  pub terms : terms_in t.terms ≡ cap_terms (exact_terms t)
-  pub decimal : All (λ w. Decimal w.now) (take t.terms.n t.nodes)
+  pub few : length t.nodes.items ≤ 11
+  pub even : length t.sum.terms.items ≡ length t.nodes.items
+  pub constant : t.sum.constant ≡ c
+  pub terms : terms_in t.sum ≡ cap_terms (exact_terms t)
+  pub decimal : All (λ w. Decimal w.now) t.nodes.items
   pub good : good_terms (exact_terms t) ≡ true
   pub differ : all_different (sources (exact_terms t)) ≡ true
   pub whole : many spaced_term s ≡ ahead (exact_terms t) (many spaced_term rest)
 
-pub kept_start : (s : List ℕ) {c : ℤ} {t : SoFar} → t.terms.constant ≡ c → t.terms.n ≡ 0 → length t.terms.coefs ≡ 11 → length t.terms.sources ≡ 11 → length t.nodes ≡ 11 → Kept s c t s
-unfolding exact_terms terms_in cap_terms good_terms sources all_different
-kept_start s {c} {t} e n a b d =
-    let x : exact_terms t ≡ [] = rw n (over_none t.terms.coefs (map value t.nodes)) in
+pub kept_start : (s : List ℕ) {c : ℤ} {t : SoFar} → t.sum.constant ≡ c → t.sum.terms.items ≡ [] → t.nodes.items ≡ [] → Kept s c t s
+unfolding exact_terms terms_in summands cap_terms good_terms sources all_different zip_with
+kept_start s {c} {t} e m n =
+    let x : exact_terms t ≡ [] = rw m refl in
     record {
-      few = omega arith;
+      few = rw n (omega arith);
+      even = rw (m, n) refl;
       constant = e;
-      coefs_long = a;
-      sources_long = b;
-      nodes_long = d;
-      terms = rw (x, n) (over_none t.terms.coefs t.terms.sources);
+      terms = rw (x, m) refl;
       decimal = rw n (All-nil (λ w. Decimal w.now));
       good = rw x;
       differ = rw x;
@@ -163,17 +168,13 @@ kept_start s {c} {t} e n a b d =
     }
 
 module _ {s : List ℕ} {c : ℤ} {t : SoFar} {rest : List ℕ} (k : Kept s c t rest) where
-  count : length (exact_terms t) ≡ t.terms.n
+  count : length (exact_terms t) ≡ length t.nodes.items
   unfolding exact_terms
-  count = over-length t.terms.n t.terms.coefs (map value t.nodes) k.coefs_long (length-map _ _ ∙ k.nodes_long) k.few
+  count = zip_count t.sum.terms.items t.nodes.items k.even
 
-  nodes_are : sources (exact_terms t) ≡ map value (take t.terms.n t.nodes)
-  unfolding exact_terms terms_over term T.terms_over
-  nodes_are =
-      let h = k.few in
-      let l : length (map value t.nodes) ≡ 11 = length-map _ _ ∙ k.nodes_long in
-      let e = length-take-le t.terms.n t.terms.coefs (omega (arith, k.coefs_long)) ∙ sym (length-take-le t.terms.n (map value t.nodes) (omega arith)) in
-      T.sources_of (take t.terms.n t.terms.coefs) (take t.terms.n (map value t.nodes)) e ∙ take-map value t.terms.n t.nodes
+  nodes_are : sources (exact_terms t) ≡ map value t.nodes.items
+  unfolding exact_terms
+  nodes_are = zip_nodes t.sum.terms.items t.nodes.items k.even
 
   -- no further term
   module _ (e : none ≡ capped cap_coef (spaced_term rest)) where
@@ -183,13 +184,13 @@ module _ {s : List ℕ} {c : ℤ} {t : SoFar} {rest : List ℕ} (k : Kept s c t 
         let m = many_none spaced_term takes_term rest (exact_none cap_coef (spaced_term rest) (sym e)) in
         rw (k.whole, m, append-nil (exact_terms t))
 
-    pub kept_none : t.terms.n ≡ 0 → none ≡ good_list (many spaced_term s)
+    pub kept_none : length t.nodes.items ≡ 0 → none ≡ good_list (many spaced_term s)
     unfolding fine
     kept_none h =
         let ts = exact_terms t in
         rw (all_read, lt-leb 1 (length ts) (omega (arith, count)), and-false (good_terms ts))
 
-    pub kept_end : (t.terms.n ≡ 0 → ⊥) → some (record { value = terms_in t.terms; rest = rest }) ≡ good_list (many spaced_term s)
+    pub kept_end : (length t.nodes.items ≡ 0 → ⊥) → some (record { value = terms_in t.sum; rest = rest }) ≡ good_list (many spaced_term s)
     unfolding fine
     kept_end h =
         let ts = exact_terms t in
@@ -215,12 +216,6 @@ module _ {s : List ℕ} {c : ℤ} {t : SoFar} {rest : List ℕ} (k : Kept s c t 
     kept_back : to_z w64 (of_z w64 z) ≡ z
     kept_back = cap_back z meant.0.coef coef_is ∙ sym coef_is
 
-    more : t.terms.n < 11 → exact_terms (with_next t z d) ≡ exact_terms t ++ (term z (value d) ∷ [])
-    unfolding exact_terms with_next
-    more h =
-        let l : length (map value t.nodes) ≡ 11 = length-map _ _ ∙ k.nodes_long in
-        rw map-set (terms_more t.terms.n t.terms.coefs (map value t.nodes) z (value d) (omega (arith, k.coefs_long)) (omega arith))
-
     good_more : GoodNext t z d.now → good_terms (exact_terms t ++ (term z (value d) ∷ [])) ≡ true
     unfolding good_terms small term
     good_more g = rw (terms-append (exact_terms t) (term z (value d) ∷ []), k.good, le-leb (nat_abs z) 31 g.small, ne_eqb (nat_abs z) 0 g.used)
@@ -230,13 +225,9 @@ module _ {s : List ℕ} {c : ℤ} {t : SoFar} {rest : List ℕ} (k : Kept s c t 
     differ_more g q =
         let ts = exact_terms t in
         let v = value d in
-        let m : member v (sources ts) ≡ false = rw nodes_are (value_new (take t.terms.n t.nodes) d k.decimal q g.new) in
+        let m : member v (sources ts) ≡ false = rw nodes_are (value_new t.nodes.items d k.decimal q g.new) in
         let o : (i : ℕ) → member i (sources ts) ≡ true → member i (v ∷ []) ≡ false = λ i h. rw (ne_eqb i v (λ (e : i ≡ v). true≢false (sym (rw e at h) ∙ m))) in
         rw (sources-append ts (term z v ∷ [])) (append-different (sources ts) (v ∷ []) k.differ refl o)
-
-    kept_terms : t.terms.n < 11 → terms_in (with_next t z d).terms ≡ cap_terms (exact_terms t) ++ (cap_term (term z (value d)) ∷ [])
-    unfolding terms_in with_next cap_term term
-    kept_terms h = terms_more t.terms.n t.terms.coefs t.terms.sources z (min 65536 (value d)) (omega (arith, k.coefs_long)) (omega (arith, k.sources_long)) ∙ ap (λ (us : List Term). us ++ (term z (min 65536 (value d)) ∷ [])) k.terms
 
     whole_more : many spaced_term s ≡ ahead (exact_terms t ++ (meant.0 ∷ [])) (many spaced_term after)
     whole_more =
@@ -251,27 +242,36 @@ module _ {s : List ℕ} {c : ℤ} {t : SoFar} {rest : List ℕ} (k : Kept s c t 
         let e : meant.0 ≡ term z (value d) = ap₂ {C = Term} term (sym (coef_is ∙ cap_exact meant.0.coef a)) (sym node_is) in
         whole_more ∙ ap (λ (u : Term). ahead (exact_terms t ++ (u ∷ [])) (many spaced_term after)) e
 
-    next : GoodNext t z d.now → Decimal d.now → Kept s c (with_next t z d) after
-    unfolding with_next
-    next g q =
-        let r = g.room in
-        let e = more r in
-        let n = t.terms.n in
-        record {
-          few = omega arith;
-          constant = k.constant;
-          coefs_long = simp length-set k.coefs_long;
-          sources_long = simp length-set k.sources_long;
-          nodes_long = simp length-set k.nodes_long;
-          terms = kept_terms r ∙ rw (e, cap_terms_more (exact_terms t) (term z (value d)));
-          decimal = rw (add-one, take-suc-set t.nodes n d (omega (arith, k.nodes_long))) (All-append (λ w. Decimal w.now) (take n t.nodes) (d ∷ []) k.decimal (All-cons (λ w. Decimal w.now) d [] q (All-nil (λ w. Decimal w.now))));
-          good = rw e (good_more g);
-          differ = rw e (differ_more g q);
-          whole = rw e (exact_whole g);
-        }
+    module _ (u : SoFar) (w : Next t z d u) where
+      more : exact_terms u ≡ exact_terms t ++ (term z (value d) ∷ [])
+      unfolding exact_terms
+      more = rw (w.terms, w.nodes) (zip_more (record { coef = z; node = min 65536 (value d) }) d t.sum.terms.items t.nodes.items k.even)
 
-    pub kept_next : {u : SoFar} → GoodNext t (to_z w64 (of_z w64 z)) d.now → Decimal d.now → u ≡ with_next t (to_z w64 (of_z w64 z)) d → Kept s c u after
-    kept_next g q e = rw (e, kept_back) (next (rw kept_back at g) q)
+      kept_terms : terms_in u.sum ≡ cap_terms (exact_terms t) ++ (cap_term (term z (value d)) ∷ [])
+      unfolding terms_in cap_term term
+      kept_terms =
+          ap summands w.terms
+          ∙ summands_more t.sum.terms.items (record { coef = z; node = min 65536 (value d) })
+          ∙ ap (λ (us : List Term). us ++ (term z (min 65536 (value d)) ∷ [])) k.terms
+
+      next : GoodNext t z d.now → Decimal d.now → Kept s c u after
+      next g q =
+          let r = g.room in
+          let m = ap length w.terms ∙ length-append t.sum.terms.items _ in
+          let n = ap length w.nodes ∙ length-append t.nodes.items (d ∷ []) in
+          record {
+            few = omega arith;
+            even = omega (arith, k.even);
+            constant = w.constant ∙ k.constant;
+            terms = kept_terms ∙ rw (more, cap_terms_more (exact_terms t) (term z (value d)));
+            decimal = rw w.nodes (All-append (λ w. Decimal w.now) t.nodes.items (d ∷ []) k.decimal (All-cons (λ w. Decimal w.now) d [] q (All-nil (λ w. Decimal w.now))));
+            good = rw more (good_more g);
+            differ = rw more (differ_more g q);
+            whole = rw more (exact_whole g);
+          }
+
+    pub kept_next : {u : SoFar} → GoodNext t (to_z w64 (of_z w64 z)) d.now → Decimal d.now → Next t (to_z w64 (of_z w64 z)) d u → Kept s c u after
+    kept_next {u} g q w = next u (rw kept_back at w) (rw kept_back at g) q
 
     -- a term of a good sum
     good_one : (us : List Term) → fine (exact_terms t ++ (meant.0 ∷ us)) ≡ true → GoodNext t z d.now
@@ -291,7 +291,7 @@ module _ {s : List ℕ} {c : ℤ} {t : SoFar} {rest : List ℕ} (k : Kept s c t 
           room = omega (arith, count, length-append ts (u ∷ us));
           used = λ e. j (omega arith);
           small = omega arith;
-          new = value_old (take t.terms.n t.nodes) d (sym (ap (member (value d)) nodes_are) ∙ first_only u.node (value d) (sources ts) (sources us) node_is m);
+          new = value_old t.nodes.items d (sym (ap (member (value d)) nodes_are) ∙ first_only u.node (value d) (sources ts) (sources us) node_is m);
         }
 
     pub kept_spoilt : (GoodNext t (to_z w64 (of_z w64 z)) d.now → ⊥) → none ≡ good_list (many spaced_term s)

@@ -1,19 +1,19 @@
 -- What the code says of a line, and what of a line is good on its own.
-use Rattle.std.specs.Prelude.{◌≡◌, List, [], ◌∷◌, ℕ, ◌≤◌, min, T, leb, length}
+use Rattle.std.specs.Prelude.{◌≡◌, List, [], ◌∷◌, ℕ, min, leb, length}
 use Rattle.std.specs.Prelude as P
 use Rattle.std.specs.Borrow.{Bor}
 use Rattle.std.proofs.Math.Option.{Option, none, some}
 use Rattle.laws.specs.Test.{if◌then◌otherwise◌}
 use Rattle.rules.specs.Builder.{table_limits}
-use Rattle.rules.specs.Form.{Piece, Reader, give, onward, ◌>>=◌, ◌>>◌, ◌or◌, word, number, norm, bits, bits_from, in_line, out_line}
+use Rattle.rules.specs.Form.{Piece, Reader, give, onward, ◌>>=◌, ◌>>◌, ◌or◌, word, number, norm, bits, in_line, out_line}
 use Rattle.rules.specs.Network.{Term, LutNode, Input, Linear, Bootstrap}
 use Rattle.rules.specs.NetworkText.{Net, NetworkLine, NetLine, NodeLine, OutLine, net_line, lin_line, boot_line, network_line, good_sum}
-use Rattle.rules.specs.Runs.{all_bits}
 use Rattle.text.specs.Pieces.{piece_as}
 use Rattle.text.specs.Name.{Named}
 use Rattle.forms.specs.Forms.{given_of, output_of, cap_output, GoodGiven}
 use Rattle.forms.specs.declared.Net as F
 use Rattle.nodes.specs.Terms.{terms_in, GoodTerms}
+use Rattle.network_text.specs.Table.{bits_of}
 use Rattle.network_text.specs.declared.line.Line.{Line}
 use Rattle.network_text.specs.declared.line.Line.TheVariants as L
 
@@ -28,7 +28,7 @@ abbrev pub line_of : Line → NetworkLine
 line_of (L.Net n) = NetLine (net_of n)
 line_of (L.In g) = NodeLine (Input (given_of g))
 line_of (L.Lin t) = NodeLine (Linear t.constant (terms_in t))
-line_of (L.Boot i b) = NodeLine (Bootstrap i (bits_from b.now))
+line_of (L.Boot i t) = NodeLine (Bootstrap i (bits_of t))
 line_of (L.Out o) = OutLine (output_of o)
 
 abbrev pub line_read : P.Option Line → Option NetworkLine
@@ -103,18 +103,12 @@ good_line (some l) = good_form l
 
 -- ---- What the code knows of a line that it read.
 
--- A table's 1 to 32 bits as they stand in the text.
-pub record TableBits (b : List ℕ) : Type 0 where
-  pub some : 1 ≤ length b
-  pub short : length b ≤ 32
-  pub bits : T (all_bits (bits_from b))
-
 -- Of a sum's terms, at most 11, CONST and COEF are within -31..31 and a node's number is below 65537.
 abbrev pub Within : Line → Type 0
 Within (L.Net n) = Unit {0}
 Within (L.In g) = GoodGiven (given_of g)
 Within (L.Lin t) = GoodTerms 65537 t
-Within (L.Boot i b) = TableBits b.now
+Within (L.Boot i t) = Unit {0}
 Within (L.Out o) = Named o.name.now
 
 abbrev pub ReadWithin : P.Option Line → Type 0

@@ -1,5 +1,5 @@
 -- The terms of a sum as they are read, and the sum so far.
-use Rattle.std.specs.Prelude.{◌≡◌, ◌≢◌, Bool, ◌&&◌, List, ℕ, ◌+◌, min, leb, length, set, ◌<◌, ◌≤◌, ℤ, pos, nat_abs, All, take}
+use Rattle.std.specs.Prelude.{◌≡◌, ◌≢◌, Bool, ◌&&◌, List, [], ◌∷◌, ◌++◌, ℕ, min, leb, length, ◌<◌, ◌≤◌, ℤ, nat_abs, All}
 use Rattle.std.specs.Prelude as P
 use Rattle.std.specs.Borrow.{Bor}
 use Rattle.std.proofs.Math.Option.{Option, none, some}
@@ -38,19 +38,17 @@ lin_rest = do
   give (Linear c ts)
 
 -- One term more.
-unfoldable pub with_next : SoFar → ℤ → Bor (List ℕ) → SoFar
-with_next t c d =
-    record {
-      terms = record { n = t.terms.n + 1; constant = t.terms.constant; coefs = set t.terms.coefs t.terms.n c; sources = set t.terms.sources t.terms.n (min 65536 (value d)) };
-      nodes = set t.nodes t.terms.n d;
-    }
+pub record Next (t : SoFar) (c : ℤ) (d : Bor (List ℕ)) (u : SoFar) : Type 0 where
+  pub constant : u.sum.constant ≡ t.sum.constant
+  pub terms : u.sum.terms.items ≡ t.sum.terms.items ++ (record { coef = c; node = min 65536 (value d) } ∷ [])
+  pub nodes : u.nodes.items ≡ t.nodes.items ++ (d ∷ [])
 
 -- The terms so far and this one may be those of a good sum.
 pub record GoodNext (t : SoFar) (c : ℤ) (d : List ℕ) : Type 0 where
-  pub room : t.terms.n < 11
+  pub room : length t.nodes.items < 11
   pub used : nat_abs c ≢ 0
   pub small : nat_abs c ≤ 31
-  pub new : All (λ w. w.now ≢ d) (take t.terms.n t.nodes)
+  pub new : All (λ w. w.now ≢ d) t.nodes.items
 
 -- Terms as they are kept, if they are those of a good sum.
 unfoldable pub fine : List Term → Bool

@@ -3,5 +3,7 @@
 
 mod line;
 mod sum;
+mod table;
 
 pub use line::{Line, read_line, read_net};
+pub use table::TableText;

@@ -5,17 +5,18 @@ ghost use Rattle.text.specs.Pieces.{piece_as};
 ghost use Rattle.network_text.specs.Lines.{net_line_of, net_rest, boot_rest, net_form, node_form, line_form, good_piece, IsForm, LineRead};
 
 use crate::sum::read_sum;
+use crate::table::TableText;
 use forms::{Input, Net, Output, read_in, read_norm, read_out};
 use nodes::terms::Terms;
-use text::{read_bits, read_number, read_word};
+use text::{read_number, read_word};
 
-// What a line says: P, M and NORM; an input; a sum; a table's node and its bits; an output.
-#[derive(Clone, Copy)]
+// What a line says: P, M and NORM; an input; a sum; a table and its node; an output.
+#[derive(Drop)]
 pub enum Line<'a> {
     Net(Net),
     In(Input<'a>),
     Lin(Terms),
-    Boot(usize, &'a [u8]),
+    Boot { source: usize, table: TableText<'a> },
     Out(Output<'a>),
 }
 
@@ -35,22 +36,19 @@ pub fn read_net(s: &[u8]) -> Option<(Net, &[u8])>
     Some((Net { p, m, norm }, s))
 }
 
-// What stands behind `(boot `: the node, and 1 to 32 bits.
-#[tactic(auto, using(crate::proofs::Bits::table_bits, theorems::specs::Pieces::from_length), unfolding(crate::specs::Readers::readers))]
+// What stands behind `(boot `: the node and its table.
+#[tactic(auto, using(crate::proofs::Boot::tables), unfolding(crate::specs::Readers::readers))]
 fn read_boot(s: &[u8]) -> Option<(Line<'_>, &[u8])>
     ensures { IsForm (node_form (boot_rest s.now)) result }
 {
     let (source, s) = read_number(s)?;
     let s = read_word(s, b" ")?;
-    let (bits, s) = read_bits(s)?;
+    let (table, s) = TableText::read(s)?;
     let s = read_word(s, b")\n")?;
-    if bits.len() > 32 {
-        return None;
-    }
-    Some((Line::Boot(source, bits), s))
+    Some((Line::Boot { source, table }, s))
 }
 
-// A line at the front of some bytes.
+// A line at the front of some bytes. Not a chain of `.or_else`: the check does not cover `.map` to a form that lends its text.
 #[tactic(auto, using(crate::proofs::LineForms::forms, forms::specs::Forms::in_good, forms::specs::Forms::out_named), unfolding(crate::specs::Readers::readers))]
 fn read_form(s: &[u8]) -> Option<(Line<'_>, &[u8])>
     ensures { IsForm (line_form s.now) result }

@@ -1,14 +1,15 @@
 // `(lin CONST (COEF ID) ..)`: its terms, of which a good sum has 1 to 11.
-ghost use Rattle.std.specs.Prelude.{◌≡◌, ◌≢◌, ◌<◌, ◌≤◌, ◌↔◌, IsTrue, IfSome, All, nat_abs, take};
+ghost use Rattle.std.specs.Prelude.{◌≡◌, ◌≢◌, ◌<◌, ◌≤◌, ◌↔◌, IsTrue, IfSome, All, nat_abs, length};
 ghost use Rattle.rules.specs.Form.{many};
 ghost use Rattle.text.specs.Capped.{capped};
 ghost use Rattle.text.specs.Decimal.{Decimal};
 ghost use Rattle.text.specs.Pieces.{piece_as};
 ghost use Rattle.nodes.specs.Terms.{terms_in};
-ghost use Rattle.network_text.specs.Terms.{term_of, cap_coef, spaced_term, good_list, with_next, GoodNext, SumRead};
+ghost use Rattle.network_text.specs.Terms.{term_of, cap_coef, spaced_term, good_list, Next, GoodNext, SumRead};
 
+use arrayvec::ArrayVec;
 use forms::read_signed;
-use nodes::terms::Terms;
+use nodes::terms::{Summand, Terms};
 use text::{read_digits, read_word, value_of};
 
 // A space and `(COEF ID)`: the coefficient and the node's digits.
@@ -33,41 +34,35 @@ fn is_small(z: i64) -> bool
     z.unsigned_abs() <= 31
 }
 
-// The terms so far, and the digits of their nodes.
+// The sum so far, and the digits of its nodes: two lists, since the terms are handed on without their digits.
 #[derive(Drop)]
 struct SoFar<'a> {
-    terms: Terms,
-    nodes: [&'a [u8]; 11],
+    sum: Terms,
+    nodes: ArrayVec<&'a [u8], 11>,
 }
 
 impl<'a> SoFar<'a> {
     // A node's number is kept up to 65536 only, so two nodes are compared by their digits.
     fn is_new(&self, digits: &[u8]) -> bool
-        requires { self.now.terms.n ≤ 11 }
-        ensures { IsTrue result ↔ All (λ w. w.now ≢ digits.now) (take self.now.terms.n self.now.nodes) }
+        ensures { IsTrue result ↔ All (λ w. w.now ≢ digits.now) self.now.nodes.items }
     {
-        self.nodes[..self.terms.n]
-            .iter()
-            .all(|&node| node != digits)
+        self.nodes.iter().all(|&node| node != digits)
     }
 
-    // With this term they may be those of a good sum.
+    // With this term it may be a good one.
     fn takes(&self, coef: i64, digits: &[u8]) -> bool
         ensures { IsTrue result ↔ GoodNext self.now coef digits.now }
     {
-        self.terms.n < 11 && coef != 0 && is_small(coef) && self.is_new(digits)
+        self.nodes.len() < 11 && coef != 0 && is_small(coef) && self.is_new(digits)
     }
 
-    #[tactic(auto, unfolding(crate::specs::Terms::with_next))]
     fn push(&mut self, coef: i64, digits: &'a [u8])
-        requires { self.old.terms.n < 11 }
-        ensures { self.new ≡ with_next self.old coef digits.entry }
+        requires { (length self.old.sum.terms.items < 11) × (length self.old.nodes.items < 11) }
+        ensures { Next self.old coef digits.entry self.new }
     {
-        let n = self.terms.n;
-        self.terms.coefs[n] = coef;
-        self.terms.sources[n] = value_of(digits);
-        self.nodes[n] = digits;
-        self.terms.n = n + 1;
+        let node = value_of(digits);
+        self.sum.terms.push(Summand { coef, node });
+        self.nodes.push(digits);
     }
 }
 
@@ -75,17 +70,14 @@ impl<'a> SoFar<'a> {
 fn read_terms(constant: i64, s: &[u8]) -> Option<(Terms, &[u8])>
     requires { nat_abs constant ≤ 31 }
     ensures same { piece_as terms_in result ≡ good_list (many spaced_term s.now) }
-    ensures kept { IfSome result (λ p. (p.0.constant ≡ constant) × (p.0.n ≤ 11)) }
+    ensures kept { IfSome result (λ p. (p.0.constant ≡ constant) × (length p.0.terms.items ≤ 11)) }
 {
-    let terms = Terms {
-        n: 0,
-        constant,
-        coefs: [0; 11],
-        sources: [0; 11],
-    };
     let mut t = SoFar {
-        terms,
-        nodes: [b""; 11],
+        sum: Terms {
+            constant,
+            terms: ArrayVec::new(),
+        },
+        nodes: ArrayVec::new(),
     };
     let mut rest = s;
     while let Some(((coef, digits), after)) = read_term(rest) {
@@ -95,10 +87,10 @@ fn read_terms(constant: i64, s: &[u8]) -> Option<(Terms, &[u8])>
         t.push(coef, digits);
         rest = after;
     }
-    if t.terms.n == 0 {
+    if t.nodes.is_empty() {
         return None;
     }
-    Some((t.terms, rest))
+    Some((t.sum, rest))
 }
 
 // What stands behind `(lin `.

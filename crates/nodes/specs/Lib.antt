@@ -1,10 +1,9 @@
 -- The node store: what its values stand for, and what stands in it.
+pub mod Number
 pub mod View
 pub mod Terms
 pub mod Store
 pub mod Norm
 pub mod Depth
-pub mod Insert
 pub mod Seen
-pub mod Made
 pub mod Grown

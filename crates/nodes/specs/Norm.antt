@@ -1,14 +1,17 @@
 -- Norms, from the first term to the last.
 use Rattle.std.specs.Prelude.{◌≡◌, refl, List, [], ◌∷◌, ◌++◌, ℕ, ◌+◌, ◌*◌, ◌<◌, ◌≤◌, ℤ, nat_abs, length, get_or, take}
 use Rattle.std.proofs.Common.{◌∙◌, sym, ap, ap₂, arith, take_all, subst, mul-le-mul, to_z-of_z, to_z, of_z}
+use Rattle.std.proofs.lemmas.List.{length-map}
 use Rattle.std.specs.Int.{w8, w64}
 use Rattle.laws.specs.Integer.{fits_abs}
 use Rattle.rules.specs.Circuit.{Given}
 use Rattle.rules.specs.Network.{Term, LutNode, Input, Linear, Bootstrap, node_at, weight_of, norm, node_norm}
 use Rattle.nodes.specs.declared.node.Term as T
 use Rattle.nodes.specs.declared.store.Store.{Store}
+use Rattle.nodes.specs.declared.terms.Terms.{Terms}
 use Rattle.nodes.specs.Seen.{term_below, term_small, terms_next}
-use Rattle.nodes.specs.Store.{store_of, node_fine}
+use Rattle.nodes.specs.Store.{store_of, store_few, node_fine}
+use Rattle.nodes.specs.Terms.{terms_in, GoodTerms, in_length}
 use Rattle.nodes.specs.View.{term, term_of, terms_seen, Fine, FineTerms, fine_more}
 
 -- a coefficient's byte read wide
@@ -61,6 +64,16 @@ pub coef_small : (ts : List T.Term) (count k : ℕ) (t : T.Term) → FineTerms c
 coef_small ts count k t f h = rw (coef_read _ (term_small ts k t h count f)) (term_small ts k t h count f)
 
 pub ruleset summing = (norm_none, norm_done, norm_step, term_below, coef_small)
+
+-- ---- terms that are handed on
+
+module _ (s : Store) (t : Terms) (g : GoodTerms (length (store_of s)) t) where
+  pub good_stored : GoodTerms 672 t
+  good_stored = record { few = g.few; near = g.near; fine = fine_more (length (store_of s)) 672 (terms_in t) (store_few s) g.fine }
+
+  pub good_seen : (ts : List T.Term) → terms_seen ts ≡ terms_in t → FineTerms (length (store_of s)) (terms_seen ts) × (length ts ≤ 11)
+  unfolding terms_seen
+  good_seen ts e = (rw e g.fine, omega (arith, sym (length-map ts term_of), ap length e, in_length t, g.few))
 
 -- ---- a node's
 

@@ -1,11 +1,11 @@
 -- A store, seen as the definition's nodes.
 use Rattle.std.specs.Prelude.{◌≡◌, List, [], ◌∷◌, ◌++◌, ℕ, ◌<◌, ◌≤◌, length, get_or}
-use Rattle.std.proofs.Common.{ap}
+use Rattle.std.proofs.Common.{ap, arith}
 use Rattle.std.proofs.lemmas.List.{length-map}
 use Rattle.rules.specs.Network.{LutNode, node_at, node_centre, depth}
 use Rattle.theorems.specs.EarlierNodes.{Ordered}
 use Rattle.nodes.specs.declared.store.Store.{Store}
-use Rattle.nodes.specs.View.{nodes_of, depths_of, centres_of, AllFine, Fine, fine_ordered}
+use Rattle.nodes.specs.View.{nodes_of, depths_of, centres_of, AllFine, Fine, fine_later, fine_ordered}
 
 unfoldable pub store_of : Store → List LutNode
 store_of s = nodes_of s.nodes.items
@@ -45,6 +45,10 @@ module _ (s : Store) where
   pub node_fine : (i : ℕ) → i < length (store_of s) → Fine i (node_at (store_of s) i)
   unfolding AllFine
   node_fine = store_fine
+
+  -- its numbers are within a store's
+  pub node_within : (i : ℕ) → i < length (store_of s) → Fine 672 (node_at (store_of s) i)
+  node_within i h = fine_later i 672 (node_at (store_of s) i) (omega (arith, store_few)) (node_fine i h)
 
   -- the depth that stands beside a node is the definition's
   pub recorded_depth : (i : ℕ) → depth_in s i ≡ depth (store_of s) i

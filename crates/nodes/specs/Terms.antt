@@ -1,105 +1,100 @@
--- The terms of a sum as the code hands them on: two arrays, of which the first n count.
-use Rattle.std.specs.Prelude.{◌≡◌, refl, ℕ, zero, suc, ◌+◌, ◌<◌, ◌≤◌, ℤ, pos, nat_abs, length, get_or, take, drop}
-use Rattle.std.proofs.Common.{ap, ap₂, ◌∙◌, sym, not-suc-le-zero, le_of_suc-le-suc, add-one, arith, take-suc, drop-cons, get_or-take, to_z-of_z, to_z, of_z, SFits}
-use mathlib.Core.List.{List, [], ◌∷◌, ◌++◌, zip_with}
-use Rattle.std.proofs.Math.Seq.{length-take-le}
+-- The terms of a sum as the code hands them on.
+use Rattle.std.specs.Prelude.{◌≡◌, refl, List, [], ◌∷◌, ◌++◌, map, ℕ, zero, suc, ◌+◌, ◌<◌, ◌≤◌, ℤ, pos, nat_abs, length, get_or, take}
+use Rattle.std.proofs.Common.{ap, ap₂, ◌∙◌, sym, add-one, arith, take_all, take-suc, to_z-of_z, to_z, of_z, SFits, length-append}
+use Rattle.std.proofs.lemmas.List.{length-map, get_or-map, map-append}
+use mathlib.Core.List.{zip_with}
 use Rattle.std.specs.Int.{w8, w64}
 use Rattle.laws.specs.Integer.{fits_abs}
 use Rattle.rules.specs.Network.{Term}
+use Rattle.nodes.specs.declared.node.Term as T
+use Rattle.nodes.specs.declared.terms.Summand as S
 use Rattle.nodes.specs.declared.terms.Terms.{Terms}
-use Rattle.nodes.specs.View.{FineTerms, fine_at, term}
+use Rattle.nodes.specs.View.{FineTerms, fine_at, term, term_of, terms_seen}
 
-unfoldable pub terms_over : ℕ → List ℤ → List ℕ → List Term
-terms_over n coefs sources = zip_with term (take n coefs) (take n sources)
+abbrev pub summand_of : S.Summand → Term
+summand_of s = term s.coef s.node
+
+unfoldable pub summands : List S.Summand → List Term
+summands = map summand_of
 
 unfoldable pub terms_in : Terms → List Term
-terms_in t = terms_over t.n t.coefs t.sources
+terms_in t = summands t.terms.items
 
 pub record GoodTerms (count : ℕ) (t : Terms) : Type 0 where
-  pub few : t.n ≤ 11
+  pub few : length t.terms.items ≤ 11
   pub near : nat_abs t.constant ≤ 31
   pub fine : FineTerms count (terms_in t)
 
--- ---- laws: two arrays
+-- ---- laws
 
-zip_length : (cs : List ℤ) (ns : List ℕ) → length cs ≡ length ns → length (zip_with term cs ns) ≡ length cs
-unfolding zip_with
-zip_length [] [] e = refl
-zip_length [] (n ∷ ns) e = refl
-zip_length (c ∷ cs) [] e = absurd (omega arith)
-zip_length (c ∷ cs) (n ∷ ns) e = ap suc (zip_length cs ns (omega arith))
+pub in_length : (t : Terms) → length (terms_in t) ≡ length t.terms.items
+unfolding terms_in summands
+in_length t = length-map t.terms.items summand_of
 
-zip_at : (cs : List ℤ) (ns : List ℕ) (i : ℕ) (z : Term) → i < length cs → i < length ns → get_or (zip_with term cs ns) i z ≡ term (get_or cs i (pos 0)) (get_or ns i 0)
-unfolding zip_with
-zip_at [] ns i z h k = absurd (not-suc-le-zero h)
-zip_at (c ∷ cs) [] i z h k = absurd (not-suc-le-zero k)
-zip_at (c ∷ cs) (n ∷ ns) zero z h k = refl
-zip_at (c ∷ cs) (n ∷ ns) (suc i) z h k = zip_at cs ns i z (le_of_suc-le-suc h) (le_of_suc-le-suc k)
+-- one more
+pub summands_more : (ts : List S.Summand) (s : S.Summand) → summands (ts ++ (s ∷ [])) ≡ summands ts ++ (summand_of s ∷ [])
+unfolding summands
+summands_more ts s = map-append summand_of ts (s ∷ [])
 
-module _ (n : ℕ) (cs : List ℤ) (ns : List ℕ) (e : length cs ≡ 11) (f : length ns ≡ 11) where
-  pub over-length : n ≤ 11 → length (terms_over n cs ns) ≡ n
-  unfolding terms_over
-  over-length h =
-      let a = length-take-le n cs (omega arith) in
-      let b = length-take-le n ns (omega arith) in
-      zip_length (take n cs) (take n ns) (a ∙ sym b) ∙ a
+module _ (count : ℕ) (t : Terms) (g : GoodTerms count t) (k : ℕ) (d : S.Summand) (h : k < length t.terms.items) where
+  seen : get_or (terms_in t) k (summand_of d) ≡ summand_of (get_or t.terms.items k d)
+  unfolding terms_in summands
+  seen = get_or-map summand_of t.terms.items k d (summand_of d) h
 
-  pub over-at : (i : ℕ) (z : Term) → i < n → n ≤ 11 → get_or (terms_over n cs ns) i z ≡ term (get_or cs i (pos 0)) (get_or ns i 0)
-  unfolding terms_over
-  over-at i z h k =
-      let a = length-take-le n cs (omega arith) in
-      let b = length-take-le n ns (omega arith) in
-      zip_at (take n cs) (take n ns) i z (omega arith) (omega arith) ∙ ap₂ {C = Term} term (get_or-take n cs i (pos 0) h) (get_or-take n ns i 0 h)
-
-pub over_none : (cs : List ℤ) (ns : List ℕ) → terms_over 0 cs ns ≡ []
-unfolding terms_over zip_with
-over_none cs ns = refl
-
--- ---- laws: the code's terms
-
-module _ (t : Terms) (few : t.n ≤ 11) (e : length t.coefs ≡ 11) (f : length t.sources ≡ 11) where
-  pub in_length : length (terms_in t) ≡ t.n
-  unfolding terms_in
-  in_length = over-length t.n t.coefs t.sources e f few
-
-  module _ (k : ℕ) (h : k < t.n) where
-    pub in_at : (z : Term) → get_or (terms_in t) k z ≡ term (get_or t.coefs k (pos 0)) (get_or t.sources k 0)
-    unfolding terms_in
-    in_at z = over-at t.n t.coefs t.sources e f k z h few
-
-    pub in_drop : drop k (terms_in t) ≡ term (get_or t.coefs k (pos 0)) (get_or t.sources k 0) ∷ drop (k + 1) (terms_in t)
-    in_drop =
-        let z = term (pos 0) 0 in
-        let l = in_length in
-        rw (add-one, drop-cons (terms_in t) k z (omega arith), in_at z)
-
-    pub in_take : take (k + 1) (terms_in t) ≡ take k (terms_in t) ++ (term (get_or t.coefs k (pos 0)) (get_or t.sources k 0) ∷ [])
-    in_take =
-        let z = term (pos 0) 0 in
-        let l = in_length in
-        rw (add-one, take-suc (terms_in t) k z (omega arith), in_at z)
-
-module _ (count : ℕ) (t : Terms) (g : GoodTerms count t) (e : length t.coefs ≡ 11) (f : length t.sources ≡ 11) (k : ℕ) (h : k < t.n) where
-  pub good_near : nat_abs (get_or t.coefs k (pos 0)) ≤ 31
+  near_below : (nat_abs (get_or t.terms.items k d).coef ≤ 31) × ((get_or t.terms.items k d).node < count)
   unfolding term
-  good_near =
-      let z = term (pos 0) 0 in
-      let l = in_length t g.few e f in
-      rw (in_at t g.few e f k h z) at (fine_at count (terms_in t) k z g.fine (omega arith)).0
+  near_below = rw seen at (fine_at count (terms_in t) k (summand_of d) g.fine (omega (arith, in_length t)))
 
-  pub good_below : get_or t.sources k 0 < count
-  unfolding term
-  good_below =
-      let z = term (pos 0) 0 in
-      let l = in_length t g.few e f in
-      rw (in_at t g.few e f k h z) at (fine_at count (terms_in t) k z g.fine (omega arith)).1
+  pub good_below : (get_or t.terms.items k d).node < count
+  good_below = near_below.1
 
   -- what the machine reads and writes
-  pub good_read : to_z w64 (of_z w64 (get_or t.coefs k (pos 0))) ≡ get_or t.coefs k (pos 0)
-  good_read = to_z-of_z {w = w64} (fits_abs (get_or t.coefs k (pos 0)) (omega (arith, good_near)))
+  good_read : to_z w64 (of_z w64 (get_or t.terms.items k d).coef) ≡ (get_or t.terms.items k d).coef
+  good_read = to_z-of_z {w = w64} (fits_abs (get_or t.terms.items k d).coef (omega (arith, near_below.0)))
 
-  pub good_small : SFits w8 (to_z w64 (of_z w64 (get_or t.coefs k (pos 0))))
-  good_small = rw good_read (fits_abs (get_or t.coefs k (pos 0)) (omega (arith, good_near)))
+  pub good_small : SFits w8 (to_z w64 (of_z w64 (get_or t.terms.items k d).coef))
+  good_small = rw good_read (fits_abs (get_or t.terms.items k d).coef (omega (arith, near_below.0)))
 
-  pub good_written : to_z w8 (of_z w8 (to_z w64 (of_z w64 (get_or t.coefs k (pos 0))))) ≡ get_or t.coefs k (pos 0)
+  pub good_written : to_z w8 (of_z w8 (to_z w64 (of_z w64 (get_or t.terms.items k d).coef))) ≡ (get_or t.terms.items k d).coef
   good_written = to_z-of_z {w = w8} good_small ∙ good_read
+
+-- ---- laws: made the store's terms, one by one
+
+-- so many are made
+abbrev pub Made : Terms → ℕ → List T.Term → Type 0
+Made t k ts = (terms_seen ts ≡ summands (take k t.terms.items)) × (length ts ≡ k)
+
+pub made_none : (ts : List T.Term) → ts ≡ [] → (terms_seen ts ≡ summands []) × (length ts ≡ 0)
+unfolding terms_seen summands
+made_none ts e = (rw e refl, rw e refl)
+
+pub made_more : (t : Terms) (k : ℕ) (ts : List T.Term) (u : T.Term) (d : S.Summand) → k < length t.terms.items → Made t k ts
+    → u.coef ≡ (get_or t.terms.items k d).coef → u.node ≡ (get_or t.terms.items k d).node → Made t (k + 1) (ts ++ (u ∷ []))
+unfolding terms_seen
+made_more t k ts u d h m p q = (
+  map-append term_of ts (u ∷ []) ∙ ap₂ (λ l r. l ++ (r ∷ [])) m.0 (ap₂ term p q) ∙ sym (ap summands (rw add-one (take-suc t.terms.items k d h)) ∙ summands_more (take k t.terms.items) (get_or t.terms.items k d)),
+  length-append ts (u ∷ []) ∙ ap (λ n. n + 1) m.1,
+)
+
+pub made_done : (t : Terms) (k : ℕ) (ts : List T.Term) → length t.terms.items ≤ k → Made t k ts → terms_seen ts ≡ terms_in t
+unfolding terms_in
+made_done t k ts h m = m.0 ∙ ap summands (take_all k t.terms.items h)
+
+pub ruleset made = (made_none, made_more, made_done, good_below, good_small, good_written)
+
+-- ---- laws: made of two slices
+
+-- what is over from two lists that are read side by side
+zip_turned : (cs : List ℤ) (ns : List ℕ) (k : ℕ) → length cs ≡ length ns → k < length ns
+    → zip_with term (take (suc k) cs) (take (suc k) ns) ≡ zip_with term (take k cs) (take k ns) ++ (term (get_or cs k (pos 0)) (get_or ns k 0) ∷ [])
+unfolding zip_with term
+zip_turned [] ns k e h = absurd (omega arith)
+zip_turned (c ∷ cs) [] k e h = absurd (omega arith)
+zip_turned (c ∷ cs) (n ∷ ns) zero e h = refl
+zip_turned (c ∷ cs) (n ∷ ns) (suc k) e h = ap {B = List Term} (λ r. term c n ∷ r) (zip_turned cs ns k (omega arith) (omega arith))
+
+pub over_more : (cs : List ℤ) (ns : List ℕ) (k : ℕ) (ts us : List S.Summand) (s : S.Summand) → length cs ≡ length ns → k < length ns → summands ts ≡ zip_with term (take k cs) (take k ns)
+    → us ≡ ts ++ (s ∷ []) → s.coef ≡ get_or cs k (pos 0) → s.node ≡ get_or ns k 0 → summands us ≡ zip_with term (take (k + 1) cs) (take (k + 1) ns)
+over_more cs ns k ts us s e h m u p q =
+    ap summands u ∙ summands_more ts s ∙ ap₂ (λ l r. l ++ (r ∷ [])) m (ap₂ {C = Term} term p q)
+    ∙ sym (rw add-one (zip_turned cs ns k e h))

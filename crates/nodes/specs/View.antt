@@ -144,6 +144,12 @@ unfolding FineTerms
 fine_more count more [] h f = tt
 fine_more count more (t ∷ ts) h f = (f.0, omega arith, fine_more count more ts h f.2)
 
+pub fine_later : (i more : ℕ) (n : LutNode) → i ≤ more → Fine i n → Fine more n
+unfolding Fine
+fine_later i more (Input g) h f = f
+fine_later i more (Linear c ts) h f = (f.0, f.1, fine_more i more ts h f.2)
+fine_later i more (Bootstrap j table) h f = let l = f.0 in (omega arith, f.1, f.2)
+
 -- ---- laws: a fine node
 
 fine_sources : (i : ℕ) (ts : List Term) → FineTerms i ts → (j : ℕ) → member j (sources ts) ≡ true → j < i

@@ -16,7 +16,7 @@ impl Store {
     {
         let mut deepest = 0;
         for term in terms {
-            deepest = self.depth(term.node as usize).max(deepest);
+            deepest = self.depth(term.node.get()).max(deepest);
         }
         deepest
     }
@@ -30,7 +30,7 @@ impl Store {
         match node {
             LutNode::Input { .. } => 0,
             LutNode::Linear { terms, .. } => self.deepest(terms),
-            LutNode::Bootstrap { source, .. } => self.depth(*source as usize) + 1,
+            LutNode::Bootstrap { source, .. } => self.depth(source.get()) + 1,
         }
     }
 }

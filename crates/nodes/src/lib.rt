@@ -3,8 +3,9 @@
 #![tactic(auto)]
 
 pub mod depth;
-pub mod insert;
 pub mod node;
 pub mod norm;
+pub mod number;
+pub mod short;
 pub mod store;
 pub mod terms;

@@ -5,66 +5,55 @@ ghost use Rattle.theorems.specs.Weights.{GoodWeight};
 ghost use Rattle.nodes.specs.Terms.{terms_in, GoodTerms};
 ghost use Rattle.nodes.specs.View.{given, lut_node, terms_seen};
 
+use crate::number::Number;
+use crate::short::Short;
 use crate::terms::Terms;
-use arrayvec::ArrayVec;
 
 // One term of a sum: a coefficient and the number of its node.
 #[derive(Clone, Copy, PartialEq, Eq, Default)]
 pub struct Term {
     pub coef: i8,
-    pub node: u16,
+    pub node: Number,
 }
 
-// A node (LutNode): numbers are small, so that many nodes lie close together.
+// A node (LutNode): numbers are small, so that many nodes lie close together, and of one byte's alignment, so that nothing lies between them.
 #[derive(PartialEq, Eq, Drop)]
 pub enum LutNode {
     Input {
-        name: ArrayVec<u8, 16>,
+        name: Short<u8, 16>,
         weight: u8,
     },
     Linear {
         constant: i8,
-        terms: ArrayVec<Term, 11>,
+        terms: Short<Term, 11>,
     },
     Bootstrap {
-        source: u16,
-        table: ArrayVec<u8, 32>,
+        source: Number,
+        table: Short<u8, 32>,
     },
 }
 
-// What the unused places of a store hold.
+// What the unused places of a store hold. It is of zeros alone, so a store is set up at once.
 impl Default for LutNode {
     fn default() -> LutNode {
         LutNode::Input {
-            name: ArrayVec::new(),
+            name: Short::new(),
             weight: 0,
         }
     }
 }
 
-// A name's or a table's bytes as a list.
-fn list_of<const N: usize>(bytes: &[u8]) -> ArrayVec<u8, N>
-    requires { length bytes.now ≤ N }
-    ensures { result.items ≡ bytes.now }
+// A sum's terms as the store has them.
+#[tactic(auto, using(crate::specs::Terms::made))]
+pub fn terms_of(t: &Terms) -> Short<Term, 11>
+    requires { GoodTerms 672 t.now }
+    ensures { terms_seen result.items ≡ terms_in t.now }
 {
-    let mut list = ArrayVec::new();
-    for &byte in bytes {
-        list.push(byte);
-    }
-    list
-}
-
-// A sum's terms as a list.
-#[tactic(auto, using(crate::specs::Made::made))]
-fn terms_of(t: Terms) -> ArrayVec<Term, 11>
-    requires { GoodTerms 672 t }
-    ensures { terms_seen result.items ≡ terms_in t }
-{
-    let mut terms = ArrayVec::new();
-    for k in 0..t.n {
+    let mut terms = Short::new();
+    for term in t.terms.iter() {
         terms.push(Term {
-            coef: t.coefs[k] as i8,
-            node: t.sources[k] as u16,
+            coef: term.coef as i8,
+            node: Number::new(term.node),
         });
     }
     terms
@@ -77,7 +66,7 @@ impl LutNode {
         ensures { lut_node result ≡ rules.Input (given name.now weight) }
     {
         LutNode::Input {
-            name: list_of(name),
+            name: Short::from_slice(name),
             weight,
         }
     }
@@ -89,7 +78,7 @@ impl LutNode {
     {
         LutNode::Linear {
             constant: t.constant as i8,
-            terms: terms_of(t),
+            terms: terms_of(&t),
         }
     }
 
@@ -99,20 +88,19 @@ impl LutNode {
         ensures { lut_node result ≡ rules.Bootstrap source table.now }
     {
         LutNode::Bootstrap {
-            source: source as u16,
-            table: list_of(table),
+            source: Number::new(source),
+            table: Short::from_slice(table),
         }
     }
 
     // An input's weight; of any other node 1.
     #[tactic(auto, unfolding(crate::specs::View::lut_node, rules::specs::Network::weight_of))]
-    pub fn weight(&self) -> usize
+    pub fn weight(&self) -> u8
         ensures { result ≡ rules.weight_of (lut_node self.now) }
     {
         match self {
-            LutNode::Input { weight, .. } => *weight as usize,
-            LutNode::Linear { .. } => 1,
-            LutNode::Bootstrap { .. } => 1,
+            LutNode::Input { weight, .. } => *weight,
+            LutNode::Linear { .. } | LutNode::Bootstrap { .. } => 1,
         }
     }
 }

@@ -4,17 +4,21 @@ ghost use Rattle.rules.specs.Network.{depths};
 ghost use Rattle.nodes.specs.View.{nodes_of, depths_of, AllFine, AllFine_prop};
 
 use crate::node::LutNode;
+use crate::number::Number;
 use arrayvec::ArrayVec;
 
-// A node, how many bootstraps lie one behind another up to it, and the centre of its table (of a node that has none 0).
+// A node, how many bootstraps lie one behind another up to it, and the centre of its table (of a node that has none 0: an Option
+// would take a byte more).
+// The centre is not in the node: nodes are shared where they are `==`, and a bootstrap's equality is that of its source and its table alone.
 #[derive(Drop, Default)]
 pub struct Stored {
     pub node: LutNode,
-    pub depth: u16,
+    pub depth: Number,
     pub centre: u8,
 }
 
 // The nodes in order. Each leans on nodes before it alone, its numbers are within their limits, and its depth is the definition's.
+// That there is room for one more, or a node of number i, is of one call, so functions ask it and no type says it.
 #[derive(Drop)]
 pub struct Store {
     pub nodes: ArrayVec<Stored, 672>,
@@ -38,6 +42,14 @@ impl Store {
         }
     }
 
+    // Without nodes, as a new one.
+    #[tactic(auto, unfolding(crate::specs::Store::store_of, crate::specs::View::nodes_of, crate::specs::View::depths_of, crate::specs::View::AllFine, rules::specs::Network::depths, rules::specs::Network::depths_from))]
+    pub fn clear(&mut self)
+        ensures { store_of self.new ≡ [] }
+    {
+        self.nodes.clear();
+    }
+
     // How many there are.
     #[tactic(auto, unfolding(crate::specs::Store::store_of, crate::specs::View::nodes_of))]
     pub fn len(&self) -> usize
@@ -57,7 +69,7 @@ impl Store {
 
     // An input's weight; of any other node 1.
     #[tactic(auto, using(crate::specs::Seen::reads))]
-    pub fn weight(&self, i: usize) -> usize
+    pub fn weight(&self, i: usize) -> u8
         requires { i < length (store_of self.now) }
         ensures { (result ≡ weight_of (node_at (store_of self.now) i)) × (result ≤ 64) }
     {
@@ -70,7 +82,7 @@ impl Store {
         requires { i < length (store_of self.now) }
         ensures { result ≡ depth (store_of self.now) i }
     {
-        self.nodes[i].depth as usize
+        self.nodes[i].depth.get()
     }
 
     // The centre of a bootstrap's table; of any other node 0.
@@ -102,7 +114,7 @@ impl Store {
         let depth = self.depth_of(&node);
         self.nodes.push(Stored {
             node,
-            depth: depth as u16,
+            depth: Number::new(depth),
             centre,
         });
     }

@@ -19,7 +19,7 @@ use Rattle.nodes.specs.Terms.{terms_in, GoodTerms}
 use Rattle.nodes.specs.View.{term, FineTerms}
 use Rattle.lut.specs.Store.{Interns}
 use Rattle.cone.specs.declared.Cone.{Cone}
-use Rattle.cone.specs.View.{cone_of, IsCone, view_sources, truth-bit}
+use Rattle.cone.specs.View.{cone_of, view_sources, truth-bit}
 use Rattle.cone.specs.Sources.{Stands}
 use Rattle.bootstrap.specs.View.{Grown, Boots, booted_of, centres_same}
 use Rattle.bootstrap.specs.Boot.{grown_by_one, number_inside}
@@ -44,65 +44,73 @@ AllIn n os = All (λ (o : Output). WireIn n o.wire) os
 
 -- The sum of one term: 1 less the node.
 pub record Negated (node : ℕ) (t : Terms) : Type 0 where
-  pub few : t.n ≤ 11
+  pub few : length t.terms.items ≤ 11
   pub constant : t.constant ≡ pos 1
   pub are : terms_in t ≡ term (negsuc 0) node ∷ []
 
 -- ---- laws: a cone of no source or one source is not bootstrapped
 
-pub idle_signal : (s : Settings) (nodes : List LutNode) (c : Cone) → IsCone c → c.n ≤ 1 → (r : Signal) → r ≡ wire_of nodes (cone_of c).support (cone_of c).truth → r ≡ output_signal s nodes (cone_of c)
+idle_signal : (s : Settings) (nodes : List LutNode) (c : Cone) → length (cone_of c).support ≤ 1 → (r : Signal) → r ≡ wire_of nodes (cone_of c).support (cone_of c).truth → r ≡ output_signal s nodes (cone_of c)
 unfolding output_signal bootstrap_cone
-idle_signal s nodes c is h r e = rw (le-leb (length (cone_of c).support) 1 (omega (arith, view_sources c is))) e
+idle_signal s nodes c h r e = rw (le-leb (length (cone_of c).support) 1 h) e
+
+finishes_self : {p : ℕ} (store : Store) (wire : Wire) → WireIn (length (store_of store)) wire → Finishes p store 2 store wire
+finishes_self store wire inside = record { grown = record { least = omega arith; most = omega arith; centred = centres_same }; inside = inside }
+
+none_of : (l : List ℕ) → length l ≡ 0 → l ≡ []
+none_of [] h = refl
+none_of (x ∷ l) h = absurd (omega arith)
+
+one_of : (l : List ℕ) → length l ≡ 1 → l ≡ get_or l 0 0 ∷ []
+one_of [] h = absurd (omega arith)
+one_of (x ∷ []) h = refl
+one_of (x ∷ y ∷ l) h = absurd (omega arith)
+
+module _ (s : Settings) (store : Store) (c : Cone) (first : ℕ) (f : first ≡ get_or (cone_of c).truth 0 0) (sources : List ℕ) (e : sources ≡ (cone_of c).support) where
+  -- a cone of no source is its truth
+  module _ (none : length sources ≡ 0) where
+    no_source : (cone_of c).support ≡ []
+    no_source = sym e ∙ none_of sources none
+
+    constant_wire : signal_read store (Const first) ≡ wire_of (store_of store) (cone_of c).support (cone_of c).truth
+    unfolding signal_read wire_of
+    constant_wire = rw (no_source, f) refl
+
+    pub constant_is : signal_read store (Const first) ≡ output_signal s (store_of store) (cone_of c)
+    constant_is = idle_signal s (store_of store) c (omega (arith, ap length e)) _ constant_wire
+
+    pub constant_finishes : Finishes s.p store 2 store (Const first)
+    constant_finishes = finishes_self store (Const first) (omega (arith, f, truth-bit c 0))
+
+  -- a cone of one source is its node, or 1 less the node
+  module _ (one : length sources ≡ 1) where
+    one_source : (cone_of c).support ≡ get_or sources 0 0 ∷ []
+    one_source = sym e ∙ one_of sources one
+
+    as_signal : (r : Signal) → r ≡ wire_of (store_of store) (cone_of c).support (cone_of c).truth → r ≡ output_signal s (store_of store) (cone_of c)
+    as_signal = idle_signal s (store_of store) c (omega (arith, one, ap length e))
+
+    node_wire : first ≡ 0 → signal_read store (Node (get_or sources 0 0)) ≡ wire_of (store_of store) (cone_of c).support (cone_of c).truth
+    unfolding signal_read wire_of
+    node_wire z = rw (one_source, eq-eqb (get_or (cone_of c).truth 0 0) 0 (sym f ∙ z)) refl
+
+    pub node_is : first ≡ 0 → signal_read store (Node (get_or sources 0 0)) ≡ output_signal s (store_of store) (cone_of c)
+    node_is z = as_signal _ (node_wire z)
+
+    not_wire : (r : Signal) → (first ≡ 0 → ⊥) → r ≡ signal_of (Linear (pos 1) (term (negsuc 0) (get_or sources 0 0) ∷ [])) (store_of store)
+        → r ≡ wire_of (store_of store) (cone_of c).support (cone_of c).truth
+    unfolding wire_of signal_of term
+    not_wire r z e = rw (one_source, ne_eqb (get_or (cone_of c).truth 0 0) 0 (λ k. z (f ∙ k))) e
+
+    pub not_is : (r : Signal) → (first ≡ 0 → ⊥) → r ≡ signal_of (Linear (pos 1) (term (negsuc 0) (get_or sources 0 0) ∷ [])) (store_of store)
+        → r ≡ output_signal s (store_of store) (cone_of c)
+    not_is r z e = as_signal r (not_wire r z e)
 
 pub finishes_more : {p : ℕ} {old : Store} (new : Store) (wire : Wire) → Finishes p old 1 new wire → Finishes p old 2 new wire
 finishes_more new wire h =
     let g = h.grown in
     let b = g.most in
     record { grown = record { least = g.least; most = omega arith; centred = g.centred }; inside = h.inside }
-
-finishes_self : {p : ℕ} (store : Store) (wire : Wire) → WireIn (length (store_of store)) wire → Finishes p store 1 store wire
-finishes_self store wire inside = record { grown = record { least = omega arith; most = omega arith; centred = centres_same }; inside = inside }
-
-no_source : (c : Cone) → c.n ≡ 0 → (cone_of c).support ≡ []
-unfolding cone_of
-no_source c e = rw e refl
-
-first_of : (l : List ℕ) → 0 < length l → take 1 l ≡ get_or l 0 0 ∷ []
-first_of [] h = absurd (omega arith)
-first_of (x ∷ l) h = refl
-
-module _ (store : Store) (c : Cone) (h : Stands (length (store_of store)) c) (first : ℕ) (f : first ≡ get_or (cone_of c).truth 0 0) where
-  -- a cone of no source is its truth
-  module _ (none : c.n ≡ 0) where
-    pub constant_is : signal_read store (Const first) ≡ wire_of (store_of store) (cone_of c).support (cone_of c).truth
-    unfolding signal_read wire_of
-    constant_is = rw (no_source c none, f) refl
-
-    pub constant_finishes : (p : ℕ) → Finishes p store 1 store (Const first)
-    constant_finishes p = finishes_self store (Const first) (omega (arith, f, truth-bit c h.cone 0))
-
-  -- a cone of one source is its node, or 1 less the node
-  module _ (few : c.n ≤ 1) (some : c.n ≡ 0 → ⊥) where
-    one_source : (cone_of c).support ≡ get_or c.support 0 0 ∷ []
-    unfolding cone_of
-    one_source = let e : c.n ≡ 1 = omega (arith, some) in rw e (first_of c.support (omega (arith, h.cone.support_long)))
-
-    pub source_below : get_or c.support 0 0 < length (store_of store)
-    source_below = subst (λ l. 0 < length l → get_or l 0 0 < length (store_of store)) one_source (h.below.at 0) (omega arith)
-
-    pub node_is : first ≡ 0 → signal_read store (Node (get_or c.support 0 0)) ≡ wire_of (store_of store) (cone_of c).support (cone_of c).truth
-    unfolding signal_read wire_of
-    node_is z = rw (one_source, eq-eqb (get_or (cone_of c).truth 0 0) 0 (sym f ∙ z)) refl
-
-    pub node_finishes : (p : ℕ) → Finishes p store 1 store (Node (get_or c.support 0 0))
-    node_finishes p = finishes_self store (Node (get_or c.support 0 0)) source_below
-
-    pub not_is : (r : Signal) → (first ≡ 0 → ⊥) → r ≡ signal_of (Linear (pos 1) (term (negsuc 0) (get_or c.support 0 0) ∷ [])) (store_of store)
-        → r ≡ wire_of (store_of store) (cone_of c).support (cone_of c).truth
-    unfolding wire_of signal_of term
-    not_is r z e = rw (one_source, ne_eqb (get_or (cone_of c).truth 0 0) 0 (λ k. z (f ∙ k))) e
-
-pub ruleset as_wire = (constant_is, source_below, node_is, node_finishes, not_is)
 
 -- ---- laws: 1 less a node
 
@@ -158,14 +166,14 @@ module _ (c : Cone) (k : ℕ) (e : cone_of c ≡ identity k) where
   unfolding identity
   identity_below count s = subst (λ (d : C.Cone). 0 < length d.support → get_or d.support 0 0 < count) e (s.below.at 0) (omega arith)
 
-module _ (s : Settings) (c : Cone) (h : IsCone c) (more : 1 < c.n) {p : ℕ} (old new : Store) (own : Cone)
+module _ (s : Settings) (c : Cone) (more : 1 < c.n) {p : ℕ} (old new : Store) (own : Cone)
     (is : booted_of new own ≡ bootstrap_cone s (store_of old) (cone_of c)) (boots : Boots p old new own) where
   abbrev told : Wire
   told = Node (get_or own.support 0 0)
 
   booted_node : (k : ℕ) × (cone_of own ≡ identity k)
   unfolding booted_of
-  booted_node = let n = boot_node s (store_of old) (cone_of c) (omega (arith, view_sources c h)) in (n.0, ap (λ (x : Stored). x.cone) is ∙ n.1)
+  booted_node = let n = boot_node s (store_of old) (cone_of c) (omega (arith, view_sources c)) in (n.0, ap (λ (x : Stored). x.cone) is ∙ n.1)
 
   source_inside : get_or own.support 0 0 < length (store_of new)
   source_inside =

@@ -1,5 +1,5 @@
 // Phases on the 32-bit circle (document 02, S-5 and S-8): a value stands at a phase, an error is added, and the nearest slot is found.
-// It leans on no other code.
+// It leans on no other code but `rules`.
 #![tactic(auto)]
 
 ghost use Rattle.std.specs.Prelude.{◌≡◌, ◌^◌, ◌<◌, true, false, pos, ◌+ℤ◌, unsigned_abs, MatchOption};
@@ -8,7 +8,7 @@ ghost use Rattle.rules.specs.Phase.{is_period, is_value, step, phase, nearer as 
 
 use rules::Reason;
 
-// P is one of the four.
+// P is 2, 4, 8 or 16.
 #[tactic(auto, using(laws::specs::Tests::tests), unfolding(rules::specs::Phase::is_period))]
 fn is_period(p: usize) -> bool
     ensures { result ≡ is_period p }
@@ -37,7 +37,7 @@ fn nearer(half: u32, k: usize, past: u32) -> usize
     }
 }
 
-// A P that is one of the four.
+// A P that is 2, 4, 8 or 16.
 #[derive(Clone, Copy)]
 struct Period {
     p: usize,
@@ -48,6 +48,7 @@ impl Period {
     fn new(p: usize) -> Option<Period>
         ensures { MatchOption result (is_period p ≡ false) (λ d. d.p ≡ p) }
     {
+        // Not `then_some`, which would build a Period of any p.
         if is_period(p) {
             Some(Period { p })
         } else {
@@ -88,12 +89,11 @@ impl Period {
 }
 
 // The slot of value v with error e, for P of 2, 4, 8 or 16.
+#[tactic(auto, using(laws::specs::Tests::tests), unfolding(rules::specs::Phase::slot_answer, rules::specs::Phase::slot))]
 pub fn slot(p: usize, v: i32, e: i32) -> Result<usize, Reason>
     ensures { slot_reply result ≡ slot_answer p v e }
 {
-    let Some(period) = Period::new(p) else {
-        return Err(Reason::BadPeriod);
-    };
+    let period = Period::new(p).ok_or(Reason::BadPeriod)?;
     if !period.is_value(v) {
         return Err(Reason::BadValue);
     }

@@ -1,11 +1,11 @@
 -- One put behind others, by its place among them.
 use Rattle.std.specs.Prelude.{◌≡◌, Bool, ◌&&◌, ◌⊎◌, take}
 use Rattle.std.proofs.Math.Path.{refl, sym, ap, subst}
-use Rattle.std.proofs.Common.{◌∙◌, true≢false, not-suc-le-zero, le_of_suc-le-suc, drop-cons}
+use Rattle.std.proofs.Common.{◌∙◌, true≢false, not-suc-le-zero, le_of_suc-le-suc}
 use Rattle.std.proofs.Math.Bool.{true, false, not}
 use mathlib.Core.List.{List, [], ◌∷◌, ◌++◌}
 use Rattle.std.proofs.Math.Logic.{⊎_elim, inl, inr}
-use Prim.Native.Nat.{ℕ, zero, suc, ◌+◌, ◌<◌, ◌≤◌}
+use Prim.Native.Nat.{ℕ, zero, suc, ◌+◌, ◌<◌, ◌≤◌, zero-le}
 use Rattle.std.proofs.Math.Numerals.{add-one}
 use native.Mathlib.Omega.{arith}
 use Rattle.std.proofs.Math.ListN.{length, get_or, drop}
@@ -48,22 +48,20 @@ module _ (f : ℕ → Bool) where
   behind-last x (y ∷ l) (suc i) h t e =
       behind_later x y l (any_at l i (le_of_suc-le-suc h) t) ∙ ap {B = List ℕ} (λ r. y ∷ r) (behind-last x l i (le_of_suc-le-suc h) t e)
 
-  pub at-end : (l : List ℕ) (r : ℕ) → length l ≡ r → any f l ≡ false → Behind f l r
-  at-end l r q e = rw (← q) (record { within = omega arith; is = λ x. behind_none x l e ∙ rw (take-length l, drop-length l) })
-
-  pub at_place : (l : List ℕ) (i : ℕ) → i < length l → f (get_or l i 0) ≡ true → any f (drop (i + 1) l) ≡ false → Behind f l (i + 1)
-  at_place l i h t e = record { within = omega arith; is = λ x. rw add-one (behind-last x l i h t (rw add-one at e)) }
-
-  -- a loop from the end on has found none so far
-  pub none_yet : (l : List ℕ) → any f (drop (length l) l) ≡ false
+  -- it holds at none from i on
+  none_from : (l : List ℕ) (i : ℕ) → ((k : ℕ) → i ≤ k → k < length l → f (get_or l k 0) ≡ false) → any f (drop i l) ≡ false
   unfolding any
-  none_yet l = rw (drop-length l)
+  none_from [] zero h = refl
+  none_from [] (suc i) h = refl
+  none_from (y ∷ l) zero h = neither (f y) (any f l) (h 0 zero-le (omega arith)) (none_from l 0 (λ k a b. h (suc k) zero-le (omega arith)))
+  none_from (y ∷ l) (suc i) h = none_from l i (λ k a b. h (suc k) (omega arith) (omega arith))
 
-  pub none_here : (l : List ℕ) (i : ℕ) → i < length l → f (get_or l i 0) ≡ false → any f (drop (i + 1) l) ≡ false → any f (drop i l) ≡ false
-  unfolding any
-  none_here l i h t e = rw (drop-cons l i 0 h) (neither (f (get_or l i 0)) (any f (drop (suc i) l)) t (rw add-one at e))
+  -- what `rposition` finds
+  pub at_none : (l : List ℕ) → ((k : ℕ) → k < length l → f (get_or l k 0) ≡ false) → Behind f l (length l)
+  at_none l h = record { within = omega arith; is = λ x. behind_none x l (none_from l 0 (λ k a b. h k b)) ∙ rw (take-length l, drop-length l) }
 
-pub ruleset scanning = (at-end, at_place, none_yet, none_here)
+  pub at_last : (l : List ℕ) (i : ℕ) → i < length l → f (get_or l i 0) ≡ true → ((k : ℕ) → i + 1 ≤ k → k < length l → f (get_or l k 0) ≡ false) → Behind f l (i + 1)
+  at_last l i h t e = record { within = omega arith; is = λ x. rw add-one (behind-last x l i h t (rw add-one at (none_from l (i + 1) e))) }
 
 -- ---- One number more.
 

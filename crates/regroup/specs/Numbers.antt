@@ -1,9 +1,7 @@
--- The new number of each node, and one more.
-use Rattle.std.specs.Prelude.{◌≡◌, true, ℕ, suc, ◌+◌, ◌-◌, ◌<◌, ◌≤◌, length, set}
-use Rattle.std.proofs.Common.{sym, subst, ◌∙◌, true≢false, ⊎_elim, add-one, arith, eq-eqb, ne_eqb, drop-cons, get_or-set_other}
-use mathlib.Core.List.{List, ◌∷◌}
-use Rattle.std.proofs.Math.ListN.{get_or, drop, length-set}
-use Rattle.std.proofs.Math.Seq.{drop-length, get_or-set_same}
+-- The new number of each node.
+use Rattle.std.specs.Prelude.{◌≡◌, true, List, [], ◌∷◌, ◌++◌, ℕ, ◌+◌, ◌<◌, length, get_or, set, Option, Some, None}
+use Rattle.std.proofs.Common.{sym, ap, ◌∙◌, true≢false, ⊎_elim, arith, append_assoc, append-nil, eq-eqb, ne_eqb, length-append, length-set, get_or-set_same, get_or-set_other}
+use Rattle.std.proofs.Math.Seq.{get_or-append_seam}
 use Rattle.laws.specs.Test.{eq-or-ne}
 use Rattle.rules.specs.Network.{member}
 use Rattle.rules.specs.Regroup.{place_in}
@@ -11,45 +9,47 @@ use Rattle.theorems.specs.Members.{member_cons}
 use Rattle.regroup.specs.Order.{Below}
 
 -- the numbers in o have their places
-pub record Numbers (o live : List ℕ) : Type 0 where
+pub record Numbers (o : List ℕ) (live : List (Option ℕ)) : Type 0 where
+  pub at : (j : ℕ) → member j o ≡ true → get_or live j None ≡ Some (place_in o j)
+
+-- ---- laws: a loop from the end on
+
+-- those of o behind `rest` have their places
+pub record Numbering (o rest : List ℕ) (live : List (Option ℕ)) : Type 0 where
   pub long : length live ≡ 672
-  pub at : (j : ℕ) → member j o ≡ true → get_or live j 0 ≡ place_in o j + 1
+  pub done : List ℕ
+  pub whole : o ≡ rest ++ done
+  pub at : (j : ℕ) → member j done ≡ true → get_or live j None ≡ Some (length rest + place_in done j)
 
--- ---- laws: a loop from the end on, those from i on have theirs
+pub numbering_none : (o rest : List ℕ) (live : List (Option ℕ)) → rest ≡ o → length live ≡ 672 → Numbering o rest live
+unfolding member
+numbering_none o rest live e l = record { long = l; done = []; whole = sym e ∙ sym (append-nil rest); at = λ j m. absurd (true≢false (sym m)) }
 
-pub record Numbering (o : List ℕ) (i : ℕ) (live : List ℕ) : Type 0 where
-  pub long : length live ≡ 672
-  pub at : (j : ℕ) → member j (drop i o) ≡ true → get_or live j 0 ≡ i + place_in (drop i o) j + 1
+-- the last one that is left
+module _ {o rest : List ℕ} (more : List ℕ) (x : ℕ) {live : List (Option ℕ)} (n : Numbering o rest live) (e : rest ≡ more ++ (x ∷ [])) (b : Below 672 o) where
+  whole_then : o ≡ more ++ (x ∷ n.done)
+  whole_then = n.whole ∙ ap (λ l. l ++ n.done) e ∙ append_assoc more (x ∷ []) n.done
 
-module _ (o : List ℕ) where
-  pub numbering_none : (live : List ℕ) → length live ≡ 672 → (i : ℕ) → i ≡ length o → Numbering o i live
-  unfolding member
-  numbering_none live e i q = rw q (record { long = e; at = λ j m. absurd (true≢false (sym (rw (drop-length o) at m))) })
+  pub last_below : x < 672
+  last_below =
+      let q : get_or o (length more) 0 ≡ x = ap (λ l. get_or l (length more) 0) whole_then ∙ get_or-append_seam more x n.done 0 in
+      let h : length more < length o = omega (arith, ap length whole_then, length-append more (x ∷ n.done)) in
+      rw q at (b.at (length more) h)
 
-  numbering_step : (live : List ℕ) (i : ℕ) → i < length o → Numbering o (i + 1) live → get_or o i 0 < 672 → Numbering o i (set live (get_or o i 0) (i + 1))
+  pub numbering_more : (i : ℕ) → i ≡ length more → Numbering o more (set live x (Some i))
   unfolding place_in
-  numbering_step live i h n b =
+  numbering_more i p =
       record {
         long = simp length-set n.long;
-        at = λ j m. rw (drop-cons o i 0 h) (⊎_elim (λ (e : get_or o i 0 ≡ j). here j e) (λ (e : get_or o i 0 ≡ j → ⊥). later j e (subst (λ (l : List ℕ). member j l ≡ true) (drop-cons o i 0 h) m)) (eq-or-ne (get_or o i 0) j));
+        done = x ∷ n.done;
+        whole = whole_then;
+        at = λ j m. ⊎_elim (here j) (λ (q : x ≡ j → ⊥). later j q m) (eq-or-ne x j);
       }
     where
-      here : (j : ℕ) → get_or o i 0 ≡ j → get_or (set live (get_or o i 0) (i + 1)) j 0 ≡ i + place_in (get_or o i 0 ∷ drop (suc i) o) j + 1
-      here j e = rw (eq-eqb (get_or o i 0) j e, ← e, get_or-set_same live (get_or o i 0) (i + 1) 0 (omega (arith, n.long))) (omega arith)
+      here : (j : ℕ) → x ≡ j → get_or (set live x (Some i)) j None ≡ Some (length more + place_in (x ∷ n.done) j)
+      here j q = rw (eq-eqb x j q, ← q, get_or-set_same live x (Some i) None (omega (arith, n.long, last_below)), p) (ap Some (omega arith))
 
-      later : (j : ℕ) → (get_or o i 0 ≡ j → ⊥) → member j (get_or o i 0 ∷ drop (suc i) o) ≡ true → get_or (set live (get_or o i 0) (i + 1)) j 0 ≡ i + place_in (get_or o i 0 ∷ drop (suc i) o) j + 1
-      later j e m =
-          let k : member j (drop (suc i) o) ≡ true = ⊎_elim (λ (q : j ≡ get_or o i 0). absurd (e (sym q))) (λ (q : member j (drop (suc i) o) ≡ true). q) (member_cons j (get_or o i 0) (drop (suc i) o) m) in
-          let r : get_or live j 0 ≡ i + 1 + place_in (drop (suc i) o) j + 1 = subst (λ m. get_or live j 0 ≡ i + 1 + place_in (drop m o) j + 1) (add-one i) (n.at j (rw add-one k)) in
-          rw (ne_eqb (get_or o i 0) j e, get_or-set_other live (get_or o i 0) j (i + 1) 0 (λ q. e (sym q))) (r ∙ omega arith)
-
-  pub numbering_turn : (live : List ℕ) (i : ℕ) → 0 < i → i ≤ length o → Below 672 o → Numbering o i live → Numbering o (i - 1) (set live (get_or o (i - 1) 0) (i - 1 + 1))
-  numbering_turn live i h k b n =
-      let z : i ≡ i - 1 + 1 = omega arith in
-      numbering_step live (i - 1) (omega arith) (subst (λ j. Numbering o j live) z n) (b.at (i - 1) (omega arith))
-
-  pub numbering_done : (live : List ℕ) (i : ℕ) → i ≤ 0 → Numbering o i live → Numbers o live
-  numbering_done live i h n =
-      let z : i ≡ 0 = omega arith in
-      let m : Numbering o 0 live = subst (λ k. Numbering o k live) z n in
-      record { long = m.long; at = λ j q. m.at j q ∙ omega arith }
+      later : (j : ℕ) → (x ≡ j → ⊥) → member j (x ∷ n.done) ≡ true → get_or (set live x (Some i)) j None ≡ Some (length more + place_in (x ∷ n.done) j)
+      later j q m =
+          let k : member j n.done ≡ true = ⊎_elim (λ (r : j ≡ x). absurd (q (sym r))) (λ (r : member j n.done ≡ true). r) (member_cons j x n.done m) in
+          rw (ne_eqb x j q, get_or-set_other live x j (Some i) None (λ r. q (sym r))) (n.at j k ∙ ap Some (omega (arith, ap length e, length-append more (x ∷ []))))

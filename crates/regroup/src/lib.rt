@@ -27,20 +27,21 @@ fn same_group(x: &LutNode, y: &LutNode) -> bool
 }
 
 // Where node k stands among those in order: behind the last table of its node, or at the end.
-#[tactic(auto, using(crate::specs::Behind::scanning), unfolding(crate::specs::Order::shares))]
 fn place(store: &Store, order: &[u16], k: usize) -> usize
     requires { (k < length (store_of store.now)) × Below (length (store_of store.now)) order.now }
     ensures { Behind (shares (store_of store.now) k) order.now result }
 {
-    for i in (0..order.len()).rev() {
-        if same_group(store.node(k), store.node(order[i] as usize)) {
-            return i + 1;
-        }
+    let node = store.node(k);
+    let last = order
+        .iter()
+        .rposition(|&i| same_group(node, store.node(i as usize)));
+    match last {
+        Some(i) => i + 1,
+        None => order.len(),
     }
-    order.len()
 }
 
-// The nodes' numbers in their new order: each in turn is put in its place.
+// The nodes' numbers in their new order: each in turn is put in its place. By place, since the order is one of places.
 #[tactic(auto, using(crate::specs::Order::arranging, nodes::specs::Store::store_few))]
 pub fn arrange(store: &Store) -> ArrayVec<u16, 672>
     ensures { result.items ≡ rules.order (store_of store.now) }
@@ -53,15 +54,14 @@ pub fn arrange(store: &Store) -> ArrayVec<u16, 672>
     order
 }
 
-// The place of each number, and one more. The last ones first: of two that are equal the first one's place stays.
-#[tactic(auto, using(crate::specs::Numbers::numbering_done))]
-pub fn number(order: &[u16]) -> [u16; 672]
+// The place of each number; the others have none. The last ones first: of two that are equal the first one's place stays.
+pub fn number(order: &[u16]) -> [Option<u16>; 672]
     requires { (length order.now ≤ 672) × Below 672 order.now }
     ensures { Numbers order.now result }
 {
-    let mut live = [0; 672];
-    for i in (0..order.len()).rev() {
-        live[order[i] as usize] = i as u16 + 1;
+    let mut live = [None; 672];
+    for (i, &k) in order.iter().enumerate().rev() {
+        live[k as usize] = Some(i as u16);
     }
     live
 }

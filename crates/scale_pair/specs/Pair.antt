@@ -7,7 +7,7 @@ use Rattle.std.proofs.Math.IntN.{pos, nat_abs}
 use Rattle.std.proofs.Math.Logic.{⊎_elim}
 use Rattle.std.proofs.Math.ListN.{length, get_or, get_or-eq_default}
 use Rattle.std.specs.Int.Signed.{quot_z}
-use Rattle.laws.specs.Integer.{plus, minus, abs_parts, abs_add, abs_mul_le, abs_quot, sub_parts, one_part_zero}
+use Rattle.laws.specs.Integer.{abs_add, abs_mul_le, abs_quot}
 use Rattle.laws.specs.Front.{taken_step}
 use Rattle.std.proofs.Math.Seq.{take-length}
 use Rattle.laws.specs.Test.{if◌then◌otherwise◌, lt_or_le}
@@ -20,6 +20,8 @@ use Rattle.scale.specs.Norm.{norm-first}
 use Rattle.linear.specs.Span.{within_total}
 use Rattle.theorems.specs.LinearTables.{total}
 use Rattle.theorems.specs.Weights.{weighted_norm}
+use Rattle.compose.specs.declared.basis.Basis.{Basis}
+use Rattle.compose.specs.Basis.{lefts, rights}
 use Rattle.scale_pair.specs.declared.pair.Pair.{Pair}
 use Rattle.merged_rows.specs.MergedIntegers.{zip_with_length, zip_with_at}
 use Rattle.merged_rows.specs.MergedValues.{combined, merged_value}
@@ -31,6 +33,10 @@ pub record Rows (left right : List ℤ) : Type 0 where
   pub even : length right ≡ length left
   pub lefts : total left ≤ 31
   pub rights : total right ≤ 31
+
+-- Those of a basis are such rows.
+pub basis_rows : (b : Basis) (left right : List ℤ) → left ≡ lefts b → right ≡ rights b → length left ≡ b.n → length right ≡ b.n → Rows left right
+basis_rows b left right p q e f = record { few = rw e b.few; even = f ∙ sym e; lefts = rw p b.narrow_left; rights = rw q b.narrow_right }
 
 -- Scales within the spans.
 pub record Scaling (a b : ℤ) : Type 0 where
@@ -147,16 +153,6 @@ normalised_small cs w = quotients-small (divisor cs) cs w
 
 -- the sizes of the merged coefficients, and of the normalised ones
 pub ruleset sizes = (row_small, row_length, normalised_small, normalised-length)
-
--- the scales of two numbers
-module _ (u v origin : ℕ) (h : u ≤ 32) (k : origin ≤ 32) (l : v ≤ origin + 32) where
-  pub scaling_at : Scaling (pos u) (pos v -ℤ pos origin)
-  unfolding plus minus
-  scaling_at =
-      record {
-        first = h;
-        second = omega (arith, abs_parts (pos v -ℤ pos origin), sub_parts (pos v) (pos origin), one_part_zero (pos v -ℤ pos origin));
-      }
 
 pub merged-length : (left right : List ℤ) → Rows left right → (a b : ℤ) → length (merged a b left right) ≡ length left
 unfolding merged

@@ -2,6 +2,8 @@
 ghost use Rattle.std.specs.Prelude.{◌≡◌};
 ghost use Rattle.scale_pair.specs.Score.{better_score};
 
+use rules::Entry;
+
 // Score::ordering with norm before energy (document 02, S-3): the first number in which they differ decides.
 #[derive(Clone, Copy, PartialEq, Eq, PartialOrd, Ord)]
 pub struct Rank {
@@ -17,16 +19,17 @@ pub struct Rank {
 #[derive(Clone, Copy)]
 pub struct Score {
     pub rank: Rank,
-    pub known: [u8; 32],
+    pub known: [Entry; 32],
 }
 
-// The best so far gives way only to a lower score.
+// The best so far gives way only to a lower score. bootstrap's `better_form` is the same over cones: one function for both would take the comparison as
+// a closure, whose contract is longer than the match.
 #[tactic(auto, unfolding(crate::specs::Score::better_score))]
-pub fn better(best: Option<Score>, s: Score) -> Score
-    ensures { result ≡ better_score best s }
+pub fn better(best: Option<Score>, score: Score) -> Score
+    ensures { result ≡ better_score best score }
 {
     match best {
-        None => s,
-        Some(best) => { if s.rank < best.rank { s } else { best } },
+        None => score,
+        Some(best) => { if score.rank < best.rank { score } else { best } },
     }
 }

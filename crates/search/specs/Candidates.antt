@@ -8,6 +8,7 @@ use Rattle.rules.specs.declared.Settings.{Settings}
 use Rattle.rules.specs.Builder.{known_entries}
 use Rattle.rules.specs.Cone.{Cone, Candidate, values, cone_span, less, better}
 use Rattle.rules.specs.Composition.{scales, merged_coefficients}
+use Rattle.rotation.specs.Entries.{numbers}
 use Rattle.scale_pair.specs.declared.score.Score.{Score}
 use Rattle.scale_pair.specs.Pair.{Scaling}
 use Rattle.scale_pair.specs.Score.{score_list, better_score}
@@ -27,7 +28,7 @@ candidate_of support left right truth o = option_by (one support left right trut
 -- What is known of a score: its entries are those of its cone, and the table is no longer than allowed.
 pub record Found (s : Settings) (support : List ℕ) (left right : Cone) (truth : List ℕ) (r : Score) : Type 0 where
   pub scaling : Scaling r.rank.a r.rank.b
-  pub entries : known_entries (values (merged_cone support left right truth r.rank.a r.rank.b)) truth ≡ some (take r.rank.span r.known)
+  pub entries : known_entries (values (merged_cone support left right truth r.rank.a r.rank.b)) truth ≡ some (numbers (take r.rank.span r.known))
   pub span_is : r.rank.span ≡ cone_span (merged_cone support left right truth r.rank.a r.rank.b)
   pub short : r.rank.span ≤ s.m
 

@@ -1,18 +1,18 @@
 -- Two cones that have the same coefficients over their sources: all scale pairs give the same sum, or 0 at every row, so the first of them, (0, 1), is the best.
-use Rattle.std.specs.Prelude.{◌≡◌, Bool, true, false, ◌&&◌, ◌||◌, eqb, ltb, ℤ, negsuc, ◌+ℤ◌, ◌-ℤ◌, ◌*ℤ◌, length}
+use Rattle.std.specs.Prelude.{◌≡◌, Bool, true, false, ◌&&◌, ◌||◌, eqb, ltb, ℤ, negsuc, neg_ℤ, ◌+ℤ◌, ◌*ℤ◌, ◌≤ℤ◌, ◌<ℤ◌, ◌⊎◌, length}
 use Rattle.std.proofs.Math.Path.{refl, sym, ap}
 use Rattle.std.proofs.Common.{ap₂, subst, ◌∙◌, true≢false, arith, add-one}
 use Rattle.std.proofs.lemmas.Bool.{false≢true}
 use mathlib.Core.List.{List, [], ◌∷◌, zip_with, flat_map}
-use Rattle.std.proofs.Math.Logic.{⊎_elim}
+use Rattle.std.proofs.Math.Logic.{inl, inr, ⊎_elim}
 use Rattle.std.proofs.Math.Option.{Option, none, some}
-use Prim.Native.Nat.{ℕ, zero, suc, ◌+◌, ◌*◌, ◌≤◌, ◌<◌, ◌^◌}
+use Prim.Native.Nat.{ℕ, zero, suc, ◌+◌, ◌*◌, ◌<◌, ◌^◌}
 use borrow.Author.Tests.{le-ltb}
 use Rattle.std.proofs.Math.IntN.{pos, nat_abs, *ℤ_comm, *ℤ-zero, zero-*ℤ}
 use Rattle.std.proofs.Math.ListN.{get_or, length-map}
 use Rattle.std.specs.Int.Signed.{lt_z}
 use Rattle.laws.specs.Gcd.{gcd, gcd_within}
-use Rattle.laws.specs.Integer.{ints, plus, minus, sub_parts, false_lt_z}
+use Rattle.laws.specs.Integer.{ints, plus, minus, add_parts, plus_neg, minus_neg, false_lt_z}
 use Rattle.laws.specs.Test.{if◌then◌otherwise◌, eq-or-ne, decide, positive_of}
 use Rattle.rules.specs.declared.Settings.{Settings}
 use Rattle.rules.specs.Cone.{Cone, Candidate, linear_table, values, fits, less, better, best_from, best, terms}
@@ -96,13 +96,9 @@ first_pair : is_scale_pair (pos 0) (pos 1) ≡ true
 unfolding is_scale_pair gcd gcd_within
 first_pair = refl
 
-below-zero : (v o : ℕ) → v ≤ o → lt_z (pos 0) (pos v -ℤ pos o) ≡ false
+one_or_less : (b : ℤ) → b ≤ℤ pos 1 → (b ≡ pos 1) ⊎ (b ≤ℤ pos 0)
 unfolding plus minus
-below-zero v o h = false_lt_z (pos 0) (pos v -ℤ pos o) (omega (arith, sub_parts (pos v) (pos o)))
-
-one_above : (v o : ℕ) → v ≡ o + 1 → pos v -ℤ pos o ≡ pos 1
-unfolding plus minus
-one_above v o e = omega (arith, ints, sub_parts (pos v) (pos o))
+one_or_less b h = ⊎_elim (λ (e : lt_z (pos 0) b ≡ true). inl (omega (arith, ints))) (λ (e : lt_z (pos 0) b ≡ false). inr (omega (arith, ints))) (decide (lt_z (pos 0) b))
 
 keeps_first : (t : Bool) (x y : Candidate) → less y.score x.score ≡ false
     → best_from (best_from none (if t then x ∷ [] otherwise [])) (if t then y ∷ [] otherwise []) ≡ best_from none (if t then x ∷ [] otherwise [])
@@ -187,40 +183,44 @@ module _ (s : Settings) (nodes : List LutNode) (U : List ℕ) (left right : Cone
       nothing d = unfold best_from in refl
 
   -- ---- once it is found it stays
-  row_keeps : (o u v n : ℕ) → walk_row (tried_at E o) u v n found ≡ found
+  row_keeps : (u : ℕ) (b : ℤ) (n : ℕ) → walk_row (tried_at E) (pos u) b n found ≡ found
   unfolding walk_row tried_at
-  row_keeps o u v zero = refl
-  row_keeps o u v (suc n) = ap (walk_row (tried_at E o) u (v + 1) n) (tried_keeps u (pos v -ℤ pos o)) ∙ row_keeps o u (v + 1) n
+  row_keeps u b zero = refl
+  row_keeps u b (suc n) = ap (walk_row (tried_at E) (pos u) (b +ℤ pos 1) n) (tried_keeps u b) ∙ row_keeps u (b +ℤ pos 1) n
 
-  walk_keeps : (o v n u k : ℕ) → walk (tried_at E o) v n u k found ≡ found
+  walk_keeps : (b : ℤ) (n u k : ℕ) → walk (tried_at E) b n (pos u) k found ≡ found
   unfolding walk
-  walk_keeps o v n u zero = refl
-  walk_keeps o v n u (suc k) = ap (walk (tried_at E o) v n (u + 1) k) (row_keeps o u v n) ∙ walk_keeps o v n (u + 1) k
+  walk_keeps b n u zero = refl
+  walk_keeps b n u (suc k) = ap (walk (tried_at E) b n (pos (u + 1)) k) (row_keeps u b n) ∙ walk_keeps b n (u + 1) k
 
-  before : (o v : ℕ) → v ≤ o → tried_at E o 0 v none ≡ none
-  unfolding tried_at tried scales
-  before o v h =
-      ap (λ t. if t then best_from none (E (scales (pos 0) (pos v -ℤ pos o))) otherwise none)
-      (not_pair (pos v -ℤ pos o) (below-zero v o h))
+  before : (b : ℤ) → b ≤ℤ pos 0 → tried_at E (pos 0) b none ≡ none
+  unfolding tried_at tried scales plus minus
+  before b h =
+      ap (λ t. if t then best_from none (E (scales (pos 0) b)) otherwise none)
+      (not_pair b (false_lt_z (pos 0) b (omega (arith, ints))))
 
-  at_one : (o v : ℕ) → v ≡ o + 1 → tried_at E o 0 v none ≡ found
+  at_one : (b : ℤ) → b ≡ pos 1 → tried_at E (pos 0) b none ≡ found
   unfolding tried_at
-  at_one o v e = ap (λ b. tried E none (scales (pos 0) b)) (one_above v o e)
+  at_one b e = ap (λ b. tried E none (scales (pos 0) b)) e
 
-  first_row : (o v n : ℕ) → v ≤ o + 1 → o + 1 < v + n → walk_row (tried_at E o) 0 v n none ≡ found
-  unfolding walk_row
-  first_row o v zero h k = absurd (omega arith)
-  first_row o v (suc n) h k =
+  first_row : (b : ℤ) (n : ℕ) → b ≤ℤ pos 1 → pos 1 <ℤ (b +ℤ pos n) → walk_row (tried_at E) (pos 0) b n none ≡ found
+  unfolding walk_row plus minus
+  first_row b zero h k = absurd (omega (arith, ints, add_parts b (pos 0)))
+  first_row b (suc n) h k =
       ⊎_elim
-      (λ (e : v ≡ o + 1). ap (walk_row (tried_at E o) 0 (v + 1) n) (at_one o v e) ∙ row_keeps o 0 (v + 1) n)
-      (λ (e : v ≡ o + 1 → ⊥). ap (walk_row (tried_at E o) 0 (v + 1) n) (before o v (omega arith)) ∙ first_row o (v + 1) n (omega arith) (omega arith))
-      (eq-or-ne v (o + 1))
+      (λ (e : b ≡ pos 1). ap (walk_row (tried_at E) (pos 0) (b +ℤ pos 1) n) (at_one b e) ∙ row_keeps 0 (b +ℤ pos 1) n)
+      (λ (e : b ≤ℤ pos 0).
+      ap (walk_row (tried_at E) (pos 0) (b +ℤ pos 1) n) (before b e)
+      ∙ first_row (b +ℤ pos 1) n (omega (arith, ints, add_parts b (pos 1))) (omega (arith, ints, add_parts b (pos 1), add_parts b (pos (suc n)), add_parts (b +ℤ pos 1) (pos n))))
+      (one_or_less b h)
 
   -- Of all pairs the first is the best.
-  pub first-best : (left-span right-span : ℕ) → 0 < left-span → best (flat_map E (scale_pairs left-span right-span)) ≡ walk (tried_at E 0) 1 1 0 1 none
-  unfolding walk walk_row tried_at
+  pub first-best : (left-span right-span : ℕ) → 0 < left-span → best (flat_map E (scale_pairs left-span right-span)) ≡ walk (tried_at E) (pos 1) 1 (pos 0) 1 none
+  unfolding walk walk_row tried_at plus minus
   first-best L R h =
+      let low = neg_ℤ (pos L) in
       pairs_walked E L R
-      ∙ ap (λ k. walk (tried_at E L) 0 (2 * L + 1) 0 k none) (add-one R)
-      ∙ ap (walk (tried_at E L) 0 (2 * L + 1) 1 R) (first_row L 0 (2 * L + 1) (omega arith) (omega arith))
-      ∙ walk_keeps L 0 (2 * L + 1) 1 R
+      ∙ ap (λ k. walk (tried_at E) low (2 * L + 1) (pos 0) k none) (add-one R)
+      ∙ ap (walk (tried_at E) low (2 * L + 1) (pos 1) R)
+      (first_row low (2 * L + 1) (omega (arith, ints, plus_neg (pos L), minus_neg (pos L))) (omega (arith, ints, plus_neg (pos L), minus_neg (pos L), add_parts low (pos (2 * L + 1)))))
+      ∙ walk_keeps low (2 * L + 1) 1 R

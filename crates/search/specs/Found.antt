@@ -9,11 +9,11 @@ use Rattle.std.proofs.Math.Logic.{⊎_elim}
 use Rattle.std.proofs.Math.Option.{Option, none, some, map}
 use Rattle.std.proofs.Math.IntN.{pos}
 use Rattle.std.specs.Int.Signed.{quot_z}
-use Rattle.std.proofs.lemmas.List.{length-replicate, replicate-append-replicate, set-append_left}
+use Rattle.std.proofs.lemmas.List.{length-replicate, replicate-append-replicate, set-append_left, take-map}
 use Rattle.std.proofs.Math.ListN.{get_or-append}
 use Rattle.laws.specs.Test.{if◌then◌otherwise◌, is_some, decide, both_left}
 use Rattle.rules.specs.declared.Settings.{Settings}
-use Rattle.rules.specs.Builder.{agrees, enter, known_entries, completable}
+use Rattle.rules.specs.Builder.{agrees, enter, known_entries, completable, entry_of}
 use Rattle.rules.specs.Cone.{Cone, Candidate, linear_table, values, cone_span, norm2, energy, completed, encoding, is_lut_valid, within_norm, fits, better, best_from, best, terms}
 use Rattle.rules.specs.Composition.{Scales, scales, merged_coefficients, reuse_cost, score, evaluate}
 use Rattle.rules.specs.Network.{LutNode}
@@ -24,6 +24,7 @@ use Rattle.theorems.specs.Rows.{Within, entered_entries, unknown_entries}
 use Rattle.theorems.specs.Spans.{offset_lt}
 use Rattle.theorems.specs.Weights.{weights_of, weighted_norm}
 use Rattle.theorems.proofs.Weights.{norm2_weighted}
+use Rattle.rotation.specs.Entries.{numbers, numbers_back}
 use Rattle.compose.specs.Basis.{coefficients_over}
 use Rattle.theorems.specs.ConeValues.{linear_table-length}
 use Rattle.search.specs.declared.Ranges.{Ranges}
@@ -34,12 +35,12 @@ use Rattle.merged_rows.specs.EnergyMoments.{by_moments}
 use Rattle.merged_rows.proofs.EnergyMoments.{energy_by_moments}
 use Rattle.merged_rows.specs.EnergyRows.{moments_of, moments_compacted}
 use Rattle.merged_rows.specs.MergedValues.{merged_value, merged-values, merged-coefficients}
-use Rattle.scale_pair.specs.Pair.{Scaling, merged_row, merged, measures, weighed, measured, pair_of, scaling_at}
+use Rattle.scale_pair.specs.Pair.{Scaling, merged_row, merged, measures, weighed, measured, pair_of}
 use Rattle.search.specs.Pairs.{tried, tried_at}
 use Rattle.merged_rows.specs.RowsCompacted.{Compacted, known_compacted}
 use Rattle.scale_pair.specs.Score.{rank_list, score_list, better_score}
-use Rattle.search.specs.Search.{Context, context, row_values, entered_from, energy_by, cone_by, reuse_of, score_of, considered, step_of, step_at, InSpans}
-use Rattle.search.specs.Walk.{walk, walks_keep}
+use Rattle.search.specs.Search.{Context, context, row_values, entered_from, energy_by, cone_by, reuse_of, score_of, considered, step_of, step_at, walk_all, scaling_of, InSpans}
+use Rattle.search.specs.Walk.{walks_keep}
 use Rattle.search.specs.Candidates.{merged_cone, candidate_of, Found, one, better_candidate, found_better}
 
 -- ---- entries behind those of the rows are kept
@@ -182,12 +183,17 @@ module _ (s : Settings) (nodes : List LutNode) (support : List ℕ) (left right 
         energy_is cone_is
         ∙ ap {B = Candidate} (λ n. record { score = pos (reuse_cost s nodes C) ∷ pos (span all) ∷ pos n ∷ pos (energy all) ∷ a ∷ b ∷ []; cone = C }) (sym norm_is)
 
+    -- the entries of the score are those that the rows gave
+    held_back : (known : List ℕ) → known_entries all truth ≡ some known → numbers (P.map entry_of known) ≡ known
+    unfolding known_entries
+    held_back known e = numbers_back known (entered_entries (least all) all truth (replicate (span all) 2) known e (unknown_entries (span all))).0.at
+
     found_new : (known : List ℕ) → span all ≤ s.m → known_entries all truth ≡ some (take (span all) known) → Found s support left right truth (score_of known_by c known)
     unfolding score_of measures values cone_span cone_by merged
     found_new known h e =
         record {
           scaling = scaling;
-          entries = ap (λ (k : Cone). known_entries (values k) truth) cone_is ∙ e;
+          entries = ap (λ (k : Cone). known_entries (values k) truth) cone_is ∙ e ∙ ap some (sym (ap numbers (take-map entry_of (span all) known) ∙ held_back (take (span all) known) e));
           span_is = ap cone_span (sym cone_is);
           short = h;
         }
@@ -283,11 +289,9 @@ module _ (s : Settings) (nodes : List LutNode) (support : List ℕ) (left right 
           (decide (is_scale_pair a b))
 
   -- all pairs of some ranges
-  pub walks_same : (r : Ranges) → InSpans r
-      → Same (walk (step_at known_by xs ys ts r.origin) r.start (r.end - r.start) r.bottom (r.top - r.bottom) None)
-      (walk (tried_at evaluated r.origin) r.start (r.end - r.start) r.bottom (r.top - r.bottom) none)
+  pub walks_same : (r : Ranges) → InSpans r → Same (walk_all (step_at known_by xs ys ts) r None) (walk_all (tried_at evaluated) r none)
   unfolding step_at tried_at candidate_of
   walks_same r w =
-      walks_keep Same (step_at known_by xs ys ts r.origin) (tried_at evaluated r.origin) r.start (r.end - r.start) r.bottom (r.top - r.bottom) None none
-      (λ i j h k l n. pair_step (pos i) (pos j -ℤ pos r.origin) (scaling_at i j r.origin (omega (arith, w.first)) w.origin (omega (arith, w.second))))
+      walks_keep Same (step_at known_by xs ys ts) (tried_at evaluated) r.b.start _ r.a.start _ None none
+      (λ a b o q. pair_step a b (scaling_of r w a b o q))
       (refl, tt)

@@ -1,5 +1,5 @@
 -- `find_candidate` pair by pair: the best so far is taken from one scale pair to the next, b within a.
-use Rattle.std.specs.Prelude.{◌≡◌, Bool, ◌-ℤ◌}
+use Rattle.std.specs.Prelude.{◌≡◌, Bool, ℤ, neg_ℤ, ◌+ℤ◌, ◌-ℤ◌}
 use Rattle.std.proofs.Math.Path.{refl, sym, ap}
 use Rattle.std.proofs.Common.{◌∙◌, zero-add, arith}
 use Rattle.std.proofs.Math.Bool.{true, false}
@@ -7,7 +7,8 @@ use mathlib.Core.List.{List, [], ◌∷◌, ◌++◌, flat_map}
 use Rattle.std.proofs.Math.Option.{Option, none, some}
 use Prim.Native.Nat.{ℕ, zero, suc, ◌+◌, ◌*◌}
 use Rattle.std.proofs.Math.Nat.{add-zero}
-use Rattle.std.proofs.Math.IntN.{pos}
+use Rattle.std.proofs.Math.IntN.{pos, +ℤ_comm, +ℤ_idr}
+use Rattle.laws.specs.Integer.{plus, minus, ints, add_parts}
 use Rattle.laws.specs.Select.{select}
 use Rattle.laws.specs.Tabulate.{tabulate}
 use Rattle.laws.specs.Test.{if◌then◌otherwise◌}
@@ -21,9 +22,9 @@ module _ (E : Scales → List Candidate) where
   unfoldable pub tried : Option Candidate → Scales → Option Candidate
   tried d p = let r = best_from d (E p) in if is_scale_pair p.a p.b then r otherwise d
 
-  -- The pair (u, v - origin).
-  unfoldable pub tried_at : ℕ → ℕ → ℕ → Option Candidate → Option Candidate
-  tried_at origin u v d = tried d (scales (pos u) (pos v -ℤ pos origin))
+  -- The pair (a, b).
+  unfoldable pub tried_at : ℤ → ℤ → Option Candidate → Option Candidate
+  tried_at a b d = tried d (scales a b)
 
   unfoldable tried_all : List Scales → Option Candidate → Option Candidate
   tried_all [] d = d
@@ -50,31 +51,37 @@ module _ (E : Scales → List Candidate) where
   all_append [] qs d = refl
   all_append (p ∷ ps) qs d = all_append ps qs (tried d p)
 
-  module _ (origin : ℕ) where
-    one_row : (u v n : ℕ) (f : ℕ → Scales) (d : Option Candidate) → ((k : ℕ) → f k ≡ scales (pos u) (pos (v + k) -ℤ pos origin))
-        → tried_all (tabulate n f) d ≡ walk_row (tried_at origin) u v n d
-    unfolding tried_all tabulate walk_row tried_at
-    one_row u v zero f d h = refl
-    one_row u v (suc n) f d h =
-        ap (λ p. tried_all (tabulate n (λ k. f (suc k))) (tried d p)) (h 0 ∙ ap (λ j. scales (pos u) (pos j -ℤ pos origin)) (add-zero v))
-        ∙ one_row u (v + 1) n (λ k. f (suc k)) (tried d (scales (pos u) (pos v -ℤ pos origin)))
-        (λ k. h (suc k) ∙ ap (λ j. scales (pos u) (pos j -ℤ pos origin)) (omega arith))
+  -- one integer on
+  on_by : (b : ℤ) (k : ℕ) → b +ℤ pos (suc k) ≡ (b +ℤ pos 1) +ℤ pos k
+  unfolding plus minus
+  on_by b k = omega (arith, ints, add_parts b (pos (suc k)), add_parts b (pos 1), add_parts (b +ℤ pos 1) (pos k))
+
+  one_row : (a b : ℤ) (n : ℕ) (f : ℕ → Scales) (d : Option Candidate) → ((k : ℕ) → f k ≡ scales a (b +ℤ pos k)) → tried_all (tabulate n f) d ≡ walk_row tried_at a b n d
+  unfolding tried_all tabulate walk_row tried_at
+  one_row a b zero f d h = refl
+  one_row a b (suc n) f d h =
+      ap (λ p. tried_all (tabulate n (λ k. f (suc k))) (tried d p)) (h 0 ∙ ap (scales a) (+ℤ_idr b))
+      ∙ one_row a (b +ℤ pos 1) n (λ k. f (suc k)) (tried d (scales a b)) (λ k. h (suc k) ∙ ap (scales a) (on_by b k))
+
+  module _ (left : ℕ) where
+    lowest : ℤ
+    lowest = neg_ℤ (pos left)
 
     all_rows : (n u k : ℕ) (f : ℕ → ℕ) (d : Option Candidate) → ((i : ℕ) → f i ≡ u + i)
-        → tried_all (flat_map (λ i. tabulate n (λ j. scales (pos i) (pos j -ℤ pos origin))) (tabulate k f)) d ≡ walk (tried_at origin) 0 n u k d
-    unfolding tried_all tabulate walk flat_map
+        → tried_all (flat_map (λ i. tabulate n (λ j. scales (pos i) (pos j -ℤ pos left))) (tabulate k f)) d ≡ walk tried_at lowest n (pos u) k d
+    unfolding tried_all tabulate walk flat_map lowest
     all_rows n u zero f d h = refl
     all_rows n u (suc k) f d h =
-        all_append (tabulate n (λ j. scales (pos (f 0)) (pos j -ℤ pos origin))) (flat_map (λ i. tabulate n (λ j. scales (pos i) (pos j -ℤ pos origin))) (tabulate k (λ i. f (suc i)))) d
-        ∙ ap (tried_all (flat_map (λ i. tabulate n (λ j. scales (pos i) (pos j -ℤ pos origin))) (tabulate k (λ i. f (suc i))))) (first (f 0) (h 0 ∙ add-zero u))
-        ∙ all_rows n (u + 1) k (λ i. f (suc i)) (walk_row (tried_at origin) u 0 n d) (λ i. h (suc i) ∙ omega arith)
+        all_append (tabulate n (λ j. scales (pos (f 0)) (pos j -ℤ pos left))) (flat_map (λ i. tabulate n (λ j. scales (pos i) (pos j -ℤ pos left))) (tabulate k (λ i. f (suc i)))) d
+        ∙ ap (tried_all (flat_map (λ i. tabulate n (λ j. scales (pos i) (pos j -ℤ pos left))) (tabulate k (λ i. f (suc i))))) (first (f 0) (h 0 ∙ add-zero u))
+        ∙ all_rows n (u + 1) k (λ i. f (suc i)) (walk_row tried_at (pos u) lowest n d) (λ i. h (suc i) ∙ omega arith)
       where
-        first : (i : ℕ) → i ≡ u → tried_all (tabulate n (λ j. scales (pos i) (pos j -ℤ pos origin))) d ≡ walk_row (tried_at origin) u 0 n d
-        first i e = rw e (one_row u 0 n (λ j. scales (pos u) (pos j -ℤ pos origin)) d (λ j. ap (λ m. scales (pos u) (pos m -ℤ pos origin)) (sym (zero-add j))))
+        first : (i : ℕ) → i ≡ u → tried_all (tabulate n (λ j. scales (pos i) (pos j -ℤ pos left))) d ≡ walk_row tried_at (pos u) lowest n d
+        first i e = rw e (one_row (pos u) lowest n (λ j. scales (pos u) (pos j -ℤ pos left)) d (λ j. ap (scales (pos u)) (+ℤ_comm (pos j) lowest)))
 
   -- All scale pairs of two spans.
-  pub pairs_walked : (left right : ℕ) → best (flat_map E (scale_pairs left right)) ≡ walk (tried_at left) 0 (2 * left + 1) 0 (right + 1) none
-  unfolding best scale_pairs
+  pub pairs_walked : (left right : ℕ) → best (flat_map E (scale_pairs left right)) ≡ walk tried_at (neg_ℤ (pos left)) (2 * left + 1) (pos 0) (right + 1) none
+  unfolding best scale_pairs lowest
   pairs_walked left right =
       selected none (flat_map (λ i. tabulate (2 * left + 1) (λ j. scales (pos i) (pos j -ℤ pos left))) (tabulate (right + 1) (λ i. i)))
       ∙ all_rows left (2 * left + 1) 0 (right + 1) (λ i. i) none (λ i. sym (zero-add i))

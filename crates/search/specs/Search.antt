@@ -1,13 +1,14 @@
 -- The search over scale pairs, pair by pair, as the code holds it.
 use Rattle.std.specs.Prelude as P
-use Rattle.std.specs.Prelude.{Some, None, ◌≡◌, true, ℕ, ◌+◌, ◌^◌, ◌≤◌, ◌<◌, ℤ, pos, nat_abs, ◌-ℤ◌, ◌*ℤ◌, length, get_or, take, drop, replicate}
-use mathlib.Core.List.{List, [], zip_with}
+use Rattle.std.specs.Prelude.{Some, None, ◌≡◌, ℕ, ◌+◌, ◌^◌, ◌≤◌, ◌<◌, ℤ, pos, nat_abs, ◌-ℤ◌, ◌*ℤ◌, ◌≤ℤ◌, ◌<ℤ◌, length, get_or, take, drop, replicate}
+use mathlib.Core.List.{List, [], map, zip_with}
 use Rattle.std.proofs.Math.Option.{Option, none, some}
 use Rattle.std.specs.Int.Signed.{quot_z}
-use Rattle.laws.specs.Integer.{abs_mul_le}
+use native.Mathlib.Omega.{arith}
+use Rattle.laws.specs.Integer.{plus, minus, ints, abs_parts, add_parts, sub_parts, one_part_zero, abs_mul_le}
 use Rattle.laws.specs.Test.{if◌then◌otherwise◌}
 use Rattle.rules.specs.declared.Settings.{Settings}
-use Rattle.rules.specs.Builder.{enter, completable}
+use Rattle.rules.specs.Builder.{enter, completable, entry_of}
 use Rattle.rules.specs.Cone.{Cone, linear_table}
 use Rattle.rules.specs.Composition.{reuse_cost}
 use Rattle.rules.specs.Network.{LutNode}
@@ -16,12 +17,15 @@ use Rattle.theorems.specs.Weights.{weights_of}
 use Rattle.merged_rows.specs.declared.energy.Moments.{Moments}
 use Rattle.scale_pair.specs.declared.pair.Pair.{Pair}
 use Rattle.scale_pair.specs.declared.score.Score.{Score}
+use Rattle.nodes.specs.Store.{store_of}
+use Rattle.compose.specs.Basis.{lefts, rights}
+use Rattle.search.specs.declared.context.Context as Code
 use Rattle.search.specs.declared.Ranges.{Ranges}
 use Rattle.merged_rows.specs.EnergyMoments.{by_moments}
-use Rattle.merged_rows.specs.EnergyRows.{Small}
 use Rattle.merged_rows.specs.MergedValues.{merged_value}
 use Rattle.scale_pair.specs.Pair.{Rows, Scaling, Level, level_of, merged, pair_of}
 use Rattle.scale_pair.specs.Score.{better_score}
+use Rattle.search.specs.Walk.{walk, count_to, OneOf}
 
 -- What a pair is scored by: the settings, the node store, the sources, both rows of coefficients over them, and the rows' moments.
 pub record Context : Type 0 where
@@ -34,6 +38,10 @@ pub record Context : Type 0 where
 
 abbrev pub context : Settings → List LutNode → List ℕ → List ℤ → List ℤ → Moments → Context
 context s nodes sources left right m = record { settings = s; nodes = nodes; sources = sources; left = left; right = right; moments = m }
+
+-- The code's context, seen as this one.
+abbrev pub context_of : Code.Context → Context
+context_of k = let b = k.basis.now in context k.settings (store_of k.store.now) (take b.n b.support) (lefts b) (rights b) k.moments
 
 -- The values of the rows under a pair, and the rows from i on entered into known entries.
 unfoldable pub row_values : Pair → List ℤ → List ℤ → List ℤ
@@ -64,7 +72,7 @@ score_of k c known =
         a = c.a;
         b = c.b;
       };
-      known = known;
+      known = map entry_of known;
     }
 
 -- The better of the best so far and a pair whose rows gave these known entries, or clashed.
@@ -79,9 +87,13 @@ unfoldable pub step_of : Context → List ℤ → List ℤ → List ℕ → P.Op
 step_of k xs ys ts None best = best
 step_of k xs ys ts (Some c) best = considered k c best (entered_from c xs ys ts 0 (replicate 32 2))
 
--- The pair (u, v - origin).
-unfoldable pub step_at : Context → List ℤ → List ℤ → List ℕ → ℕ → ℕ → ℕ → P.Option Score → P.Option Score
-step_at k xs ys ts origin u v best = step_of k xs ys ts (pair_of k.settings (weights_of k.nodes k.sources) k.left k.right (pos u) (pos v -ℤ pos origin)) best
+-- The pair (a, b).
+unfoldable pub step_at : Context → List ℤ → List ℤ → List ℕ → ℤ → ℤ → P.Option Score → P.Option Score
+step_at k xs ys ts a b best = step_of k xs ys ts (pair_of k.settings (weights_of k.nodes k.sources) k.left k.right a b) best
+
+-- A step for each pair of some ranges.
+abbrev pub walk_all : {A : Type 0} → (ℤ → ℤ → A → A) → Ranges → A → A
+walk_all step r s = walk step r.b.start (count_to r.b.start r.b.end) r.a.start (count_to r.a.start r.a.end) s
 
 -- ---- what the code asks for
 -- Two values that both tables have at one row.
@@ -92,14 +104,12 @@ pub record ValuesIn (x y : ℤ) (left right : List ℤ) : Type 0 where
   pub y_is : get_or (linear_table right) at (pos 0) ≡ y
 
 -- The rows are some of those of two cones within the limits.
-pub record Ready (s : Settings) (left right xs ys : List ℤ) (ts : List ℕ) (m : Moments) : Type 0 where
-  pub rows : Rows left right
-  pub narrow : s.m ≤ 32
+pub record Ready (k : Code.Context) (xs ys : List ℤ) (ts : List ℕ) : Type 0 where
+  pub rows : Rows (lefts k.basis.now) (rights k.basis.now)
   pub short : length xs ≤ 2048
   pub y_long : length ys ≡ length xs
   pub t_long : length ts ≡ length xs
-  pub comes : (j : ℕ) → j < length xs → ValuesIn (get_or xs j (pos 0)) (get_or ys j (pos 0)) left right
-  pub moments : Small m
+  pub comes : (j : ℕ) → j < length xs → ValuesIn (get_or xs j (pos 0)) (get_or ys j (pos 0)) (lefts k.basis.now) (rights k.basis.now)
 
 -- The rows' values stand in the pair's table.
 pub record Levels (c : Pair) (xs ys : List ℤ) (ts : List ℕ) : Type 0 where
@@ -116,9 +126,10 @@ pub record Weighs (nodes : List LutNode) (sources ws : List ℕ) : Type 0 where
 
 -- The pairs lie within the spans.
 pub record InSpans (r : Ranges) : Type 0 where
-  pub first : r.top ≤ 33
-  pub origin : r.origin ≤ 32
-  pub second : r.end ≤ r.origin + 33
+  pub a_start : nat_abs r.a.start ≤ 32
+  pub a_end : nat_abs r.a.end ≤ 33
+  pub b_start : nat_abs r.b.start ≤ 32
+  pub b_end : nat_abs r.b.end ≤ 33
 
 -- A pair that may be scored.
 pub record Scored (c : Pair) : Type 0 where
@@ -136,3 +147,21 @@ pub record Merges (left right : List ℤ) (c : Pair) : Type 0 where
 -- ---- the size of a term of the energy
 pub weighted_small : (a b z : ℤ) → nat_abs a ≤ 64 → nat_abs b ≤ 32 → nat_abs z ≤ 2 ^ 40 → nat_abs ((a *ℤ b) *ℤ z) ≤ 2 ^ 51
 weighted_small a b z h k l = let two : nat_abs (a *ℤ b) ≤ 2048 = abs_mul_le a b h k in abs_mul_le (a *ℤ b) z two l
+
+-- ---- scales of some ranges
+pub near_in : (start end z : ℤ) → nat_abs start ≤ 32 → nat_abs end ≤ 33 → start ≤ℤ z → z <ℤ end → nat_abs z ≤ 32
+unfolding plus minus
+near_in start end z h k l m =
+    omega (arith, ints, abs_parts start, abs_parts end, abs_parts z, one_part_zero start, one_part_zero end, one_part_zero z)
+
+one_below : (start end z : ℤ) → OneOf start (count_to start end) z → z <ℤ end
+unfolding count_to plus minus
+one_below start end z o = let l = o.low in let k = o.high in omega (arith, ints, add_parts start (pos (plus (end -ℤ start))), sub_parts end start, one_part_zero (end -ℤ start))
+
+module _ (r : Ranges) (w : InSpans r) where
+  pub scaling_of : (a b : ℤ) → OneOf r.a.start (count_to r.a.start r.a.end) a → OneOf r.b.start (count_to r.b.start r.b.end) b → Scaling a b
+  scaling_of a b o q =
+      record {
+        first = near_in r.a.start r.a.end a w.a_start w.a_end o.low (one_below r.a.start r.a.end a o);
+        second = near_in r.b.start r.b.end b w.b_start w.b_end q.low (one_below r.b.start r.b.end b q);
+      }

@@ -8,23 +8,28 @@ use Rattle.std.proofs.Math.Nat.{le_of_dvd}
 use borrow.Author.Tests.{leb-true}
 use Rattle.std.proofs.Math.IntN.{pos, nat_abs}
 use Rattle.std.proofs.Math.ListN.{length, get_or, take}
+use Rattle.std.proofs.lemmas.List.{map-set}
 use Rattle.laws.specs.Gcd.{gcd, gcd_is, gcd_zero}
 use Rattle.laws.specs.Integer.{plus, minus, abs_parts, sub_parts, one_part_zero}
 use Rattle.laws.specs.Test.{if◌then◌otherwise◌, both_left}
 use Rattle.rules.specs.declared.Settings.{Settings}
-use Rattle.rules.specs.Builder.{Entries, agrees}
+use Rattle.rules.specs.declared.Entry.{Entry}
+use Rattle.rules.specs.Builder.{agrees}
 use Rattle.rules.specs.Cone.{linear_table, within_norm}
 use Rattle.rules.specs.Scale.{gcd_from, divisor, normalised, is_scale_pair}
 use Rattle.rules.specs.Span.{least, span}
+use Rattle.rotation.specs.Entries.{number_of_entry, numbers, number_at}
+use Rattle.rotation.specs.Rows.{Made, was_made, unmade}
 use Rattle.scale.specs.Divisor.{divisor_not_zero}
 use Rattle.theorems.specs.Normalised.{divisor_abs}
 use Rattle.scale.specs.Limits.{Within}
 use Rattle.linear.specs.Span.{table_within_total}
 use Rattle.theorems.specs.ConeValues.{linear_table-length}
-use Rattle.theorems.specs.Rows.{enter-turn, enter_stop, enter_end, entered_entries, unknown_entries}
+use Rattle.theorems.specs.Rows.{enter-turn, enter_stop, enter_end}
 use Rattle.theorems.specs.Spans.{least_le, offset_lt}
 use Rattle.theorems.specs.Weights.{weights_of, weighted_norm}
-use Rattle.merged_rows.specs.declared.energy.Moments.{Moments}
+use Rattle.compose.specs.Basis.{lefts, rights}
+use Rattle.search.specs.declared.context.Context as Code
 use Rattle.scale_pair.specs.declared.pair.Pair.{Pair}
 use Rattle.scale_pair.specs.declared.score.Score.{Score}
 use Rattle.merged_rows.specs.MergedIntegers.{zip_with_length, zip_with_at}
@@ -35,14 +40,12 @@ use Rattle.search.specs.Search.{Levels, Context, row_values, entered_from, consi
 use Rattle.linear.specs.Table.{table_first}
 
 -- the pair, by weights of which the first are those of the sources
-module _ (k : Context) (xs ys : List ℤ) (ts : List ℕ) (origin u v : ℕ) (best : P.Option Score) (o : P.Option Pair) (ws : List ℕ)
+module _ (k : Context) (xs ys : List ℤ) (ts : List ℕ) (a b : ℤ) (best : P.Option Score) (o : P.Option Pair) (ws : List ℕ)
     (rows : Rows k.left k.right) (even : length k.sources ≡ length k.left) (w : Weighs k.nodes k.sources ws)
-    (e : o ≡ pair_of k.settings ws k.left k.right (pos u) (pos v -ℤ pos origin)) where
-  pub step_is : step_of k xs ys ts o best ≡ step_at k xs ys ts origin u v best
+    (e : o ≡ pair_of k.settings ws k.left k.right a b) where
+  pub step_is : step_of k xs ys ts o best ≡ step_at k xs ys ts a b best
   unfolding step_at
   step_is =
-      let a = pos u in
-      let b = pos v -ℤ pos origin in
       let first : take (length k.left) ws ≡ weights_of k.nodes k.sources = ap (λ n. take n ws) (sym even) ∙ w.are in
       ap (λ p. step_of k xs ys ts p best)
       (e ∙ pair_weights k.settings ws k.left k.right rows a b ∙ ap (λ l. pair_of k.settings l k.left k.right a b) first)
@@ -68,8 +71,8 @@ module _ (c : Pair) (xs ys : List ℤ) (ts : List ℕ) (y_long : length ys ≡ l
   unfolding row_values
   values_long = zip_with_length (merged_value c.a c.b c.divisor) xs ys y_long
 
-  module _ (i : ℕ) (known : List ℕ) (h : i < length xs) (at t : ℕ) (x y : ℤ) (ex : x ≡ get_or xs i (pos 0)) (ey : y ≡ get_or ys i (pos 0))
-      (e : at ≡ level_of c x y) (f : t ≡ get_or ts i 0) where
+  module _ (i : ℕ) (known : List Entry) (h : i < length xs) (at t : ℕ) (x y : ℤ) (ex : x ≡ get_or xs i (pos 0)) (ey : y ≡ get_or ys i (pos 0))
+      (e : at ≡ level_of c x y) (f : t ≡ get_or ts i 0) (l : at < length known) (d : Entry) (r : P.Option Entry) (m : Made (agrees (number_of_entry (get_or known at d)) t) t r) where
     level_at : at ≡ nat_abs (get_or (row_values c xs ys) i (pos 0) -ℤ c.low)
     unfolding row_values level_of
     level_at =
@@ -77,24 +80,21 @@ module _ (c : Pair) (xs ys : List ℤ) (ts : List ℕ) (y_long : length ys ≡ l
         ∙ ap₂ (λ p q. level_of c p q) ex ey
         ∙ ap (λ z. nat_abs (z -ℤ c.low)) (sym (zip_with_at (merged_value c.a c.b c.divisor) xs ys i (pos 0) (pos 0) (pos 0) y_long h))
 
-    pub rows_turn : agrees (get_or known at 0) t ≡ true → entered_from c xs ys ts (i + 1) (set known at t) ≡ entered_from c xs ys ts i known
+    pub rows_turn : (n : Entry) → r ≡ Some n → entered_from c xs ys ts (i + 1) (numbers (set known at n)) ≡ entered_from c xs ys ts i (numbers known)
     unfolding entered_from
-    rows_turn g = enter-turn c.low (row_values c xs ys) ts known i at t (omega (arith, values_long)) (omega arith) level_at f g
+    rows_turn n g =
+        let w = was_made _ t r n m g in
+        ap (entered_from c xs ys ts (i + 1)) (map-set number_of_entry known at n ∙ ap (set (numbers known) at) w.1)
+        ∙ enter-turn c.low (row_values c xs ys) ts (numbers known) i at t (omega (arith, values_long)) (omega arith) level_at f (ap (λ k. agrees k t) (number_at known at d l) ∙ w.0)
 
-    pub rows_clash : agrees (get_or known at 0) t ≡ false → none ≡ entered_from c xs ys ts i known
+    pub rows_clash : r ≡ None → none ≡ entered_from c xs ys ts i (numbers known)
     unfolding entered_from
-    rows_clash g = enter_stop c.low (row_values c xs ys) ts known i at t (omega (arith, values_long)) (omega arith) level_at f g
+    rows_clash g =
+        enter_stop c.low (row_values c xs ys) ts (numbers known) i at t (omega (arith, values_long)) (omega arith) level_at f (ap (λ k. agrees k t) (number_at known at d l) ∙ unmade _ t r m g)
 
   pub rows_end : (i : ℕ) (known : List ℕ) → length xs ≤ i → some known ≡ entered_from c xs ys ts i known
   unfolding entered_from
   rows_end i known h = sym (enter_end c.low (row_values c xs ys) ts known i (omega (arith, values_long)))
-
-  -- what is entered are known entries
-  pub rows_entries : (r : P.Option (List ℕ)) (known : List ℕ) → r ≡ Some known → option_by (λ l. l) r ≡ entered_from c xs ys ts 0 (replicate 32 2) → Entries known
-  unfolding entered_from
-  rows_entries r known h e =
-      let q : some known ≡ entered_from c xs ys ts 0 (replicate 32 2) = rw h at e in
-      (entered_entries c.low (drop 0 (row_values c xs ys)) (drop 0 ts) (replicate 32 2) known (sym q) (unknown_entries 32)).0
 
 -- ---- sizes
 gcd-small : (k a b : ℕ) → a ≤ k → b ≤ k → gcd a b ≤ k
@@ -114,7 +114,16 @@ low_below l v n e h k =
     omega (arith, abs_parts (pos 0 -ℤ l), sub_parts (pos 0) l, one_part_zero (pos 0 -ℤ l), abs_parts l, one_part_zero l)
 
 -- ---- a pair that is a candidate
-module _ (s : Settings) (left right xs ys : List ℤ) (ts : List ℕ) (m : Moments) (ready : Ready s left right xs ys ts m) (ws : List ℕ) (a b : ℤ) (scaling : Scaling a b) where
+module _ (k : Code.Context) (xs ys : List ℤ) (ts : List ℕ) (ready : Ready k xs ys ts) (ws : List ℕ) (a b : ℤ) (scaling : Scaling a b) where
+  abbrev s : Settings
+  s = k.settings
+
+  abbrev left : List ℤ
+  left = lefts k.basis.now
+
+  abbrev right : List ℤ
+  right = rights k.basis.now
+
   abbrev cs : List ℤ
   cs = merged_row a b left right
 
@@ -143,7 +152,7 @@ module _ (s : Settings) (left right xs ys : List ℤ) (ts : List ℕ) (m : Momen
   fit = leb (span all) s.m && within_norm s (weighted_norm ws (normalised cs))
 
   fits-span : fit ≡ true → span all ≤ 32
-  fits-span h = omega (arith, ready.narrow, leb-true (span all) s.m (both_left (leb (span all) s.m) (within_norm s (weighted_norm ws (normalised cs))) h))
+  fits-span h = omega (arith, k.narrow, leb-true (span all) s.m (both_left (leb (span all) s.m) (within_norm s (weighted_norm ws (normalised cs))) h))
 
   low_small : span all ≤ 32 → nat_abs (least all) ≤ 31
   low_small h =

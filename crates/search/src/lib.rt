@@ -1,122 +1,111 @@
-// The search for the scale pair under which two cones become one. It leans on `scale_pair`, `merged_rows` and the store (`lut`).
+// The search for the scale pair under which two cones become one. It leans on `compose`,
+// `scale_pair`, `merged_rows`, `rotation`, `linear`, `cone` and the store (`nodes`, `lut`).
 #![tactic(auto)]
 
-ghost use Rattle.std.specs.Prelude.{◌≡◌, List, ℕ, ◌-◌, ◌≤◌, ◌<◌, ◌^◌, nat_abs, ◌*ℤ◌, length, take, replicate};
+pub mod context;
+
+ghost use Rattle.std.specs.Prelude.{◌≡◌, List, ℕ, ◌≤◌, ◌<◌, ◌^◌, nat_abs, ◌*ℤ◌, length, take};
 ghost use Rattle.std.proofs.Math.Option.{some};
-ghost use Rattle.rules.specs.Builder.{Entries, completable};
+ghost use Rattle.rules.specs.Builder.{completable};
 ghost use Rattle.rules.specs.Cone.{Cone};
+ghost use Rattle.rotation.specs.Entries.{numbers};
 ghost use Rattle.merged_rows.specs.EnergyRows.{Small};
 ghost use Rattle.merged_rows.specs.EnergyMoments.{by_moments};
-ghost use Rattle.scale_pair.specs.Pair.{Rows, Scaling};
+ghost use Rattle.compose.specs.Basis.{lefts, rights};
+ghost use Rattle.scale_pair.specs.Pair.{Scaling};
 ghost use Rattle.search.specs.Policies.{one_pair, ranges_of, Attempted, Finds};
-ghost use Rattle.cone.specs.Sources.{AllBelow};
 ghost use Rattle.nodes.specs.Store.{store_of};
 ghost use Rattle.search.specs.Reuse.{SumOf};
-ghost use Rattle.search.specs.Options.{option_by};
-ghost use Rattle.search.specs.Search.{context, considered as consideredBy, energy_by, reuse_of, step_at, entered_from, Levels, Ready, Weighs, InSpans, Scored, Merges};
-ghost use Rattle.search.specs.Walk.{walk};
+ghost use Rattle.search.specs.Search.{context_of, considered as consideredBy, energy_by, reuse_of, step_at, walk_all, Ready, InSpans, Scored, Merges};
 
-use compose::Basis;
+use crate::context::Context;
+use compose::basis::Basis;
 use cone::weights::weights_of;
+use linear::linear_span;
 use merged_rows::energy::Moments;
-use nodes::store::Store;
 use nodes::terms::Terms;
-use rules::{Policy, Settings};
-use scale_pair::pair::{Pair, candidate_at, level, prepare_coefficients};
+use rules::{Entry, Policy};
+use scale_pair::pair::{Pair, evaluate, prepare_coefficients};
 use scale_pair::score::{Rank, Score, better};
+use std::ops::Range;
 
-// The pairs: a from bottom up to and not including top; b from start to end likewise, less the origin.
-#[derive(Clone, Copy)]
+// The scale pairs that are tried: each a with each b.
+#[derive(Drop)]
 pub struct Ranges {
-    pub bottom: usize,
-    pub top: usize,
-    pub start: usize,
-    pub end: usize,
-    pub origin: usize,
+    pub a: Range<i64>,
+    pub b: Range<i64>,
 }
 
 impl Ranges {
     // The pair (a, b) alone.
-    fn one(a: usize, b: usize) -> Ranges
-        requires { (a ≤ 32) × (b ≤ 32) }
+    fn one(a: i64, b: i64) -> Ranges
+        requires { Scaling a b }
         ensures { result ≡ one_pair a b }
     {
         Ranges {
-            bottom: a,
-            top: a + 1,
-            start: b,
-            end: b + 1,
-            origin: 0,
+            a: a..a + 1,
+            b: b..b + 1,
         }
     }
 }
 
-// a·b·z for scales a and b, or 2·a, and a moment z.
+// For scales a and b, or 2·a, and a moment.
 #[tactic(auto, using(crate::specs::Search::weighted_small))]
-fn weighted(a: i64, b: i64, z: i64) -> i64
-    requires { (nat_abs a ≤ 64) × ((nat_abs b ≤ 32) × (nat_abs z ≤ 2 ^ 40)) }
-    ensures is { result ≡ (a *ℤ b) *ℤ z }
+fn weighted(a: i64, b: i64, moment: i64) -> i64
+    requires { (nat_abs a ≤ 64) × ((nat_abs b ≤ 32) × (nat_abs moment ≤ 2 ^ 40)) }
+    ensures is { result ≡ (a *ℤ b) *ℤ moment }
     ensures small { nat_abs result ≤ 2 ^ 51 }
 {
-    a * b * z
+    a * b * moment
 }
 
 // EnergyMoments::energy, before it is divided.
 #[tactic(auto, using(laws::specs::Integer::abs_add, laws::specs::Integer::fits_abs), unfolding(merged_rows::specs::EnergyMoments::by_moments))]
-fn energy_sum(m: Moments, a: i64, b: i64) -> i64
-    requires { Small m × Scaling a b }
-    ensures is { result ≡ by_moments a b m.xx m.xy m.yy }
+fn energy_sum(moments: Moments, a: i64, b: i64) -> i64
+    requires { Small moments × Scaling a b }
+    ensures is { result ≡ by_moments a b moments.xx moments.xy moments.yy }
     ensures small { nat_abs result < 2 ^ 63 }
 {
-    weighted(a, a, m.xx) + weighted(2 * a, b, m.xy) + weighted(b, b, m.yy)
+    weighted(a, a, moments.xx) + weighted(2 * a, b, moments.xy) + weighted(b, b, moments.yy)
 }
 
 // EnergyMoments::energy over the divisor's square.
 #[tactic(auto, using(laws::specs::Integer::abs_mul, laws::specs::Integer::fits_abs), unfolding(crate::specs::Search::energy_by))]
-fn energy_of(m: Moments, c: Pair) -> i64
-    requires { Small m × Scored c }
-    ensures { result ≡ energy_by m c }
+fn energy_of(moments: Moments, pair: Pair) -> i64
+    requires { Small moments × Scored pair }
+    ensures { result ≡ energy_by moments pair }
 {
-    scale::divide(energy_sum(m, c.a, c.b), c.divisor * c.divisor)
+    energy_sum(moments, pair.a, pair.b) / (pair.divisor * pair.divisor)
 }
 
 // The sum of a pair: its values less the least one.
-fn sum_of(left: &[i64], right: &[i64], sources: [usize; 11], c: Pair) -> Terms
-    requires { Rows left.now right.now × Scored c }
-    ensures { SumOf left.now right.now sources c result }
+fn sum_of(basis: &Basis, pair: Pair) -> Terms
+    requires { Scored pair }
+    ensures { SumOf basis.now pair result }
 {
-    let coefs = prepare_coefficients(left, right, c.a, c.b);
-    Terms {
-        n: left.len(),
-        constant: -c.low,
-        coefs,
-        sources,
-    }
+    let coefs = prepare_coefficients(basis, pair.a, pair.b);
+    Terms::over(-pair.low, &coefs[..basis.n], basis.sources())
 }
 
 // 0 where the pair's sum is already bootstrapped, with many tables a sum; else 1.
 #[tactic(auto, using(crate::specs::Reuse::sum_linear, crate::specs::Reuse::sum_good), unfolding(crate::specs::Search::reuse_of, rules::specs::Composition::reuse_cost))]
-fn reuse_cost(
-    s: Settings,
-    left: &[i64],
-    right: &[i64],
-    sources: [usize; 11],
-    store: &Store,
-    c: Pair,
-) -> usize
-    requires { Rows left.now right.now × (Scored c × (Merges left.now right.now c × AllBelow (length (store_of store.now)) (take (length left.now) sources))) }
-    ensures { (m : Moments) → result ≡ reuse_of (context s (store_of store.now) (take (length left.now) sources) left.now right.now m) c }
+fn reuse_cost(context: Context, pair: Pair) -> usize
+    requires { Scored pair × Merges (lefts context.basis.now) (rights context.basis.now) pair }
+    ensures { result ≡ reuse_of (context_of context.entry) pair }
 {
-    if s.many && lut::reuse::has_bootstrap(store, sum_of(left, right, sources, c)) {
+    if context.settings.many
+        && lut::reuse::has_bootstrap(context.store, sum_of(context.basis, pair))
+    {
         0
     } else {
         1
     }
 }
 
-fn is_completable(known: [u8; 32], span: usize, p: usize) -> bool
-    requires { (span ≤ 32) × Entries known }
-    ensures { result ≡ completable p (take span known) }
+#[tactic(auto, using(rotation::specs::Entries::numbers_take))]
+fn is_completable(known: [Entry; 32], span: usize, p: usize) -> bool
+    requires { span ≤ 32 }
+    ensures { result ≡ completable p (take span (numbers known)) }
 {
     rotation::is_known_lut_valid(&known[..span], p)
 }
@@ -124,121 +113,87 @@ fn is_completable(known: [u8; 32], span: usize, p: usize) -> bool
 // The better of the best so far and this pair, whose rows gave the known entries without a clash.
 #[tactic(auto, unfolding(crate::specs::Search::considered, crate::specs::Search::score_of))]
 fn considered(
+    context: Context,
     best: Option<Score>,
-    s: Settings,
-    m: Moments,
-    left: &[i64],
-    right: &[i64],
-    sources: [usize; 11],
-    store: &Store,
-    c: Pair,
-    known: [u8; 32],
+    pair: Pair,
+    known: [Entry; 32],
 ) -> Option<Score>
-    requires { Rows left.now right.now × (Small m × (Scored c × (Merges left.now right.now c × (AllBelow (length (store_of store.now)) (take (length left.now) sources) × Entries known)))) }
-    ensures { result ≡ consideredBy (context s (store_of store.now) (take (length left.now) sources) left.now right.now m) c best (some known) }
+    requires { Scored pair × Merges (lefts context.basis.now) (rights context.basis.now) pair }
+    ensures { result ≡ consideredBy (context_of context.entry) pair best (some (numbers known)) }
 {
-    if !is_completable(known, c.span, s.p) {
+    if !is_completable(known, pair.span, context.settings.p) {
         return best;
     }
     let rank = Rank {
-        reuse: reuse_cost(s, left, right, sources, store, c),
-        span: c.span,
-        norm: c.norm,
-        energy: energy_of(m, c),
-        a: c.a,
-        b: c.b,
+        reuse: reuse_cost(context, pair),
+        span: pair.span,
+        norm: pair.norm,
+        energy: energy_of(context.moments, pair),
+        a: pair.a,
+        b: pair.b,
     };
     Some(better(best, Score { rank, known }))
 }
 
 // search_candidate: the least score among the scale pairs, norms by the sources' weights, if there is one.
-pub fn search(
-    s: Settings,
-    r: Ranges,
-    m: Moments,
-    left: &[i64],
-    right: &[i64],
-    weights: &[u8; 11],
-    sources: [usize; 11],
-    store: &Store,
-    xs: &[i32],
-    ys: &[i32],
-    truth: &[u8],
-) -> Option<Score>
-    requires { Ready s left.now right.now xs.now ys.now truth.now m × (InSpans r × (AllBelow (length (store_of store.now)) (take (length left.now) sources) × Weighs (store_of store.now) (take (length left.now) sources) weights.now)) }
-    ensures { result ≡ walk (step_at (context s (store_of store.now) (take (length left.now) sources) left.now right.now m) xs.now ys.now truth.now r.origin) r.start (r.end - r.start) r.bottom (r.top - r.bottom) None }
+fn search(context: Context, ranges: Ranges, xs: &[i32], ys: &[i32], truth: &[u8]) -> Option<Score>
+    requires { Ready context xs.now ys.now truth.now × (InSpans ranges × (length (lefts context.basis.now) ≡ context.basis.now.n)) }
+    ensures { result ≡ walk_all (step_at (context_of context.entry) xs.now ys.now truth.now) ranges None }
 {
+    let weights = weights_of(context.store, context.basis.sources());
     let mut best = None;
-    for u in r.bottom..r.top {
-        'pair: for v in r.start..r.end {
-            let Some(c) = candidate_at(left, right, weights, s, u, v, r.origin) else {
+    // By its ends: the range of b is walked for each a, and a `Range` that was walked is used up.
+    for a in ranges.a.start..ranges.a.end {
+        'pair: for b in ranges.b.start..ranges.b.end {
+            let Some(pair) = evaluate(context.basis, &weights, context.settings, a, b) else {
                 continue 'pair;
             };
-            let mut known = [2u8; 32];
+            let mut known = [Entry::Unknown; 32];
+            // By the index: over a zip of the three slices a small program with this loop, 256 rows, took 1.35 times as long. The bar is the ratio
+            // to the Rust that tools/bench measures, and most of a search's time goes here.
             for i in 0..xs.len() {
-                let at = level(c, xs[i], ys[i]);
-                if !rotation::agrees(known[at], truth[i]) {
+                let at = pair.level(xs[i], ys[i]);
+                let Some(entry) = rotation::with_truth(known[at], truth[i]) else {
                     // A row that conflicts leaves for the next pair.
                     continue 'pair;
-                }
-                known[at] = truth[i];
+                };
+                known[at] = entry;
             }
-            best = considered(best, s, m, left, right, sources, store, c, known);
+            best = considered(context, best, pair, known);
         }
     }
     best
 }
 
-// The pairs that a policy tries, by the left and the right span, where both forms are the same or not: Naive (right, 1); the others a from 0 to the
-// right span, b from minus to plus the left span. Of equal forms (0, 1) alone: every other pair gives the same sum, and comes later.
-fn ranges_of(same: bool, policy: Policy, left: usize, right: usize) -> Ranges
+// The pairs that a policy tries, by the left and the right span. Naive: (right, 1). The others, of two forms that differ: each a from 0 to right with
+// each b from -left to left. Of two equal forms (0, 1) alone: every other pair gives the same sum, and comes later.
+fn ranges_of(same_form: bool, policy: Policy, left: usize, right: usize) -> Ranges
     requires { (left ≤ 32) × (right ≤ 32) }
-    ensures { result ≡ ranges_of same policy left right }
+    ensures { result ≡ ranges_of same_form policy left right }
 {
-    match (policy, same) {
+    let left = left as i64;
+    let right = right as i64;
+    match (policy, same_form) {
         (Policy::Naive, _) => Ranges::one(right, 1),
         (_, true) => Ranges::one(0, 1),
         (_, false) => Ranges {
-            bottom: 0,
-            top: right + 1,
-            start: 0,
-            end: 2 * left + 1,
-            origin: left,
+            a: 0..right + 1,
+            b: -left..left + 1,
         },
     }
 }
 
-// find_candidate: for two cones of these spans laid over their sources together, the score of the best scale pair.
-// Asks for rows that are rows of both tables, and sources that are nodes of the store.
-pub fn find_candidate(
-    s: Settings,
-    first: usize,
-    second: usize,
-    basis: Basis,
-    m: Moments,
-    store: &Store,
-    xs: &[i32],
-    ys: &[i32],
-    truth: &[u8],
-) -> Option<Score>
-    requires { (basis.n ≤ 11) × ((first ≤ 32) × ((second ≤ 32) × (Ready s (take basis.n basis.left) (take basis.n basis.right) xs.now ys.now truth.now m × AllBelow (length (store_of store.now)) (take basis.n basis.support)))) }
-    ensures { (left right : Cone) (all counts : List ℕ) → Attempted left right all counts basis first second xs.now ys.now truth.now m → Finds s (store_of store.now) left right all result }
+// find_candidate: for two cones laid over their sources together, the score of the best scale pair. Over these sources a cone has the same span.
+// Asks for rows that are rows of both tables.
+#[tactic(auto, using(compose::specs::Basis::lefts_within, compose::specs::Basis::rights_within))]
+pub fn find_candidate(context: Context, xs: &[i32], ys: &[i32], truth: &[u8]) -> Option<Score>
+    requires { Ready context xs.now ys.now truth.now }
+    ensures { (left right : Cone) (all counts : List ℕ) → Attempted left right all counts context.entry.basis.now xs.now ys.now truth.now context.entry.moments → Finds context.entry.settings (store_of context.entry.store.now) left right all result }
 {
-    let left = &basis.left[..basis.n];
-    let right = &basis.right[..basis.n];
-    let r = ranges_of(left == right, s.policy, first, second);
-    let weights = weights_of(store, &basis.support[..basis.n]);
-    search(
-        s,
-        r,
-        m,
-        left,
-        right,
-        &weights,
-        basis.support,
-        store,
-        xs,
-        ys,
-        truth,
-    )
+    let left = context.basis.left();
+    let right = context.basis.right();
+    let same_form = left == right;
+    let policy = context.settings.policy;
+    let ranges = ranges_of(same_form, policy, linear_span(left), linear_span(right));
+    search(context, ranges, xs, ys, truth)
 }

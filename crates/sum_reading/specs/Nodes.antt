@@ -1,4 +1,5 @@
 -- Which reading a node of the store gets.
+use Rattle.std.specs.Prelude as P
 use Rattle.std.specs.Prelude.{◌≡◌, refl, List, [], ◌∷◌, ◌++◌, ℕ, ◌+◌, ◌<◌, ◌≤◌, ℤ, pos, nat_abs, ◌-ℤ◌, length, map, get_or, take, replicate, All}
 use Rattle.std.proofs.Common.{sym, ap, ap₂, ◌∙◌, ⊎_elim, arith, take_all}
 use Rattle.std.proofs.lemmas.List.{length-map, map-append}
@@ -51,7 +52,7 @@ coefs_near {ts = ts} g k = ⊎_elim (λ (h : k < length ts). inside h) (λ (h : 
     outside h = rw (get_or-eq_default (coefs (map term_of ts)) (pos 0) {n = k} (rw (length-map, length-map) h)) (omega arith)
 
 -- what the search finds is the answer
-pub sum-answer : (c : ℤ) (ts : List C.Term) (value : ℤ) (row : ℕ) → row ≡ first_place (value -ℤ c) (linear_table (coefs (terms_seen ts)))
+pub sum-answer : (c : ℤ) (ts : List C.Term) (value : ℤ) (row : P.Option ℕ) → row ≡ first_place (value -ℤ c) (linear_table (coefs (terms_seen ts)))
     → sum_answer (shown (row_reading (length ts) row)) ≡ sum_answer (reading_at (Linear c (terms_seen ts)) value)
 unfolding reading_at terms_seen
 sum-answer c ts value row k = ap sum_answer (ap₂ (λ n j. shown (row_reading n j)) (sym (length-map ts term_of)) k ∙ sym (ap shown (reading_row c (map term_of ts) value)))

@@ -1,52 +1,34 @@
 -- The sums of all assignments as a table, and the first assignment that gives a value as the first place of the table that has it.
-use Rattle.std.specs.Prelude.{◌≡◌, refl, Bool, true, false, List, [], ◌∷◌, ◌++◌, map, ◌⊎◌, ℕ, zero, suc, ◌+◌, ◌-◌, ◌<◌, ◌≤◌, ◌^◌, ltb, ℤ, pos, ◌+ℤ◌, ◌-ℤ◌, ◌*ℤ◌, length, get_or, drop}
-use Rattle.std.proofs.Common.{sym, ap, ap₂, ◌∙◌, true≢false, inl, inr, ⊎_elim, not-suc-le-zero, le_of_suc-le-suc, add-one, arith, lt-ltb, le-ltb, drop_of_length-le, drop-cons}
+use Rattle.std.specs.Prelude as P
+use Rattle.std.specs.Prelude.{◌≡◌, refl, Bool, true, false, not, cond, IfSome, List, [], ◌∷◌, ◌++◌, map, ◌⊎◌, ℕ, zero, suc, ◌+◌, ◌-◌, ◌<◌, ◌^◌, ltb, ℤ, pos, ◌+ℤ◌, ◌-ℤ◌, ◌*ℤ◌, length, get_or}
+use Rattle.std.specs.List.{position, position_or_len}
+use Rattle.std.proofs.Common.{sym, ap, ap₂, ◌∙◌, true≢false, inl, inr, ⊎_elim, not-suc-le-zero, le_of_suc-le-suc, arith, lt-ltb, suc-add, zero-add}
 use Rattle.std.proofs.lemmas.Simd.{map-map}
-use Rattle.std.proofs.lemmas.List.{map-append}
+use Rattle.std.proofs.lemmas.List.{map-append, length-map}
+use Rattle.std.proofs.lemmas.List.Quantifiers.{position-Some}
 use Rattle.std.proofs.Math.Option.{Option, none, some}
 use Prim.Native.Nat.compare
 use Rattle.laws.specs.Digits.{bit, digits}
 use Rattle.laws.specs.Integer.{plus, minus, add_parts, sub_parts, plus_mul, minus_mul, ints, eq_z, eq_z_true, eq_z_of}
 use Rattle.laws.specs.Select.{first_of}
 use Rattle.laws.specs.Tabulate.{tabulate-at}
-use Rattle.laws.specs.Test.{if◌then◌otherwise◌, T-is, T-not_is, lt_or_le, decide}
+use Rattle.laws.specs.Test.{if◌then◌otherwise◌, T-is, T-not_is, decide}
 use Rattle.rules.specs.Cone.{linear_table}
 use Rattle.rules.specs.Composition.{assignments}
 use Rattle.rules.specs.Network.{Term}
 use Rattle.rules.specs.SumReading.{sum_of_bits, first_reading}
-use Rattle.theorems.specs.ConeRows.{assignments-length}
+use Rattle.theorems.specs.ConeValues.{linear_table-length}
 use Rattle.theorems.specs.Terms.{coefs}
 use Rattle.theorems.specs.SourceRows.{assignments_are}
 
--- Where a value stands first; as many as there are where it does not.
-unfoldable pub first_place : ℤ → List ℤ → ℕ
-first_place z [] = 0
-first_place z (x ∷ l) = let r = suc (first_place z l) in if eq_z x z then 0 otherwise r
+-- Where a value stands first.
+abbrev pub first_place : ℤ → List ℤ → P.Option ℕ
+first_place z l = position (λ x. eq_z x z) l
 
--- The bits of a row, if it is one.
-unfoldable pub row_reading : ℕ → ℕ → Option (List ℕ)
-row_reading n row = if ltb row (2 ^ n) then some (digits n row) otherwise none
-
--- ---- laws: a turn of the loop that looks for a value
-
-eq_z_not : (x z : ℤ) → (x ≡ z → ⊥) → eq_z x z ≡ false
-eq_z_not x z h = T-not_is (eq_z x z) (λ t. h (eq_z_true x z (T-is _ t)))
-
-same_or_not : (x z : ℤ) → (x ≡ z) ⊎ (x ≡ z → ⊥)
-same_or_not x z = ⊎_elim (λ e. inl (eq_z_true x z e)) (λ e. inr (λ f. true≢false (sym (eq_z_of x z f) ∙ e))) (decide (eq_z x z))
-
-module _ (z : ℤ) (l : List ℤ) (i : ℕ) where
-  pub place_here : i < length l → get_or l i (pos 0) ≡ z → first_place z (drop i l) ≡ 0
-  unfolding first_place
-  place_here h e = rw (drop-cons l i (pos 0) h, eq_z_of (get_or l i (pos 0)) z e)
-
-  pub place_on : i < length l → (get_or l i (pos 0) ≡ z → ⊥) → first_place z (drop i l) ≡ suc (first_place z (drop (i + 1) l))
-  unfolding first_place
-  place_on h e = rw (drop-cons l i (pos 0) h, eq_z_not (get_or l i (pos 0)) z e, add-one)
-
-  pub place_end : length l ≤ i → first_place z (drop i l) ≡ 0
-  unfolding first_place
-  place_end h = rw (drop_of_length-le l {i = i} h)
+-- The bits of a row.
+unfoldable pub row_reading : ℕ → P.Option ℕ → Option (List ℕ)
+row_reading n P.None = none
+row_reading n (P.Some row) = some (digits n row)
 
 -- ---- laws: the sums of all assignments
 
@@ -76,51 +58,81 @@ sums_are c (t ∷ ts) =
     one_bit : (v : ℤ) → (c +ℤ (k *ℤ pos 1)) +ℤ v ≡ c +ℤ (k +ℤ v)
     one_bit v = omega (arith, ints, add_parts (c +ℤ (k *ℤ pos 1)) v, add_parts c (k *ℤ pos 1), plus_mul k (pos 1), minus_mul k (pos 1), add_parts c (k +ℤ v), add_parts k v)
 
+-- ---- laws: tests
+
+pub eq_z_not : (x z : ℤ) → (x ≡ z → ⊥) → eq_z x z ≡ false
+eq_z_not x z h = T-not_is (eq_z x z) (λ t. h (eq_z_true x z (T-is _ t)))
+
+pub same_or_not : (x z : ℤ) → (x ≡ z) ⊎ (x ≡ z → ⊥)
+same_or_not x z = ⊎_elim (λ e. inl (eq_z_true x z e)) (λ e. inr (λ f. true≢false (sym (eq_z_of x z f) ∙ e))) (decide (eq_z x z))
+
 -- ---- laws: the first assignment that gives a value
 
--- the first whose image is a value
-first_place_lem : {A : Type 0} (g : A → ℤ) (z : ℤ) (d : A) (l : List A)
-    → first_of (λ x. eq_z (g x) z) l ≡ (if ltb (first_place z (map g l)) (length l) then some (get_or l (first_place z (map g l)) d) otherwise none)
-unfolding first_of first_place
-first_place_lem g z d [] = refl
-first_place_lem {A} g z d (x ∷ l) = by (eq_z (g x) z) (first_place_lem g z d l)
-  where
-    by : (b : Bool) → first_of (λ x. eq_z (g x) z) l ≡ (if ltb (first_place z (map g l)) (length l) then some (get_or l (first_place z (map g l)) d) otherwise none)
-        → (if b then some x otherwise first_of (λ x. eq_z (g x) z) l)
-        ≡ (if ltb (if b then 0 otherwise suc (first_place z (map g l))) (suc (length l)) then some (get_or (x ∷ l) (if b then 0 otherwise suc (first_place z (map g l))) d) otherwise none)
-    by true e = rw (lt-ltb 0 (suc (length l)) (omega arith))
-    by false e = rw compare.suc-suc e
+-- the element at a place that was found
+abbrev picked : {A : Type 0} → List A → A → P.Option ℕ → Option A
+picked l d P.None = none
+picked l d (P.Some k) = some (get_or l k d)
 
-shifted_place : (c z : ℤ) (l : List ℤ) → first_place z (map (λ v. c +ℤ v) l) ≡ first_place (z -ℤ c) l
-unfolding first_place plus minus
-shifted_place c z [] = refl
-shifted_place c z (v ∷ l) = ap₂ (λ b k. if b then 0 otherwise suc k) same (shifted_place c z l)
+first_at : {A : Type 0} (f : A → Bool) (d : A) (l : List A) → first_of f l ≡ picked l d (position f l)
+unfolding first_of
+first_at f d [] = refl
+first_at {A} f d (x ∷ l) = by (f x) (first_at f d l)
   where
-    same : eq_z (c +ℤ v) z ≡ eq_z v (z -ℤ c)
-    same =
-        ⊎_elim
-        (λ (e : v ≡ z -ℤ c). eq_z_of (c +ℤ v) z (omega (arith, ints, add_parts c v, sub_parts z c)) ∙ sym (eq_z_of v (z -ℤ c) e))
-        (λ (e : v ≡ z -ℤ c → ⊥). eq_z_not (c +ℤ v) z (λ (f : c +ℤ v ≡ z). e (omega (arith, ints, add_parts c v, sub_parts z c))) ∙ sym (eq_z_not v (z -ℤ c) e))
-        (same_or_not v (z -ℤ c))
+    next : (k : ℕ) → picked (x ∷ l) d (cond (ltb (1 + k) (suc (length l))) (P.Some (1 + k)) P.None) ≡ picked l d (cond (ltb k (length l)) (P.Some k) P.None)
+    next k = rw (suc-add 0 k, zero-add k, compare.suc-suc) (chosen (ltb k (length l)))
+      where
+        chosen : (t : Bool) → picked (x ∷ l) d (cond t (P.Some (suc k)) P.None) ≡ picked l d (cond t (P.Some k) P.None)
+        chosen true = refl
+        chosen false = refl
+
+    by : (b : Bool) → first_of f l ≡ picked l d (position f l)
+        → (if b then some x otherwise first_of f l)
+        ≡ picked (x ∷ l) d (cond (ltb (cond (not b) (1 + position_or_len f l) 0) (suc (length l))) (P.Some (cond (not b) (1 + position_or_len f l) 0)) P.None)
+    by true e = rw (lt-ltb 0 (suc (length l)) (omega arith))
+    by false e = e ∙ sym (next (position_or_len f l))
+
+-- of the images of a list, and by another test that is the same
+place_of : {A B : Type 0} (f : B → Bool) (g : A → B) (h : A → Bool) (l : List A) → ((x : A) → f (g x) ≡ h x) → position_or_len f (map g l) ≡ position_or_len h l
+place_of f g h [] e = refl
+place_of f g h (x ∷ l) e = ap₂ (λ b k. cond (not b) (1 + k) 0) (e x) (place_of f g h l e)
+
+position_of : {A B : Type 0} (f : B → Bool) (g : A → B) (h : A → Bool) (l : List A) → ((x : A) → f (g x) ≡ h x) → position f (map g l) ≡ position h l
+position_of f g h l e = ap₂ {C = P.Option ℕ} (λ k n. cond (ltb k n) (P.Some k) P.None) (place_of f g h l e) (length-map l g)
+
+shifted_test : (c z v : ℤ) → eq_z (c +ℤ v) z ≡ eq_z v (z -ℤ c)
+unfolding plus minus
+shifted_test c z v =
+    ⊎_elim
+    (λ (e : v ≡ z -ℤ c). eq_z_of (c +ℤ v) z (omega (arith, ints, add_parts c v, sub_parts z c)) ∙ sym (eq_z_of v (z -ℤ c) e))
+    (λ (e : v ≡ z -ℤ c → ⊥). eq_z_not (c +ℤ v) z (λ (f : c +ℤ v ≡ z). e (omega (arith, ints, add_parts c v, sub_parts z c))) ∙ sym (eq_z_not v (z -ℤ c) e))
+    (same_or_not v (z -ℤ c))
 
 -- the assignment of a row
-row_bits : (n row : ℕ) → (if ltb row (length (assignments n)) then some (get_or (assignments n) row []) otherwise none) ≡ row_reading n row
+row_bits : (n : ℕ) (o : P.Option ℕ) → IfSome o (λ row. row < 2 ^ n) → picked (assignments n) [] o ≡ row_reading n o
 unfolding row_reading
-row_bits n row =
-    rw (assignments-length n)
-    (⊎_elim
-    (λ (h : row < 2 ^ n). rw (lt-ltb row (2 ^ n) h) (ap some (ap (λ (l : List (List ℕ)). get_or l row []) (assignments_are n) ∙ tabulate-at (2 ^ n) (digits n) row [] h)))
-    (λ (h : 2 ^ n ≤ row). rw (le-ltb row (2 ^ n) h)) (lt_or_le row (2 ^ n)))
+row_bits n P.None h = refl
+row_bits n (P.Some row) h = ap some (ap (λ (l : List (List ℕ)). get_or l row []) (assignments_are n) ∙ tabulate-at (2 ^ n) (digits n) row [] h)
+
+place_inside : (f : ℤ → Bool) (l : List ℤ) (n : ℕ) → length l ≡ n → IfSome (position f l) (λ row. row < n)
+place_inside f l n e = by (position f l) refl
+  where
+    by : (o : P.Option ℕ) → position f l ≡ o → IfSome o (λ row. row < n)
+    by P.None g = tt
+    by (P.Some row) g = rw (← e) (position-Some f l row (pos 0) g).0
 
 pub reading_row : (c : ℤ) (ts : List Term) (value : ℤ) → first_reading c ts value ≡ row_reading (length ts) (first_place (value -ℤ c) (linear_table (coefs ts)))
 unfolding first_reading
 reading_row c ts value =
-    first_place_lem (sum_of_bits c ts) value [] rows
-    ∙ ap (λ k. if ltb k (length rows) then some (get_or rows k []) otherwise none) (ap (first_place value) (sums_are c ts) ∙ shifted_place c value (linear_table (coefs ts)))
-    ∙ row_bits (length ts) _
+    first_at (λ bits. eq_z (sum_of_bits c ts bits) value) [] rows
+    ∙ ap (picked rows []) (sym (position_of (λ s. eq_z s value) (sum_of_bits c ts) (λ bits. eq_z (sum_of_bits c ts bits) value) rows (λ bits. refl)) ∙ ap (position (λ s. eq_z s value)) (sums_are c ts)
+    ∙ position_of (λ s. eq_z s value) (λ v. c +ℤ v) (λ v. eq_z v (value -ℤ c)) table (shifted_test c value))
+    ∙ row_bits (length ts) _ (place_inside (λ v. eq_z v (value -ℤ c)) table (2 ^ length ts) (linear_table-length (coefs ts) ∙ ap (λ n. 2 ^ n) (length-map ts (λ (t : Term). t.coef))))
   where
     rows : List (List ℕ)
     rows = assignments (length ts)
+
+    table : List ℤ
+    table = linear_table (coefs ts)
 
 -- ---- laws: the bits of a row
 

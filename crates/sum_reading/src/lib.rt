@@ -13,17 +13,12 @@ ghost use Rattle.sum_reading.specs.Nodes.{GoodTerms};
 ghost use Rattle.sum_reading.specs.Reply.{FewShown};
 
 use crate::search::{coefs_of, first_row, shown};
+use network::Network;
 use nodes::node::{LutNode, Term};
 use nodes::store::Store;
 use rules::{Reason, Refusal, Shown};
 
-// The chosen node is no `lin`; no line.
-const NO_SUM: Refusal = Refusal {
-    reason: Reason::NoSum,
-    line: 0,
-};
-
-// A sum of this constant and these terms.
+// A sum of this constant and these terms, the parts that a match on its node lends.
 fn reading_on(constant: i8, terms: &[Term], value: i32) -> Option<Shown>
     requires near { nat_abs constant ≤ 31 }
     requires good { GoodTerms terms.now }
@@ -35,19 +30,18 @@ fn reading_on(constant: i8, terms: &[Term], value: i32) -> Option<Shown>
     shown(terms.len(), row)
 }
 
-// The node of a number, where there is one.
+// The node of a number; where it is no `lin`, 35.
 #[tactic(auto, using(crate::specs::Nodes::refusing), unfolding(nodes::specs::View::lut_node))]
 fn reading_at(store: &Store, node: usize, value: i32) -> Result<Option<Shown>, Refusal>
     ensures few { FewShown result }
     ensures is { sum_reply result ≡ sum_answer (reading_at (node_at (store_of store.now) node) value) }
 {
     if store.len() <= node {
-        return Err(NO_SUM);
+        return Err(Refusal::of_whole(Reason::NoSum));
     }
     match store.node(node) {
-        LutNode::Input { .. } => Err(NO_SUM),
         LutNode::Linear { constant, terms } => Ok(reading_on(*constant, terms, value)),
-        LutNode::Bootstrap { .. } => Err(NO_SUM),
+        LutNode::Input { .. } | LutNode::Bootstrap { .. } => Err(Refusal::of_whole(Reason::NoSum)),
     }
 }
 
@@ -57,6 +51,7 @@ pub fn sum_reading(text: &[u8], node: usize, value: i32) -> Result<Option<Shown>
     ensures few { FewShown result }
     ensures is { sum_reply result ≡ sum_answer (sum_reading text.now node value) }
 {
-    let w = network::read(text, true)?;
-    reading_at(&w.store, node, value)
+    let mut network = Network::new();
+    network::read_admitted(text, &mut network)?;
+    reading_at(&network.store, node, value)
 }

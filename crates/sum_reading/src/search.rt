@@ -1,6 +1,7 @@
 // All assignments of a sum's terms, and the first that gives a value.
 ghost use Rattle.std.specs.Prelude.{◌≡◌, ◌≤◌, ◌<◌, length, replicate};
 ghost use Rattle.laws.specs.Digits.{digits};
+ghost use Rattle.laws.specs.Integer.{eq_z};
 ghost use Rattle.laws.specs.Over.{over};
 ghost use Rattle.rules.specs.Cone.{linear_table};
 ghost use Rattle.rules.specs.SumReading.{shown, sum_reply, sum_answer};
@@ -16,7 +17,7 @@ use linear::rows_of;
 use nodes::node::Term;
 use rules::Shown;
 
-// The terms' coefficients.
+// The terms' coefficients. A loop: `collect` into an ArrayVec answers a `Result`, since it may be full.
 #[tactic(auto, using(crate::specs::Nodes::coefs_none, crate::specs::Nodes::coefs_done))]
 pub fn coefs_of(terms: &[Term]) -> ArrayVec<i64, 11>
     requires { GoodTerms terms.now }
@@ -29,21 +30,22 @@ pub fn coefs_of(terms: &[Term]) -> ArrayVec<i64, 11>
     coefs
 }
 
-// Where a value stands first; as many as there are where it does not. A loop, since `position` was tried and its proof did not close:
-// its closure compares the 64 bits, the definition whole numbers.
-fn first_place(values: &[i32], wanted: i64) -> usize
-    ensures { result ≡ first_place wanted values.now }
+// A function: the check proves its contract over whole numbers; in the closure it sees machine numbers.
+fn is_equal(value: i32, wanted: i64) -> bool
+    ensures { result ≡ eq_z value wanted }
 {
-    for (i, &value) in values.iter().enumerate() {
-        if value as i64 == wanted {
-            return i;
-        }
-    }
-    values.len()
+    value as i64 == wanted
 }
 
-// The number of the first assignment that gives a value; as many as there are where none does.
-pub fn first_row(coefs: &[i64], wanted: i64) -> usize
+// Where a value stands first.
+fn first_place(values: &[i32], wanted: i64) -> Option<usize>
+    ensures { result ≡ first_place wanted values.now }
+{
+    values.iter().position(|&value| is_equal(value, wanted))
+}
+
+// The number of the first assignment that gives a value.
+pub fn first_row(coefs: &[i64], wanted: i64) -> Option<usize>
     requires { (length coefs.now ≤ 11) × Within 1984 coefs.now }
     ensures { result ≡ first_place wanted (linear_table coefs.now) }
 {
@@ -58,21 +60,19 @@ fn bits_of(n: usize, row: usize) -> [u8; 11]
     ensures { result ≡ over (digits n row) (replicate 11 0) }
 {
     let mut bits = [0u8; 11];
-    for k in 0..n {
-        bits[k] = ((row >> (n - 1 - k)) % 2) as u8;
+    for (k, bit) in bits[..n].iter_mut().enumerate() {
+        *bit = ((row >> (n - 1 - k)) % 2) as u8;
     }
     bits
 }
 
-// The bits of a row, if it is one.
-pub fn shown(n: usize, row: usize) -> Option<Shown>
+// The bits of a row, where there is one.
+#[tactic(auto, unfolding(rules::specs::SumReading::sum_answer, rules::specs::SumReading::shown, crate::specs::Rows::row_reading))]
+pub fn shown(n: usize, row: Option<usize>) -> Option<Shown>
     requires { n ≤ 11 }
     ensures few { FewShown (Ok result) }
     ensures is { sum_reply (Ok result) ≡ sum_answer (shown (row_reading n row)) }
 {
-    if row < rows_of(n) {
-        let bits = bits_of(n, row);
-        return Some(Shown { count: n, bits });
-    }
-    None
+    let bits = bits_of(n, row?);
+    Some(Shown { count: n, bits })
 }

@@ -22,7 +22,7 @@ fn place(nodes: &[usize], node: usize) -> Option<usize>
     nodes.iter().position(|&n| n == node)
 }
 
-// union_support_size
+// union_support_size: how many sources two cones have together.
 pub fn union_support_size(left: &[usize], right: &[usize]) -> usize
     requires { length left.now + length right.now < 2 ^ 32 }
     ensures { result ≡ length (union_support left.now right.now) }
@@ -56,11 +56,12 @@ pub fn union_support(left: &[usize], right: &[usize]) -> Support
     s
 }
 
-// coefficient_pair, one side of it: the coefficient of a node; 0 where it is no source.
+// coefficient_pair, one side of it: the coefficient of a node; 0 where it is no source, which is its coefficient in the sum.
 pub fn coefficient(sources: &[usize], coefs: &[i64], node: usize) -> i64
     requires { length sources.now ≡ length coefs.now }
     ensures { result ≡ coefficient_of (terms_over coefs.now sources.now) node }
 {
+    // Not `map_or`: the search does not prove it, and by hand the same two cases of the closure would be taken apart.
     match place(sources, node) {
         Some(at) => coefs[at],
         None => 0,
@@ -73,18 +74,22 @@ pub fn coefficients_over(support: &[usize], sources: &[usize], coefs: &[i64]) ->
     ensures { take (length support.now) result ≡ map (coefficient_of (terms_over coefs.now sources.now)) support.now }
 {
     let mut r = [0; 11];
+    // An index: of a zip over `iter_mut` the proof learns nothing of what was written (docs/proof-notes.md), and `from_fn` would go over the
+    // places behind the support too.
     for (i, &node) in support.iter().enumerate() {
         r[i] = coefficient(sources, coefs, node);
     }
     r
 }
 
-// For each digit of a row over the support, counted from the lowest, the bit of the sources' row that it stands for.
+// For each digit of a row over the support, counted from the lowest, the bit of the sources' row that it stands for. There are 12:
+// of 11 digits, the last row's number plus 1 has 11 trailing zeros.
 fn source_masks(support: &[usize], sources: &[usize]) -> [usize; 12]
     requires { (length support.now ≤ 11) × (length sources.now ≤ 11) }
     ensures { (z : ℕ) → z < 12 → get_or result z 0 ≡ hit_mask support.now sources.now z }
 {
     let mut masks = [0; 12];
+    // It doubles from source to source: 2 to the number of those passed, as the proof has it.
     let mut bit = 1;
     for &source in sources.iter().rev() {
         if let Some(at) = place(support, source) {
@@ -101,8 +106,8 @@ pub fn toggle_masks(support: &[usize], sources: &[usize]) -> [usize; 12]
     ensures { (z : ℕ) → z < 12 → get_or result z 0 ≡ toggle_mask support.now sources.now z }
 {
     let mut masks = source_masks(support, sources);
-    for shift in 1..12 {
-        masks[shift] |= masks[shift - 1];
+    for digit in 1..12 {
+        masks[digit] |= masks[digit - 1];
     }
     masks
 }

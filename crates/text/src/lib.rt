@@ -2,7 +2,7 @@
 // handed on with the bytes that are left. It leans on no other code.
 #![tactic(auto)]
 
-ghost use Rattle.std.specs.Prelude.{◌≡◌, min, ℕ, Bool, List};
+ghost use Rattle.std.specs.Prelude.{◌≡◌, ◌-◌, min, ℕ, Bool, List};
 ghost use Rattle.rules.specs.Form.{exactly, is_digit, is_name_byte, is_bit_byte, is_name, is_number, is_bits, name, bits, run_of, number, value_from, bits_from};
 ghost use Rattle.text.specs.Capped.{capped};
 ghost use Rattle.text.specs.FirstLine.{first_line, after_line};
@@ -54,6 +54,7 @@ fn is_number(w: &[u8]) -> bool
     w.len() == 1 || !w.is_empty() && w[0] != b'0'
 }
 
+// Whether a run of bits has one at least.
 #[tactic(auto, unfolding(rules::specs::Form::is_bits))]
 fn is_bits(w: &[u8]) -> bool
     ensures { result ≡ is_bits w.now }
@@ -67,8 +68,8 @@ fn read_run<'a, F: Fn(u8) -> bool, G: Fn(&[u8]) -> bool>(
     is_kind: F,
     is_good: G,
 ) -> Option<(&'a [u8], &'a [u8])>
-    requires kind { (f : _) (x : _) → F.pre f x }
-    requires good { (f : _) (x : _) → G.pre f x }
+    requires kind { F.IsAlwaysCallable is_kind }
+    requires good { G.IsAlwaysCallable is_good }
     ensures { (f : ℕ → Bool) (g : List ℕ → Bool) → ((b : ℕ) (r : Bool) → F.post is_kind b r → r ≡ f b)
         → ((w : _) (r : Bool) → G.post is_good w r → r ≡ g w.now) → part result ≡ run_of f g s.now }
 {
@@ -101,19 +102,26 @@ pub fn read_digits(s: &[u8]) -> Option<(&[u8], &[u8])>
     read_run(s, |b| b.is_ascii_digit(), is_number)
 }
 
-// The value of some digits, up to 65536.
+// A digit's value, from its byte.
+pub fn digit_of(b: u8) -> u8
+    ensures { result ≡ b - 48 }
+{
+    b.saturating_sub(b'0')
+}
+
+// The value of some digits; 65536 stands for all values that are more.
 #[tactic(auto, using(crate::proofs::Number::value_more), unfolding(rules::specs::Form::value_from))]
 pub fn value_of(digits: &[u8]) -> usize
     ensures { result ≡ min 65536 (value_from 0 digits.now) }
 {
     let mut v = 0;
     for b in digits {
-        v = (10 * v + (b.saturating_sub(b'0') as usize)).min(65536);
+        v = (10 * v + usize::from(digit_of(*b))).min(65536);
     }
     v
 }
 
-// A number, its value up to 65536.
+// A number; 65536 stands for all values that are more.
 #[tactic(auto, unfolding(rules::specs::Form::number, rules::specs::Form::onward, crate::specs::Capped::capped))]
 pub fn read_number(s: &[u8]) -> Option<(usize, &[u8])>
     ensures { piece result ≡ capped cap_number (number s.now) }

@@ -71,7 +71,7 @@ module _ (P : ℕ) (bits : List ℕ) where
   unfolding rotatable
   rotatable_long h = rw (centre_long h)
 
-  rotatable_pairs : P < length bits → length bits ≤ 2 * P → rotatable P bits ≡ allb (length bits - P) (same_sum P bits)
+  pub rotatable_pairs : P < length bits → length bits ≤ 2 * P → rotatable P bits ≡ allb (length bits - P) (same_sum P bits)
   unfolding rotatable
   rotatable_pairs l h = rw (centre_pairs l h) (by_some (allb (length bits - P) (same_sum P bits)) (pair_sum P bits 0))
 

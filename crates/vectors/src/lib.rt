@@ -1,14 +1,17 @@
-// Numbers of a text, and input by bytes, for programs that replay stored cases. It leans on std alone.
+// Numbers of a text, input by bytes and what several programs print, for programs that replay stored cases. It leans on `rules`.
 #![tactic(auto)]
 
-ghost use Rattle.std.specs.Prelude.{◌≡◌, ◌<◌, ◌≤◌, length, position, OnSome};
+ghost use Rattle.std.specs.Prelude.{◌≡◌, ◌<◌, ◌≤◌, ℕ, List, Option, length, position, OnSome, ⊤};
 ghost use Rattle.std.specs.Iterator.{at_most};
 ghost use Rattle.vectors.specs.Numbers.{numbers, Filled};
 ghost use Rattle.vectors.specs.Token.{starts_number, read, digits, next_token, told, signed_of};
 
+use rules::Refusal;
 use std::io::Read;
+use std::marker::PhantomData;
+use std::{fmt, io};
 
-// A number of a text: its absolute value and its sign.
+// A number of a text: its absolute value and its sign. No i64: a P or a length may be any u64.
 #[derive(Clone, Copy, Default)]
 pub struct Token {
     pub value: u64,
@@ -36,7 +39,8 @@ fn next_start(text: &[u8]) -> Option<usize>
     text.iter().position(|b| *b == b'-' || b.is_ascii_digit())
 }
 
-// The number whose digits are in front, and what comes after them.
+// The number whose digits are in front, and what comes after them. No `split_at`: one loop finds where the digits end and that each is one, and its
+// invariant is all of the proof.
 fn number(text: &[u8]) -> (u64, &[u8])
     ensures read { read result.0 result.1.now ≡ digits 0 text.now }
     ensures shorter { length result.1.now ≤ length text.now }
@@ -95,7 +99,7 @@ impl<'a> Tokens<'a> {
         Some(())
     }
 
-    // The next n digits, as they stand.
+    // The next n bytes from a digit or a minus on, whatever they are.
     pub fn digits(&mut self, n: usize) -> Option<&'a [u8]>
         ensures { OnSome result (length self.new.rest.now ≤ length self.old.rest.now) }
     {
@@ -105,13 +109,52 @@ impl<'a> Tokens<'a> {
         Some(digits)
     }
 
-    // The n bytes behind the newline that ends the line.
+    // The n bytes behind the next one, which ends the line and is not looked at.
     pub fn text(&mut self, n: usize) -> Option<&'a [u8]>
         ensures { OnSome result (length self.new.rest.now < length self.old.rest.now) }
     {
         let (text, rest) = self.rest.get(1..)?.split_at_checked(n)?;
         self.rest = rest;
         Some(text)
+    }
+}
+
+// A case of a list, read from the numbers of its text. It uses up a byte, so the cases end.
+pub trait FromTokens<'a>: Drop {
+    // Holds of the text before a read, what was read and the text after it.
+    ghost read_gives: { List ℕ → Option Self → List ℕ → Type 0 } = { λ _ _ _. ⊤ };
+
+    fn read(input: &mut Tokens<'a>) -> Option<Self>
+        ensures gives { read_gives input.old.rest.now result input.new.rest.now }
+        ensures shorter { OnSome result (length input.new.rest.now < length input.old.rest.now) };
+}
+
+// The cases of an input, one after the other.
+#[derive(Drop)]
+pub struct Cases<'a, C> {
+    input: Tokens<'a>,
+    case: PhantomData<C>,
+}
+
+impl<'a, C: FromTokens<'a>> Cases<'a, C> {
+    // As far as the buffer reaches.
+    pub fn read<R: Read>(input: &mut R, buffer: &'a mut [u8]) -> Cases<'a, C> {
+        Cases {
+            input: Tokens::read(input, buffer),
+            case: PhantomData,
+        }
+    }
+}
+
+impl<'a, C: FromTokens<'a>> Iterator for Cases<'a, C> {
+    type Item = C;
+
+    ghost next_gives = { λ s r t. C.read_gives s.input.rest.now r t.input.rest.now };
+
+    ghost remaining = { λ s. at_most (length s.input.rest.now) };
+
+    fn next(&mut self) -> Option<C> {
+        C::read(&mut self.input)
     }
 }
 
@@ -124,4 +167,24 @@ pub fn read_full<R: Read>(input: &mut R, buffer: &mut [u8]) -> usize
         done += got;
     }
     done
+}
+
+// A refusal, printed as its number and its line. A type of its own, since `rules` prints nothing.
+#[derive(Clone, Copy)]
+pub struct Numbered(pub Refusal);
+
+impl fmt::Display for Numbered {
+    fn fmt<W: fmt::Write>(&self, f: &mut fmt::Formatter<W>) -> fmt::Result {
+        let number = self.0.reason.number();
+        let line = self.0.line;
+        write!(f, "{number} {line}")
+    }
+}
+
+// Bits as digits.
+pub fn print_bits(rt: &impl Print, bits: &[u8]) -> io::Result<()> {
+    for bit in bits {
+        print!(rt; "{bit}")?;
+    }
+    Ok(())
 }

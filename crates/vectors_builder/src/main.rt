@@ -3,15 +3,15 @@
 // For each case it writes the refusal's number, or 0, the count, the centre and the buffer, whose bytes were letters before.
 #![tactic(auto)]
 
-ghost use Rattle.std.specs.Prelude.{◌≡◌, map, ◌<◌, ◌≤◌, length, OnSome};
+ghost use Rattle.std.specs.Prelude.{◌≡◌, map, ◌≤◌};
 ghost use Rattle.rules.specs.Builder.{builder};
 ghost use Rattle.vectors.specs.Token.{signed_of};
 ghost use Rattle.vectors_builder.specs.Shown.{byte_of, shown_byte};
 
 use std::io;
-use vectors::{Token, Tokens};
+use vectors::{Cases, FromTokens, Token, Tokens};
 
-// The first `count` of these are the numbers of a list. No ArrayVec: `fill` and `map` take the whole array, where it would want loops.
+// The first `count` of these are the numbers of a list. No ArrayVec: `fill` writes over places that are there, and `map` keeps the length.
 #[derive(Drop)]
 struct Numbers {
     count: usize,
@@ -19,21 +19,22 @@ struct Numbers {
     ghost within: { count ≤ 64 },
 }
 
-impl Numbers {
+// Behind its count, of which 64 numbers are read at most.
+impl<'a> FromTokens<'a> for Numbers {
     ghost use Rattle.vectors_builder.specs.Case.{numbers_of, numbers_read};
 
-    // A list behind its count, of which 64 numbers are read at most.
+    ghost read_gives = { λ s r t. numbers_read r t ≡ numbers_of s };
+
     #[tactic(auto, unfolding(crate::specs::Case::numbers_of))]
-    fn read(input: &mut Tokens<'_>) -> Option<Numbers>
-        ensures read { numbers_read result input.new.rest.now ≡ numbers_of input.old.rest.now }
-        ensures shorter { OnSome result (length input.new.rest.now < length input.old.rest.now) }
-    {
+    fn read(input: &mut Tokens<'a>) -> Option<Numbers> {
         let count = input.next()?.value.min(64) as usize;
         let mut list = [Token::default(); 64];
         input.fill(&mut list[..count])?;
         Some(Numbers { count, list })
     }
+}
 
+impl Numbers {
     // As values; what stands past the list does not matter.
     fn signed(&self) -> [i32; 64]
         ensures { result ≡ map signed_of self.now.list }
@@ -59,14 +60,13 @@ struct Case {
     ghost within: { room ≤ 40 },
 }
 
-impl Case {
+impl<'a> FromTokens<'a> for Case {
     ghost use Rattle.vectors_builder.specs.Case.{case_of, case_read};
 
+    ghost read_gives = { λ s r t. case_read r t ≡ case_of s };
+
     #[tactic(auto, unfolding(crate::specs::Case::case_of))]
-    fn read(input: &mut Tokens<'_>) -> Option<Case>
-        ensures read { case_read result input.new.rest.now ≡ case_of input.old.rest.now }
-        ensures shorter { OnSome result (length input.new.rest.now < length input.old.rest.now) }
-    {
+    fn read(input: &mut Tokens<'a>) -> Option<Case> {
         let p = input.next()?.value as usize;
         let m = input.next()?.value as usize;
         let room = input.next()?.value.min(40) as usize;
@@ -118,7 +118,7 @@ fn run(
     as_digits(out);
     let (number, count, centre) = match reply {
         Ok(table) => (0, table.count, table.centre),
-        Err(reason) => (reason as usize, 0, 0),
+        Err(reason) => (reason.number(), 0, 0),
     };
     print!(rt; "{number} {count} {centre} ")?;
     rt.write_all(out)?;
@@ -139,15 +139,10 @@ fn replay(rt: &impl Print, case: &Case) -> io::Result<()> {
     )
 }
 
-fn replay_all(rt: &impl Print, mut input: Tokens<'_>) -> io::Result<()> {
-    while let Some(case) = Case::read(&mut input) {
-        replay(rt, &case)?;
-    }
-    Ok(())
-}
-
-// The replaying programs' `main`s are alike; a common one would only take `replay_all` as a closure.
 fn main(rt: HostRuntime) -> io::Result<()> {
     let mut buffer = [0u8; 65536];
-    replay_all(&rt, Tokens::read(&mut rt.stdin(), &mut buffer))
+    for case in Cases::<Case>::read(&mut rt.stdin(), &mut buffer) {
+        replay(&rt, &case)?;
+    }
+    Ok(())
 }

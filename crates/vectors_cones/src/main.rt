@@ -4,14 +4,13 @@
 
 mod rows;
 
-ghost use Rattle.std.specs.Prelude.{◌≡◌, ◌≤◌, ◌<◌, length, OnSome};
+ghost use Rattle.std.specs.Prelude.{◌≡◌, ◌≤◌, length};
 ghost use Rattle.rules.specs.Composition.{union_support};
-ghost use Rattle.cone.specs.View.{cone_of, IsCone};
+ghost use Rattle.cone.specs.View.{cone_of};
 ghost use Rattle.nodes.specs.Store.{store_of};
-ghost use Rattle.vectors_cones.specs.Made.{IsSmall};
 
 use crate::rows::ConeRows;
-use compose::Basis;
+use compose::basis::Basis;
 use compose::simplify::simplify_cone;
 use cone::Cone;
 use cone::table::truths_of;
@@ -19,9 +18,10 @@ use cone::valid::{is_lut_valid, validate_cone};
 use linear::rows_of;
 use nodes::node::LutNode;
 use nodes::store::Store;
-use rules::{Limit, Policy, Settings};
-use std::io;
-use vectors::Tokens;
+use rules::{Limit, Policy, Reason, Settings};
+use scale_pair::pair::merge_rows;
+use std::{fmt, io};
+use vectors::{Cases, FromTokens, Tokens, print_bits};
 
 #[derive(Drop)]
 struct Case {
@@ -31,11 +31,8 @@ struct Case {
     gate: [u8; 4],
 }
 
-impl Case {
-    // It uses up a byte, so the cases end.
-    fn read(input: &mut Tokens<'_>) -> Option<Case>
-        ensures { OnSome result (length input.new.rest.now < length input.old.rest.now) }
-    {
+impl<'a> FromTokens<'a> for Case {
+    fn read(input: &mut Tokens<'a>) -> Option<Case> {
         let p = input.next()?.value as usize;
         let m = input.next()?.value as usize;
         let norm = match input.next()?.value {
@@ -63,6 +60,34 @@ impl Case {
     }
 }
 
+// A store of 672 inputs, each of weight 1.
+#[derive(Drop)]
+struct UnitInputs {
+    store: Store,
+    ghost all: { length (store_of store) ≡ 672 },
+}
+
+// What the Rust's validate_cone says of a cone; no cone of a mapping has an encoding that is invalid. No Result: it is printed, as one number.
+// The 10 is document 01's, which `Reason` lacks (`never_ten`).
+#[derive(Clone, Copy)]
+enum Verdict {
+    Valid,
+    BadEncoding,
+    Refused(Reason),
+}
+
+// Its number.
+impl fmt::Display for Verdict {
+    fn fmt<W: fmt::Write>(&self, f: &mut fmt::Formatter<W>) -> fmt::Result {
+        let number = match self {
+            Verdict::Valid => 0,
+            Verdict::BadEncoding => 10,
+            Verdict::Refused(reason) => reason.number(),
+        };
+        write!(f, "{number}")
+    }
+}
+
 // ---- writing
 
 // A value within -31..31 as a letter: P for 0.
@@ -78,57 +103,38 @@ fn show_values(rt: &impl Print, values: &[i32]) -> io::Result<()> {
 }
 
 fn show_truth(rt: &impl Print, truth: &[u8]) -> io::Result<()> {
-    for bit in truth {
-        print!(rt; "{bit}")?;
-    }
+    print_bits(rt, truth)?;
     print!(rt; " ")
 }
 
 // Each source of a basis with both coefficients.
-fn show_basis(rt: &impl Print, basis: Basis) -> io::Result<()>
-    requires { basis.n ≤ 11 }
-{
-    let Basis {
-        n,
-        support,
-        left,
-        right,
-    } = basis;
-    print!(rt; "{n} ")?;
-    for i in 0..n {
-        print!(rt; "{} {} {} ", support[i], left[i], right[i])?;
+fn show_basis(rt: &impl Print, basis: &Basis) -> io::Result<()> {
+    print!(rt; "{} ", basis.n)?;
+    for ((source, left), right) in basis.sources().iter().zip(basis.left()).zip(basis.right()) {
+        print!(rt; "{source} {left} {right} ")?;
     }
     Ok(())
 }
 
 // Span, norm and divisor.
-#[tactic(auto, using(crate::specs::Made::all_below))]
-fn show_measures(rt: &impl Print, store: &Store, cone: Cone) -> io::Result<()>
-    requires { (length (store_of store.now) ≡ 672) × IsCone cone }
-{
+fn show_measures(rt: &impl Print, inputs: &UnitInputs, cone: Cone) -> io::Result<()> {
     let divisor = scale::coefficient_normalization_divisor(cone.coefficients());
-    print!(rt; "{} {} {divisor} ", cone.span(), cone.norm2(store))
+    print!(rt; "{} {} {divisor} ", cone.span(), cone.norm2(&inputs.store))
 }
 
-// What the Rust's validate_cone says: 10 where the encoding is invalid, as of no cone of a mapping.
-#[tactic(auto, using(crate::specs::Made::all_below))]
-fn judged(s: Settings, store: &Store, cone: Cone) -> usize
-    requires { (length (store_of store.now) ≡ 672) × IsCone cone }
-{
+fn judged(s: Settings, inputs: &UnitInputs, cone: Cone) -> Verdict {
     if !is_lut_valid(s, cone) {
-        return 10;
+        return Verdict::BadEncoding;
     }
-    match validate_cone(s, store, cone) {
-        Ok(()) => 0,
-        Err(reason) => reason as usize,
+    match validate_cone(s, &inputs.store, cone) {
+        Ok(()) => Verdict::Valid,
+        Err(reason) => Verdict::Refused(reason),
     }
 }
 
 // A cone, and what validate_cone says of it.
 #[tactic(auto, using(cone::specs::View::rows_fit, crate::specs::Made::taken_rows))]
-fn show_judged(rt: &impl Print, s: Settings, store: &Store, cone: Cone) -> io::Result<()>
-    requires { (length (store_of store.now) ≡ 672) × IsCone cone }
-{
+fn show_judged(rt: &impl Print, s: Settings, inputs: &UnitInputs, cone: Cone) -> io::Result<()> {
     print!(rt; "{} ", cone.n)?;
     for (source, coef) in cone.sources().iter().zip(cone.coefficients()) {
         print!(rt; "{source} {coef} ")?;
@@ -137,45 +143,37 @@ fn show_judged(rt: &impl Print, s: Settings, store: &Store, cone: Cone) -> io::R
     let mut truth = [0; 2048];
     truths_of(cone, &mut values, &mut truth);
     show_truth(rt, &truth[..rows_of(cone.n)])?;
-    print!(rt; "{}", judged(s, store, cone))
+    print!(rt; "{}", judged(s, inputs, cone))
 }
 
 // ---- running
 
 // The cone normalised and without unused sources.
-fn show_simplified(rt: &impl Print, s: Settings, store: &Store, cone: Cone) -> io::Result<()>
-    requires { (length (store_of store.now) ≡ 672) × IsCone cone }
-{
+fn show_simplified(
+    rt: &impl Print,
+    s: Settings,
+    inputs: &UnitInputs,
+    cone: Cone,
+) -> io::Result<()> {
     match ConeRows::normalised(cone).cone() {
-        Some(cone) => show_judged(rt, s, store, simplify_cone(cone)),
+        Some(cone) => show_judged(rt, s, inputs, simplify_cone(cone)),
         None => print!(rt; "no cone"),
     }
-}
-
-// a times the left coefficients and the right ones.
-fn merged_coefs(basis: Basis, a: usize) -> [i64; 11]
-    requires { IsSmall basis × (a ≤ 32) }
-{
-    let mut coefs = [0; 11];
-    for i in 0..basis.n {
-        coefs[i] = scale::scaled(a as i64, basis.left[i], 1, basis.right[i]);
-    }
-    coefs
 }
 
 // The gate's truth over the union, with a times the left coefficients and the right ones.
 fn show_merged(
     rt: &impl Print,
     s: Settings,
-    store: &Store,
-    basis: Basis,
+    inputs: &UnitInputs,
+    basis: &Basis,
     a: usize,
     truth: [u8; 2048],
 ) -> io::Result<()>
-    requires { (length (store_of store.now) ≡ 672) × (IsSmall basis × (a ≤ 32)) }
+    requires { a ≤ 32 }
 {
-    let coefs = merged_coefs(basis, a);
-    let Basis { n, support, .. } = basis;
+    let coefs = merge_rows(basis, a as i64, 1);
+    let Basis { n, support, .. } = *basis;
     let merged = ConeRows {
         n,
         support,
@@ -183,82 +181,71 @@ fn show_merged(
         truth,
     };
     match merged.cone() {
-        Some(cone) => show_simplified(rt, s, store, cone),
+        Some(cone) => show_simplified(rt, s, inputs, cone),
         None => print!(rt; "no cone"),
     }
 }
 
 // The union with both rows of coefficients, the three tables, and four cones simplified: both, and both merged, the left one once and as often as the right span.
-#[tactic(auto, using(compose::specs::Basis::few_rows, compose::specs::Basis::few_room, crate::specs::Made::basis_small, crate::specs::Made::taken_rows))]
+#[tactic(auto, using(cone::specs::View::span_narrow, compose::specs::Basis::few_rows, compose::specs::Basis::few_room, crate::specs::Made::taken_rows))]
 fn run(
     rt: &impl Print,
     s: Settings,
-    store: &Store,
+    inputs: &UnitInputs,
     left: Cone,
     right: Cone,
     gate: [u8; 4],
 ) -> io::Result<()>
-    requires { (length (store_of store.now) ≡ 672) × (IsCone left × (IsCone right × (length (union_support (cone_of left).support (cone_of right).support) ≤ 11))) }
+    requires { length (union_support (cone_of left).support (cone_of right).support) ≤ 11 }
 {
     let basis = compose::basis_of(left, right);
     let mut xs = [0; 2048];
     let mut ys = [0; 2048];
     let mut truth = [0; 2048];
-    compose::cone_composition_tables(left, right, basis, gate, &mut xs, &mut ys, &mut truth);
-    show_basis(rt, basis)?;
+    compose::cone_composition_tables(left, right, &basis, gate, &mut xs, &mut ys, &mut truth);
+    show_basis(rt, &basis)?;
     let rows = rows_of(basis.n);
     show_values(rt, &xs[..rows])?;
     show_values(rt, &ys[..rows])?;
     show_truth(rt, &truth[..rows])?;
-    show_simplified(rt, s, store, left)?;
+    show_simplified(rt, s, inputs, left)?;
     print!(rt; " ")?;
-    show_simplified(rt, s, store, right)?;
+    show_simplified(rt, s, inputs, right)?;
     print!(rt; " ")?;
-    show_merged(rt, s, store, basis, 1, truth)?;
+    show_merged(rt, s, inputs, &basis, 1, truth)?;
     print!(rt; " ")?;
-    show_merged(rt, s, store, basis, right.span(), truth)
+    show_merged(rt, s, inputs, &basis, right.span(), truth)
 }
 
-fn replay(rt: &impl Print, store: &Store, case: &Case) -> io::Result<()>
-    requires { (length (store_of store.now) ≡ 672) }
-{
+fn replay(rt: &impl Print, inputs: &UnitInputs, case: &Case) -> io::Result<()> {
     let (Some(left), Some(right)) = (case.left.cone(), case.right.cone()) else {
         return print!(rt; "no cone");
     };
     if support::union_support_size(left.sources(), right.sources()) > 11 {
         return print!(rt; "no cone");
     }
-    show_measures(rt, store, left)?;
-    show_measures(rt, store, right)?;
-    run(rt, case.settings, store, left, right, case.gate)
+    show_measures(rt, inputs, left)?;
+    show_measures(rt, inputs, right)?;
+    run(rt, case.settings, inputs, left, right, case.gate)
 }
 
 // ---- all cases
 
-// A store of 672 inputs, each of weight 1.
 #[tactic(auto, using(crate::specs::Made::unit_fine))]
-fn unit_inputs() -> Store
-    ensures { length (store_of result) ≡ 672 }
-{
+fn unit_inputs() -> UnitInputs {
     let mut store = Store::new();
     for _ in 0..672usize {
         store.push(LutNode::of_input(b"", 1), 0);
     }
-    store
-}
-
-fn replay_all(rt: &impl Print, store: &Store, mut input: Tokens<'_>) -> io::Result<()>
-    requires { (length (store_of store.now) ≡ 672) }
-{
-    while let Some(case) = Case::read(&mut input) {
-        replay(rt, store, &case)?;
-        println!(rt)?;
-    }
-    Ok(())
+    UnitInputs { store }
 }
 
 fn main(rt: HostRuntime) -> io::Result<()> {
     let mut buffer = [0; 65536];
-    let store = unit_inputs();
-    replay_all(&rt, &store, Tokens::read(&mut rt.stdin(), &mut buffer))
+    let inputs = unit_inputs();
+    for case in Cases::<Case>::read(&mut rt.stdin(), &mut buffer) {
+        replay(&rt, &inputs, &case)?;
+        println!(rt)?;
+    }
+    Ok(())
 }

@@ -1,26 +1,26 @@
 // A cone by its rows, as the list has it, and whether it is one.
 ghost use Rattle.std.specs.Prelude.{◌≡◌, ℕ, ◌≤◌, ◌<◌, ◌^◌, length, get_or, take, OnSome, IfSome};
 ghost use Rattle.std.specs.Bool.{OnTrue};
-ghost use Rattle.std.proofs.Math.Option.{some};
 ghost use Rattle.rules.specs.Builder.{known_entries};
 ghost use Rattle.rules.specs.Cone.{linear_table};
 ghost use Rattle.rules.specs.NetworkText.{all_different};
 ghost use Rattle.rules.specs.Span.{span};
 ghost use Rattle.scale.specs.Limits.{Within};
-ghost use Rattle.cone.specs.View.{cone_of, IsCone};
-ghost use Rattle.vectors_cones.specs.Made.{rows_of, IsForm};
+ghost use Rattle.rotation.specs.Entries.{first_numbers};
 
 use cone::Cone;
 use linear::linear_span;
-use vectors::{Token, Tokens};
+use rules::Entry;
+use vectors::{FromTokens, Token, Tokens};
 
-// The first n sources and coefficients, and a truth for each assignment of them.
+// The first n sources and coefficients, and a truth for each assignment of them. As `Cone`, whose fields they become.
 #[derive(Clone, Copy)]
 pub struct ConeRows {
     pub n: usize,
     pub support: [usize; 11],
     pub coefs: [i64; 11],
     pub truth: [u8; 2048],
+    ghost few: { n ≤ 11 },
 }
 
 #[tactic(auto, unfolding(rules::specs::NetworkText::all_different))]
@@ -57,34 +57,20 @@ fn is_narrow(coefs: &[i64]) -> bool
     are_small(coefs) && linear_span(coefs) <= 32
 }
 
-// The truth at each value, where each value has one truth.
-fn known_at(values: &[i32], truth: &[u8], size: usize) -> Option<[u8; 32]>
-    requires { (length values.now ≡ length truth.now) × ((0 < length values.now) × ((size ≡ span values.now) × (size ≤ 32))) }
-    ensures { IfSome result (λ known. known_entries values.now truth.now ≡ some (take size known)) }
-{
-    let bounds = rotation::bounds_of(values);
-    let mut known = [2; 32];
-    if !rotation::enter(values, truth, bounds.low, &mut known[..size]) {
-        return None;
-    }
-    Some(known)
-}
-
-// The same at the values of coefficients.
+// The truth at each value of the coefficients' rows, where each value has one truth.
 #[tactic(auto, using(compose::specs::Basis::few_rows, crate::specs::Made::taken_rows, crate::specs::Made::narrow_small, crate::specs::Made::values_first))]
-fn known_of(coefs: &[i64], truth: &[u8]) -> Option<[u8; 32]>
+fn enter_rows(coefs: &[i64], truth: &[u8]) -> Option<[Entry; 32]>
     requires { (length coefs.now ≤ 11) × ((length truth.now ≡ 2 ^ length coefs.now) × (span (linear_table coefs.now) ≤ 32)) }
-    ensures { IfSome result (λ known. known_entries (linear_table coefs.now) truth.now ≡ some (take (span (linear_table coefs.now)) known)) }
+    ensures { first_numbers (span (linear_table coefs.now)) result ≡ known_entries (linear_table coefs.now) truth.now }
 {
     let mut values = [0; 2048];
     linear::linear_table(coefs, &mut values);
-    known_at(&values[..truth.len()], truth, linear_span(coefs))
+    let values = &values[..truth.len()];
+    rotation::enter(values, truth, rotation::bounds_of(values).low)
 }
 
-impl ConeRows {
-    pub fn read(input: &mut Tokens<'_>) -> Option<ConeRows>
-        ensures { OnSome result (length input.new.rest.now ≤ length input.old.rest.now) }
-    {
+impl<'a> FromTokens<'a> for ConeRows {
+    fn read(input: &mut Tokens<'a>) -> Option<ConeRows> {
         let n = input.next()?.value.min(11) as usize;
         let mut numbers = [Token::default(); 11];
         input.fill(&mut numbers[..n])?;
@@ -102,14 +88,18 @@ impl ConeRows {
             truth,
         })
     }
+}
+
+impl ConeRows {
+    ghost use Rattle.std.specs.Prelude.{◌≡◌, ◌≤◌, length, OnSome, IfSome};
+    ghost use Rattle.std.specs.Bool.{OnTrue};
+    ghost use Rattle.cone.specs.View.{cone_of};
+    ghost use Rattle.vectors_cones.specs.Made.{rows_of, IsForm};
 
     // What has to hold of the sources and coefficients.
     fn is_form(&self) -> bool
         ensures { OnTrue result (IsForm self.now.n self.now.support self.now.coefs) }
     {
-        if self.n > 11 {
-            return false;
-        }
         let nodes = &self.support[..self.n];
         are_different(nodes) && are_near(nodes) && is_narrow(&self.coefs[..self.n])
     }
@@ -117,37 +107,44 @@ impl ConeRows {
     // The cone, where the rows are those of one.
     #[tactic(auto, using(compose::specs::Basis::few_rows))]
     pub fn cone(&self) -> Option<Cone>
-        ensures { IfSome result (λ c. IsCone c × (cone_of c ≡ rows_of self.now)) }
+        ensures { IfSome result (λ c. cone_of c ≡ rows_of self.now) }
     {
         if !self.is_form() {
             return None;
         }
         let rows = linear::rows_of(self.n);
-        let known = known_of(&self.coefs[..self.n], &self.truth[..rows])?;
+        let known = enter_rows(&self.coefs[..self.n], &self.truth[..rows])?;
+        let ConeRows {
+            n,
+            support,
+            coefs,
+            ..
+        } = *self;
         Some(Cone {
-            n: self.n,
-            support: self.support,
-            coefs: self.coefs,
+            n,
+            support,
+            coefs,
             known,
         })
     }
 
     // The coefficients divided by their divisor, as the mapper's are before it simplifies; the truth at each row stays.
     #[tactic(auto, using(cone::specs::View::rows_fit))]
-    pub fn normalised(cone: Cone) -> ConeRows
-        requires { IsCone cone }
-    {
-        let mut coefs = cone.coefs;
+    pub fn normalised(cone: Cone) -> ConeRows {
+        let Cone {
+            n,
+            support,
+            mut coefs,
+            ..
+        } = cone;
         let mut values = [0; 2048];
         let mut truth = [0; 2048];
         cone::table::truths_of(cone, &mut values, &mut truth);
         let d = scale::coefficient_normalization_divisor(cone.coefficients());
-        if d != 0 {
-            scale::divide_all(&mut coefs[..cone.n], d);
-        }
+        scale::divide_all(&mut coefs[..n], d);
         ConeRows {
-            n: cone.n,
-            support: cone.support,
+            n,
+            support,
             coefs,
             truth,
         }

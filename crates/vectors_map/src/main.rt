@@ -9,7 +9,7 @@ ghost use Rattle.framing.specs.Feeding.{state_with, fed_all};
 use framing::Feed;
 use rules::Refusal;
 use std::io;
-use vectors::read_full;
+use vectors::{Numbered, read_full};
 
 // Every byte of a buffer before it is lent: no text has it.
 const UNTOUCHED: u8 = 165;
@@ -25,7 +25,7 @@ fn is_kept(out: &[u8], from: usize) -> bool
 fn show_reply(rt: &impl Print, reply: Result<usize, Refusal>, out: &[u8]) -> io::Result<()> {
     let (number, value, written) = match reply {
         Ok(n) => (0, n, n),
-        Err(refusal) => (refusal.reason as usize, refusal.line, 0),
+        Err(refusal) => (refusal.reason.number(), refusal.line, 0),
     };
     let state = if is_kept(out, written) {
         "kept"
@@ -76,7 +76,7 @@ fn replay(rt: &impl Print, text: &[u8]) -> io::Result<()> {
             map_shorter(rt, text, network)?;
         }
         Err(refusal) => {
-            println!(rt; "(no {} {})\n(end)", refusal.reason as usize, refusal.line)?;
+            println!(rt; "(no {})\n(end)", Numbered(refusal))?;
             show_reply(rt, reply, &out)?;
             map_again(rt, text, b"", 0)?;
         }
@@ -101,7 +101,7 @@ fn take_bytes(rt: &impl Print, feed: &mut Feed, bytes: &[u8], job: &mut [u8]) ->
 fn main(rt: HostRuntime) -> io::Result<()> {
     let mut job = [0u8; 65536];
     let mut bytes = [0u8; 4096];
-    let mut feed = Feed::begin();
+    let mut feed = Feed::default();
     for _ in 0..u64::MAX {
         let n = read_full(&mut rt.stdin(), &mut bytes);
         if n == 0 {

@@ -2,20 +2,25 @@
 // For each case it writes `0 COUNT`, `none` or `no NUMBER LINE`, and the 11 places for bits.
 #![tactic(auto)]
 
-ghost use Rattle.std.specs.Prelude.{◌<◌, length, OnSome};
-
 use rules::{Refusal, Shown};
 use std::io;
-use vectors::Tokens;
+use vectors::{Cases, FromTokens, Numbered, Tokens, print_bits};
 
-// The text, the node and the value of the next case. It uses up a byte, so the cases end.
-fn case<'a>(input: &mut Tokens<'a>) -> Option<(&'a [u8], usize, i32)>
-    ensures { OnSome result (length input.new.rest.now < length input.old.rest.now) }
-{
-    let size = input.next()?.value as usize;
-    let node = input.next()?.value as usize;
-    let value = input.next()?.signed();
-    Some((input.text(size)?, node, value))
+#[derive(Drop)]
+struct Case<'a> {
+    text: &'a [u8],
+    node: usize,
+    value: i32,
+}
+
+impl<'a> FromTokens<'a> for Case<'a> {
+    fn read(input: &mut Tokens<'a>) -> Option<Case<'a>> {
+        let size = input.next()?.value as usize;
+        let node = input.next()?.value as usize;
+        let value = input.next()?.signed();
+        let text = input.text(size)?;
+        Some(Case { text, node, value })
+    }
 }
 
 fn show(rt: &impl Print, reply: Result<Option<Shown>, Refusal>) -> io::Result<()> {
@@ -29,24 +34,21 @@ fn show(rt: &impl Print, reply: Result<Option<Shown>, Refusal>) -> io::Result<()
             [0; 11]
         }
         Err(refusal) => {
-            print!(rt; "no {} {} ", refusal.reason as usize, refusal.line)?;
+            print!(rt; "no {} ", Numbered(refusal))?;
             [0; 11]
         }
     };
-    for bit in bits {
-        print!(rt; "{bit}")?;
-    }
+    print_bits(rt, &bits)?;
     println!(rt)
-}
-
-fn replay_all(rt: &impl Print, mut input: Tokens<'_>) -> io::Result<()> {
-    while let Some((text, node, value)) = case(&mut input) {
-        show(rt, sum_reading::sum_reading(text, node, value))?;
-    }
-    Ok(())
 }
 
 fn main(rt: HostRuntime) -> io::Result<()> {
     let mut buffer = [0u8; 262144];
-    replay_all(&rt, Tokens::read(&mut rt.stdin(), &mut buffer))
+    for case in Cases::<Case>::read(&mut rt.stdin(), &mut buffer) {
+        show(
+            &rt,
+            sum_reading::sum_reading(case.text, case.node, case.value),
+        )?;
+    }
+    Ok(())
 }

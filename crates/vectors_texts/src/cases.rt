@@ -1,23 +1,41 @@
 // A case is a header line, LEN bytes of text and a newline; the header is `A LEN`, `C LEN`, `R LEN BITS COUNT` or
 // `N LEN BITS COUNT`, BITS a digit for each byte handed in as a bit or `-` for none, COUNT the length of the lent buffer, filled with 7.
-ghost use Rattle.std.specs.Prelude.{◌≤◌};
-
 use crate::circuits::show_circuit;
-use rules::{Refusal, RunError, Stats};
+use rules::{RunError, Stats};
 use std::fmt::Display;
 use std::io::Read;
 use std::{io, str};
-use vectors::read_full;
+use vectors::{Numbered, read_full};
+
+// Who answers a text.
+#[derive(Clone, Copy)]
+enum Kind {
+    Admission,
+    CircuitReader,
+    CircuitRun,
+    NetworkRun,
+}
 
 #[derive(Clone, Copy)]
 pub struct Case<'a> {
-    kind: &'a [u8],
+    kind: Kind,
     bits: &'a [u8],
     count: usize,
     text: &'a [u8],
 }
 
-// A line of less than 128 bytes, its newline left out.
+impl From<&[u8]> for Kind {
+    fn from(word: &[u8]) -> Kind {
+        match word {
+            b"A" => Kind::Admission,
+            b"C" => Kind::CircuitReader,
+            b"N" => Kind::NetworkRun,
+            _ => Kind::CircuitRun,
+        }
+    }
+}
+
+// A line of less than 128 bytes, its newline left out. By index, since each place is lent to the reader by itself.
 fn read_line<'a, R: Read>(input: &mut R, line: &'a mut [u8; 128]) -> Option<&'a [u8]> {
     for i in 0..128 {
         if read_full(input, &mut line[i..=i]) == 0 {
@@ -41,7 +59,7 @@ pub fn read_case<'a, R: Read>(
     room: &'a mut [u8],
 ) -> Option<Case<'a>> {
     let mut words = read_line(input, line)?.split(|b| *b == b' ');
-    let kind = words.next()?;
+    let kind = Kind::from(words.next()?);
     let size = number(words.next()?)?;
     let bits = words.next().unwrap_or(b"-");
     let count = words.next().and_then(number).unwrap_or(0);
@@ -56,10 +74,7 @@ pub fn read_case<'a, R: Read>(
     })
 }
 
-fn show_refusal(rt: &impl Print, refusal: Refusal) -> io::Result<()> {
-    println!(rt; "{} {}", refusal.reason as usize, refusal.line)
-}
-
+// Admission's answer to a good network, in the order of its fields.
 fn show_stats(rt: &impl Print, s: Stats) -> io::Result<()> {
     print!(rt;
         "0 {} {} {} {} {} {} ",
@@ -71,6 +86,7 @@ fn show_stats(rt: &impl Print, s: Stats) -> io::Result<()> {
     )
 }
 
+// What stands in the lent buffer.
 fn show_values<T: Display>(rt: &impl Print, values: &[T]) -> io::Result<()> {
     print!(rt; " |")?;
     for value in values {
@@ -79,13 +95,11 @@ fn show_values<T: Display>(rt: &impl Print, values: &[T]) -> io::Result<()> {
     println!(rt)
 }
 
+// What a run answers: its count, or how it ended.
 fn show_run(rt: &impl Print, reply: Result<usize, RunError>) -> io::Result<()> {
     match reply {
         Ok(n) => print!(rt; "0 {n}"),
-        Err(RunError::Unreadable(refusal)) => print!(rt;
-            "no {} {}",
-            refusal.reason as usize, refusal.line
-        ),
+        Err(RunError::Unreadable(refusal)) => print!(rt; "no {}", Numbered(refusal)),
         Err(RunError::BadBits) => print!(rt; "bits"),
         Err(RunError::ShortBuffer) => print!(rt; "short"),
         Err(RunError::BrokenOff) => print!(rt; "broken"),
@@ -95,28 +109,26 @@ fn show_run(rt: &impl Print, reply: Result<usize, RunError>) -> io::Result<()> {
 fn answer_admission(rt: &impl Print, text: &[u8]) -> io::Result<()> {
     match admission::admit(text) {
         Ok(stats) => show_stats(rt, stats),
-        Err(refusal) => show_refusal(rt, refusal),
+        Err(refusal) => println!(rt; "{}", Numbered(refusal)),
     }
 }
 
 fn answer_reader(rt: &impl Print, text: &[u8]) -> io::Result<()> {
     match circuit::read(text) {
         Ok(c) => show_circuit(rt, &c),
-        Err(refusal) => show_refusal(rt, refusal),
+        Err(refusal) => println!(rt; "{}", Numbered(refusal)),
     }
 }
 
-// The bits that the digits stand for, as many as there are places; how many.
-fn take_bits(digits: &[u8], bits: &mut [u8; 64]) -> usize
-    ensures { result ≤ 64 }
-{
+// The bits that the digits stand for, as many as there are places. By `% 16`, since the runs are handed bytes over 1 too.
+fn bits_of<'a>(digits: &[u8], places: &'a mut [u8; 64]) -> &'a [u8] {
     if digits == b"-".as_slice() {
-        return 0;
+        return &[];
     }
-    for (bit, digit) in bits.iter_mut().zip(digits) {
+    for (bit, digit) in places.iter_mut().zip(digits) {
         *bit = digit % 16;
     }
-    digits.len().min(64)
+    &places[..digits.len().min(64)]
 }
 
 // A run into the lent buffer.
@@ -133,19 +145,18 @@ fn answer_run<T: Display, F: FnOnce(&mut [T]) -> Result<usize, RunError>>(
 
 pub fn answer(rt: &impl Print, case: Case<'_>) -> io::Result<()> {
     let Case { text, count, .. } = case;
-    let mut bits = [0; 64];
-    let n = take_bits(case.bits, &mut bits);
-    let bits = &bits[..n];
+    let mut places = [0; 64];
+    let bits = bits_of(case.bits, &mut places);
     let count = count.min(64);
     match case.kind {
-        b"A" => answer_admission(rt, text),
-        b"C" => answer_reader(rt, text),
-        b"N" => answer_run(
+        Kind::Admission => answer_admission(rt, text),
+        Kind::CircuitReader => answer_reader(rt, text),
+        Kind::NetworkRun => answer_run(
             rt,
             &mut [7i64; 64][..count],
             |lent| network_run::run_network(text, bits, lent),
         ),
-        _ => answer_run(
+        Kind::CircuitRun => answer_run(
             rt,
             &mut [7u8; 64][..count],
             |lent| circuit_run::run_circuit(text, bits, lent),

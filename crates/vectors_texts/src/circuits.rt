@@ -1,8 +1,10 @@
-// A circuit as forms without separator, a gate with its line's number for its name.
+// A circuit as forms without separator, a gate with its line's number for its name. Functions, not `Display`: the types are other crates', and the names are
+// bytes.
 use circuit::{Circuit, Function, Gate};
 use forms::{Input, Output};
 use rules::{Limit, Policy, Settings, Wire};
 use std::io;
+use vectors::print_bits;
 
 fn show_settings(rt: &impl Print, s: Settings) -> io::Result<()> {
     print!(rt; "(fbs {} {} {} ", s.p, s.m, s.t)?;
@@ -36,22 +38,15 @@ fn show_wire(rt: &impl Print, wire: Wire) -> io::Result<()> {
     }
 }
 
-fn show_bits(rt: &impl Print, bits: &[u8]) -> io::Result<()> {
-    for bit in bits {
-        print!(rt; "{bit}")?;
-    }
-    Ok(())
-}
-
 fn show_gate(rt: &impl Print, gate: Gate) -> io::Result<()> {
     print!(rt; "(gate {} ", gate.line)?;
     match gate.function {
         Function::Unary(wire, answers) => {
-            show_bits(rt, &answers)?;
+            print_bits(rt, &answers)?;
             show_wire(rt, wire)?;
         }
         Function::Binary(left, right, answers) => {
-            show_bits(rt, &answers)?;
+            print_bits(rt, &answers)?;
             show_wire(rt, left)?;
             show_wire(rt, right)?;
         }

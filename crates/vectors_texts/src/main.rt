@@ -6,7 +6,8 @@ mod circuits;
 
 use std::io;
 
-// A proved loop has to end, so the cases are counted up to a number that no run reaches.
+// A proved loop has to end, so the cases are counted up to a number that no run reaches. Not by `Cases`: each case lies in the same buffers as the one
+// before, and an iterator's items may be kept.
 fn main(rt: HostRuntime) -> io::Result<()> {
     let mut input = rt.stdin();
     let mut line = [0u8; 128];

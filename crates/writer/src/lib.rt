@@ -5,29 +5,46 @@ pub mod node_lines;
 pub mod outputs;
 
 ghost use Rattle.std.specs.Prelude.{map};
-ghost use Rattle.rules.specs.Writing.{network_text};
 ghost use Rattle.forms.specs.Forms.{output_of};
-ghost use Rattle.lines.specs.Put.{Put, Room};
-ghost use Rattle.writer.specs.Live.{Sourced};
-ghost use Rattle.writer.specs.Outputs.{AllLive};
-ghost use Rattle.writer.specs.Whole.{network_of};
+ghost use Rattle.writer.specs.Live.{Sourced, Sourced_prop};
+ghost use Rattle.writer.specs.Outputs.{AllLive, AllLive_prop};
 
 use forms::{Net, Output};
+use lines::cursor::Cursor;
+use lines::line::put_net;
+use node_lines::put_nodes;
 use nodes::store::Store;
+use outputs::put_outs;
 
-// The network's text, as far as the buffer reaches; answers its length.
-pub fn write(
-    out: &mut [u8],
-    net: Net,
-    outputs: &[Output<'_>],
-    store: &Store,
-    live: &[u16; 672],
-) -> usize
-    requires sourced { Sourced live.now store.now × AllLive live.now (map output_of outputs.now) }
-    requires room { Room 0 (network_text (network_of net (map output_of outputs.now) store.now live.now)) }
-    ensures { Put 0 (network_text (network_of net (map output_of outputs.now) store.now live.now)) out.old result out.new }
-{
-    let a = lines::line::put_net(out, 0, b"(net ", net.p, net.m, net.norm);
-    let b = node_lines::put_nodes(out, a, store, live);
-    outputs::put_outs(out, b, outputs, live)
+// The parts of a network's text. `live` has the new number of each node that is written, and none for a node that is left out.
+// What a live node needs is live, and so are the outputs' nodes.
+#[derive(Clone, Copy)]
+pub struct Text<'a> {
+    pub net: Net,
+    pub outputs: &'a [Output<'a>],
+    pub store: &'a Store,
+    pub live: &'a [Option<u16>; 672],
+    ghost sourced: { Sourced live.now store.now } by { Sourced_prop live.now store.now },
+    ghost all_live: { AllLive live.now (map output_of outputs.now) } by { AllLive_prop live.now (map output_of outputs.now) },
+}
+
+impl Text<'_> {
+    ghost use Rattle.rules.specs.Writing.{network_text};
+    ghost use Rattle.lines.specs.Put.{Room};
+    ghost use Rattle.lines.specs.Front.{Written};
+    ghost use Rattle.writer.specs.Whole.{written};
+
+    // The text, as far as the buffer reaches; answers its length.
+    pub fn write(&self, out: &mut [u8]) -> usize
+        requires { Room 0 (network_text (written self.now)) }
+        ensures { Written (network_text (written self.now)) out.old result out.new }
+    {
+        // By its parts, since `lines` leans on `rules` alone, and `Net` stands in `forms`.
+        let net = self.net;
+        let mut cursor = Cursor { out, at: 0 };
+        put_net(&mut cursor, b"(net ", net.p, net.m, net.norm);
+        put_nodes(&mut cursor, self);
+        put_outs(&mut cursor, self);
+        cursor.at
+    }
 }

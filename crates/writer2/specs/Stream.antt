@@ -1,6 +1,6 @@
 -- Edition 2 written node by node. What is open is the node of a `many` line, if there is one.
-use Rattle.std.specs.Prelude.{◌≡◌, refl, Bool, true, false, List, [], ◌∷◌, ◌++◌, ℕ, eqb, Option, Some, None}
-use Rattle.std.proofs.Common.{sym, ap, ◌∙◌, append_assoc, ⊎_elim, eq-eqb, ne_eqb}
+use Rattle.std.specs.Prelude.{◌≡◌, refl, Bool, true, false, List, [], ◌∷◌, ◌++◌, ℕ, eqb, Option, Some, None, IsSome, IsNone}
+use Rattle.std.proofs.Common.{sym, ap, true≢false, ◌∙◌, append_assoc, ⊎_elim, eq-eqb, ne_eqb}
 use Rattle.std.specs.Option.{option_eq}
 use Rattle.laws.specs.Test.{if◌then◌otherwise◌, eq-or-ne}
 use Rattle.rules.specs.Converter.{join_table, node_lines, tables_text, line2_text, lines2_text}
@@ -15,6 +15,16 @@ use Rattle.lines.specs.Lines2.{many_text, table_text}
 unfoldable pub closing : Option ℕ → List ℕ
 closing None = []
 closing (Some j) = bytes ")\n"
+
+pub closing_none : (o : Option ℕ) → IsNone o → closing o ≡ []
+unfolding closing
+closing_none None h = refl
+closing_none (Some j) h = absurd (true≢false h)
+
+pub closing_some : (o : Option ℕ) → IsSome o → closing o ≡ bytes ")\n"
+unfolding closing
+closing_some None h = absurd (true≢false (sym h))
+closing_some (Some j) h = refl
 
 -- the line of node i is open
 abbrev pub open_on : Option ℕ → ℕ → Bool

@@ -7,5 +7,4 @@ put_end-requires c = refusal_ends c.put_refusal-n.ensures (search rules) (search
 
 pub returns : goal.returns
 returns c =
-    let e = c.number.ensures in
-    front-refusal (rw e at c.put_refusal-n.ensures) (rw e at c.number.type_inv) (search rules) c.requires c.put_end.ensures
+    front-refusal c.put_refusal-n.ensures (search rules) (search rules) c.requires c.put_end.ensures

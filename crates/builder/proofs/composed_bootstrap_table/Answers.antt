@@ -1,7 +1,6 @@
-use Rattle.std.proofs.Common.{◌≡◌, sym, ap, ap₂, ◌∙◌, Bool, true, false, ℕ, eqb, ◌+◌, ◌≤◌, arith, ℤ, nat_abs, ◌-ℤ◌, replicate, length-take-le, ◌≤ℤ◌}
+use Rattle.std.proofs.Common.{◌≡◌, sym, ap, ap₂, ◌∙◌, Bool, true, false, ℕ, eqb, ◌+◌, ◌≤◌, arith, ℤ, nat_abs, ◌-ℤ◌, length-take-le, ◌≤ℤ◌}
 use Rattle.std.proofs.lemmas.Bool.{eqb-true, eqb-false}
 use Rattle.laws.specs.Integer.{ints}
-use Rattle.laws.specs.Tail.{take-replicate}
 use Rattle.rules.specs.Builder.{table_limits}
 use Rattle.rules.specs.Span.{span}
 use Rattle.theorems.specs.BuilderExact.{limits_most, bad_settings, lengths_differ, no_row, too_long_lem, from_rows}
@@ -51,22 +50,16 @@ span_of-length-requires c =
 pub returns-then-m-length : goal.returns-then-m-length
 returns-then-m-length c = sym (too_long_lem _ _ _ _ _ (settings (goal.at.returns-then-m-length c).Else-not-table_limits) c.if-values-truths.false (some_row _ _ c.is_empty.ensures c.if-is_empty.false) (omega (arith, length_is (goal.at.returns-then-m-length c).After-span_of-length)))
 
-pub slice_bounds-known-end : goal.slice_bounds-known-end
-slice_bounds-known-end c = fits (goal.at.slice_bounds-known-end c).After-span_of-length c.if-m-length.false
+pub slice_bounds-table-end : goal.slice_bounds-table-end
+slice_bounds-table-end c = fits (goal.at.slice_bounds-table-end c).After-span_of-length c.if-m-length.false
 
 pub slice_bounds-build_from_rows-end : goal.slice_bounds-build_from_rows-end
 slice_bounds-build_from_rows-end c = sym (length-take-le _ _ (fits (goal.at.slice_bounds-build_from_rows-end c).After-span_of-length c.if-m-length.false))
 
-pub slice_bounds-table-end : goal.slice_bounds-table-end
-slice_bounds-table-end c = fits (goal.at.slice_bounds-table-end c).After-span_of-length c.if-m-length.false
-
-pub slice_bounds-build_from_rows-end-2 : goal.slice_bounds-build_from_rows-end-2
-slice_bounds-build_from_rows-end-2 c = sym (length-take-le _ _ (fits (goal.at.slice_bounds-build_from_rows-end-2 c).After-span_of-length c.if-m-length.false))
-
-pub build_from_rows-requires-clause-known_value : goal.build_from_rows-requires-clause-known_value
-build_from_rows-requires-clause-known_value c =
-    let at = (goal.at.build_from_rows-requires-clause-known_value c).After-span_of-length in
-    take-replicate c.span_of-length.result 32 2 (fits at c.if-m-length.false) ∙ ap (λ n. replicate n 2) (length_is at)
+pub build_from_rows-requires-clause-narrow : goal.build_from_rows-requires-clause-narrow
+build_from_rows-requires-clause-narrow c =
+    let at = (goal.at.build_from_rows-requires-clause-narrow c).After-span_of-length in
+    omega (arith, length_is at, fits at c.if-m-length.false)
 
 pub build_from_rows-requires-clause-table_len : goal.build_from_rows-requires-clause-table_len
 build_from_rows-requires-clause-table_len c =

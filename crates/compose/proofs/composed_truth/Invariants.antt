@@ -8,5 +8,5 @@ use Rattle.compose.proofs.composed_truth.Given as goal
 -- `compose::composed_truth` meets its contract: the right row steps with the assignment, and the rows passed have the gate's answers.
 abbrev pub invariant-loop-i : goal.invariant-loop-i
 invariant-loop-i l =
-    (l.r ≡ row_over l.support (cone_of l.fn.right).support l.i)
+    (l.right_row ≡ row_over l.support (cone_of l.fn.right).support l.i)
     × Filling (gate_truth l.support (cone_of l.fn.left) (cone_of l.fn.right) l.gate) l.initial.truth l.truth l.i

@@ -1,10 +1,6 @@
-use Rattle.std.proofs.Common.{length}
-use Rattle.many_text.specs.Tables.{tables_in}
+use Rattle.many_text.specs.View.{tables_left}
 use Rattle.edition.specs.Put.{Puts}
 use Rattle.edition.proofs.put_tables.Given as goal
 
 abbrev pub invariant-loop-table : goal.invariant-loop-table
-invariant-loop-table l = Puts l.fn.w l.source (tables_in l.tables) l.p l.rest l.w
-
-abbrev pub decreases-loop-table : goal.decreases-loop-table
-decreases-loop-table l = length l.rest
+invariant-loop-table l = Puts l.fn.network l.source (tables_left l.fn.tables) l.p (tables_left l.table-iterator) l.network

@@ -3,4 +3,4 @@ use Rattle.exports.specs.Numbers.{admission_numbers}
 use Rattle.exports.proofs.fbs_admit.Goals as goal
 
 pub returns : goal.returns
-returns c = c.admission_numbers.ensures ∙ ap admission_numbers c.admit.ensures
+returns c = c.from.ensures ∙ ap admission_numbers c.admit.ensures

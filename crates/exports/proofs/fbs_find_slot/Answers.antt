@@ -5,5 +5,5 @@ use Rattle.exports.proofs.fbs_find_slot.Goals as goal
 
 pub returns : goal.returns
 returns c =
-    c.slot_numbers.ensures
+    c.from.ensures
     ∙ ap slot_numbers (c.slot.ensures ∙ ap₂ (slot_answer c.args.p) (to_z-of_z c.ranges.value) (to_z-of_z c.ranges.error))

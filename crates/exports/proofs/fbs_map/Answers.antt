@@ -2,4 +2,4 @@ use Rattle.exports.specs.Laws.{answered}
 use Rattle.exports.proofs.fbs_map.Goals as goal
 
 pub returns : goal.returns
-returns c = answered _ _ _ _ c.map_numbers.ensures c.map.ensures
+returns c = answered _ _ _ _ c.from.ensures c.map.ensures

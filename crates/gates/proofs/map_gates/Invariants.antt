@@ -7,7 +7,7 @@ use Rattle.gates.proofs.map_gates.Given as goal
 abbrev pub invariant-loop-gate : goal.invariant-loop-gate
 invariant-loop-gate l =
     record {
-      worked : Worked l.s.p l.initial.store (6 * l.gate-index) l.store l.wires.items (length l.c.inputs.items + l.gate-index);
-      same : gates_from l.s (map output_of l.c.outputs.items) l.c.gates.items l.gate-index l.store l.wires.items
-          ≡ gates_from l.s (map output_of l.c.outputs.items) l.c.gates.items 0 l.initial.store l.initial.wires.items;
+      worked : Worked l.s.settings.p l.initial.store (6 * l.gate-index) l.store l.wires.items (length l.circuit.inputs.items + l.gate-index);
+      same : gates_from l.s.settings (map output_of l.circuit.outputs.items) l.circuit.gates.items l.gate-index l.store l.wires.items
+          ≡ gates_from l.s.settings (map output_of l.circuit.outputs.items) l.circuit.gates.items 0 l.initial.store l.initial.wires.items;
     }

@@ -12,11 +12,8 @@ wire_cone-requires c = output_in c.loop-output.invariant.way.wired _ _ c.deref-o
 pub output_signal-wire-requires : goal.output_signal-wire-requires
 output_signal-wire-requires c =
     let w = c.loop-output.invariant.way in (
-      c.requires.limits,
-      (
-        omega (arith, c.requires.room.0, w.outs.grown.most, c.loop-output-test.true, ap length c.deref-output-items.ensures.0),
-        c.wire_cone.ensures.stands _ _ w.wired,
-      ),
+      omega (arith, c.requires.room.0, w.outs.grown.most, c.loop-output-test.true, ap length c.deref-output-items.ensures.0),
+      c.wire_cone.ensures.stands _ _ w.wired,
     )
 
 pub loop-output-preserved : goal.loop-output-preserved

@@ -6,7 +6,7 @@ use Rattle.outputs.proofs.map_outputs.Given as goal
 abbrev pub invariant-loop-output : goal.invariant-loop-output
 invariant-loop-output l =
     record {
-      way : Way l.s.p l.initial.store (length l.c.inputs.items + length l.c.gates.items) l.wires.items l.output-index l.store l.outputs.items;
-      same : outputs_from l.s (map cone_of l.wires.items) l.c.outputs.items l.output-index l.store l.outputs.items
-          ≡ outputs_from l.s (map cone_of l.wires.items) l.c.outputs.items 0 l.initial.store [];
+      way : Way l.s.settings.p l.initial.store (length l.circuit.inputs.items + length l.circuit.gates.items) l.wires.items l.output-index l.store l.outputs.items;
+      same : outputs_from l.s.settings (map cone_of l.wires.items) l.circuit.outputs.items l.output-index l.store l.outputs.items
+          ≡ outputs_from l.s.settings (map cone_of l.wires.items) l.circuit.outputs.items 0 l.initial.store [];
     }

@@ -1,23 +1,25 @@
-use Rattle.std.proofs.Common.{arith, length-take-le}
-use Rattle.prune.specs.Prune.{numbering_start, numbering_kept, numbering_passed, numbers_done}
+use Rattle.std.proofs.Common.{arith, refl, length-set, length-take-le}
+use Rattle.prune.specs.Prune.{mark_taken, numbering_start, numbering_kept, numbering_passed}
 use Rattle.prune.proofs.renumber.Goals as goal
-use Rattle.prune.proofs.renumber.Goals.{then-mark-ne0, else-mark-ne0}
+use Rattle.prune.proofs.renumber.Goals.{then-mark, else-mark}
 
-pub loop-mark-init : goal.loop-mark-init
-loop-mark-init c = (omega arith, λ kept m. numbering_start kept c.args.live.now c.args.count c.requires.0 c.requires.1 m)
+pub loop-i-init : goal.loop-i-init
+loop-i-init c = (omega arith, refl, λ kept m. numbering_start kept)
 
-pub overflow_add-next : goal.overflow_add-next
-overflow_add-next c = let n = length-take-le c.args.count c.args.live.now (omega arith) in omega (arith, c.loop-mark.invariant.0)
-
-pub loop-mark-preserved : goal.loop-mark-preserved
-loop-mark-preserved c =
-    let o = c.loop-mark in
-    elim c.if-mark-ne0.branch [
-      | then-mark-ne0 w ↦ rw (w.next-is, w.mark-items-is) (omega (arith, o.invariant.0), λ kept m. numbering_kept kept o.mark-items o.mark-index o.next (o.invariant.1 kept m) (omega arith) w.if-mark-ne0.true)
-      | else-mark-ne0 w ↦ rw (w.next-is, w.mark-items-is) (omega (arith, o.invariant.0), λ kept m. numbering_passed kept o.mark-items o.mark-index o.next (o.invariant.1 kept m) (omega arith) w.if-mark-ne0.false)
+pub loop-i-preserved : goal.loop-i-preserved
+loop-i-preserved c =
+    let o = c.loop-i in
+    let a = c.args in
+    let l = length-take-le a.count a.marks.now (omega arith) in
+    elim c.if-mark.branch [
+      | then-mark w ↦ rw (w.next-is, w.numbers-is) (
+        omega (arith, o.invariant.0),
+        simp length-set o.invariant.1,
+        λ kept m. numbering_kept kept o.numbers o.i o.next (o.invariant.2 kept m) _ refl (omega arith) (mark_taken a.count kept a.marks.now o.i m (omega arith) (omega arith) w.if-mark.true),
+      )
+      | else-mark w ↦ rw (w.next-is, w.numbers-is) (
+        omega (arith, o.invariant.0),
+        o.invariant.1,
+        λ kept m. numbering_passed kept o.numbers o.i o.next (o.invariant.2 kept m) (omega arith) (mark_taken a.count kept a.marks.now o.i m (omega arith) (omega arith) w.if-mark.false),
+      )
     ]
-
-pub returns : goal.returns
-returns c =
-    let o = c.loop-mark in
-    numbers_done c.args.count c.args.live.now o.mark-items c.requires.0 c.requires.1 (omega arith) o.mark-index o.next (omega (arith, c.loop-mark-test.false)) o.invariant.1

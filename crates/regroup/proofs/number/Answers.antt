@@ -1,9 +1,12 @@
-use Rattle.std.proofs.Common.{arith, refl}
-use Rattle.regroup.specs.Numbers.{numbering_none, numbering_turn}
+use Rattle.std.proofs.Common.{arith, refl, rules, ◌∙◌}
+use Rattle.regroup.specs.Numbers.{numbering_none, numbering_more}
 use Rattle.regroup.proofs.number.Goals as goal
 
 pub loop-i-init : goal.loop-i-init
-loop-i-init c = numbering_none c.args.order.now _ refl _ refl
+loop-i-init c = (search rules, numbering_none _ _ _ (search rules) refl)
 
 pub loop-i-preserved : goal.loop-i-preserved
-loop-i-preserved c = numbering_turn c.args.order.now c.loop-i.live c.loop-i.i c.loop-i-test.true (omega arith) c.requires.1 c.loop-i.invariant
+loop-i-preserved c =
+    let d = c.in-Some.ensures.steps in
+    let n = c.loop-i.invariant in
+    (d.0 ∙ n.0, numbering_more _ c.in-Some.field-0-1.now n.1 d.1.0 c.requires.1 c.in-Some.i (omega (arith, d.1.1, n.0)))

@@ -47,9 +47,9 @@ returns c =
     let b = to_z-of_z c.ranges.b in
     let twice : to_z w64 (of_z w64 (pos 2 *ℤ to_z w64 (of_z w64 c.args.a))) ≡ pos 2 *ℤ c.args.a =
     rw a (to_z-of_z {w = w64} (fits_abs (pos 2 *ℤ c.args.a) (omega (arith, abs_mul_le (pos 2) c.args.a {a = 2} (omega arith) r.1.first)))) in
-    let first : u.result ≡ (c.args.a *ℤ c.args.a) *ℤ c.args.m.xx = u.ensures.is ∙ rw (a, read_back c.args.m.xx (omega (arith, r.0.xx))) in
-    let second : v.result ≡ ((pos 2 *ℤ c.args.a) *ℤ c.args.b) *ℤ c.args.m.xy = v.ensures.is ∙ rw (twice, b, read_back c.args.m.xy (omega (arith, r.0.xy))) in
-    let third : w.result ≡ (c.args.b *ℤ c.args.b) *ℤ c.args.m.yy = w.ensures.is ∙ rw (b, read_back c.args.m.yy (omega (arith, r.0.yy))) in
+    let first : u.result ≡ (c.args.a *ℤ c.args.a) *ℤ c.args.moments.xx = u.ensures.is ∙ rw (a, read_back c.args.moments.xx (omega (arith, r.0.xx))) in
+    let second : v.result ≡ ((pos 2 *ℤ c.args.a) *ℤ c.args.b) *ℤ c.args.moments.xy = v.ensures.is ∙ rw (twice, b, read_back c.args.moments.xy (omega (arith, r.0.xy))) in
+    let third : w.result ≡ (c.args.b *ℤ c.args.b) *ℤ c.args.moments.yy = w.ensures.is ∙ rw (b, read_back c.args.moments.yy (omega (arith, r.0.yy))) in
     let is = three_read u.result v.result w.result u.ensures.small v.ensures.small w.ensures.small in
     record {
       is = is ∙ ap₂ (λ x y. x +ℤ y) (ap₂ (λ x y. x +ℤ y) first second) third;

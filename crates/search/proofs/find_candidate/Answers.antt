@@ -1,27 +1,38 @@
-use Rattle.std.proofs.Common.{◌≡◌, sym, subst, rules, arith, length, take}
+use Rattle.std.proofs.Common.{◌≡◌, sym, ap, subst, ◌∙◌, List, ℕ, ◌≤◌, ℤ, length}
 use Rattle.std.proofs.lemmas.Bool.Decides.{Decides-int_eq}
 use Rattle.std.proofs.lemmas.Slice.Eq.{slice_eq-Decides}
-use Rattle.laws.specs.Tail.{head_length}
-use Rattle.nodes.specs.Store.{store_of}
-use Rattle.cone.specs.Sources.{AllBelow}
+use Rattle.rules.specs.Cone.{linear_table}
+use Rattle.rules.specs.Span.{span}
+use Rattle.compose.specs.Basis.{lefts, rights, lefts_span, rights_span}
 use Rattle.search.specs.Policies.{ranges_in, finds_over}
-use Rattle.search.specs.Search.{InSpans, Weighs}
+use Rattle.search.specs.Search.{InSpans}
 use Rattle.search.proofs.find_candidate.Goals as goal
-use Rattle.search.proofs.find_candidate.Goals.{Start}
 
 -- `search::find_candidate` meets its contract.
-long : (c : Start) → c.args.basis.n ≡ length (take c.args.basis.n c.args.basis.left)
-long c = let eleven : length c.args.basis.left ≡ 11 = search rules in head_length c.args.basis.left c.args.basis.n (omega (arith, c.requires.0))
+-- the span of a row that was read
+read_span : (k : ℕ) (l m : List ℤ) → k ≡ span (linear_table l) → l ≡ m → k ≡ span (linear_table m)
+read_span k l m e f = e ∙ ap (λ t. span (linear_table t)) f
+
+few : (k n : ℕ) → k ≡ n → n ≤ 32 → k ≤ 32
+few k n e h = rw e h
+
+pub ranges_of-ranges-requires : goal.ranges_of-ranges-requires
+ranges_of-ranges-requires c =
+    let b = c.args.context.basis.now in (
+      few _ _ (read_span _ _ (lefts b) c.linear_span.ensures c.left-left.ensures.are) (lefts_span b),
+      few _ _ (read_span _ _ (rights b) c.linear_span-2.ensures c.right-right.ensures.are) (rights_span b),
+    )
 
 pub search-requires : goal.search-requires
 search-requires c =
-    let below : AllBelow (length (store_of c.args.store.now)) (take c.args.basis.n c.args.basis.support) = c.requires.1.1.1.1 in
-    let n = long (goal.at.search-requires c).Start in
-    let spans = subst InSpans (sym c.ranges_of-r.ensures) (ranges_in c.eq.result c.args.s.policy c.args.first c.args.second c.requires.1.0 c.requires.1.1.0) in
-    let weights : Weighs (store_of c.args.store.now) (take c.args.basis.n c.args.basis.support) c.weights_of-weights.result = record { long = search rules; are = c.weights_of-weights.ensures } in
-    (c.requires.1.1.1.0, (spans, (subst (λ k. AllBelow (length (store_of c.args.store.now)) (take k c.args.basis.support)) n below, subst (λ k. Weighs (store_of c.args.store.now) (take k c.args.basis.support) c.weights_of-weights.result) n weights)))
+    let b = c.args.context.basis.now in
+    let left = few _ _ (read_span _ _ (lefts b) c.linear_span.ensures c.left-left.ensures.are) (lefts_span b) in
+    let right = few _ _ (read_span _ _ (rights b) c.linear_span-2.ensures c.right-right.ensures.are) (rights_span b) in
+    let spans = subst InSpans (sym c.ranges_of-ranges.ensures) (ranges_in c.eq-same_form.result c.args.context.settings.policy _ _ left right) in
+    (c.requires, (spans, ap length (sym c.left-left.ensures.are) ∙ c.left-left.ensures.count))
 
 pub returns : goal.returns
 returns c left right all counts h =
-    finds_over _ _ left right all counts _ _ _ _ _ _ _ h c.requires.1.1.1.0.narrow c.requires.1.0 c.requires.1.1.0 c.eq.result _ _ _
-    (slice_eq-Decides Decides-int_eq _ _ _ c.eq.ensures).0 c.ranges_of-r.ensures (sym (long (goal.at.returns c).Start)) c.search.ensures
+    finds_over _ _ left right all counts _ _ _ _ _ _ _ h c.args.context.narrow
+    (read_span _ _ _ c.linear_span.ensures c.left-left.ensures.are) (read_span _ _ _ c.linear_span-2.ensures c.right-right.ensures.are) c.eq-same_form.result _ _
+    (λ e. sym c.left-left.ensures.are ∙ (slice_eq-Decides Decides-int_eq _ _ _ c.eq-same_form.ensures).0 e ∙ c.right-right.ensures.are) c.ranges_of-ranges.ensures c.search.ensures

@@ -3,7 +3,7 @@ use Rattle.search.specs.Reuse.{sum_good, reuse_many}
 use Rattle.search.proofs.reuse_cost.Goals as goal
 
 pub has_bootstrap-requires : goal.has_bootstrap-requires
-has_bootstrap-requires c = sum_good _ _ c.args.sources _ _ c.sum_of.ensures _ c.requires.0 c.requires.1.0 c.requires.1.1.0 c.requires.1.1.1
+has_bootstrap-requires c = sum_good _ _ _ c.sum_of.ensures _ c.requires.0 c.requires.1 c.args.context.stored
 
 pub returns-then-has_bootstrap : goal.returns-then-has_bootstrap
-returns-then-has_bootstrap c m = reuse_many _ _ c.args.sources _ _ c.sum_of.ensures _ _ m c.requires.1.1.0 c.if-s.true (sym c.has_bootstrap.ensures ∙ c.if-has_bootstrap.true)
+returns-then-has_bootstrap c = reuse_many _ _ _ c.sum_of.ensures _ _ _ c.requires.1 c.if-context.true (sym c.has_bootstrap.ensures ∙ c.if-has_bootstrap.true)

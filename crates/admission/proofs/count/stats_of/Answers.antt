@@ -7,4 +7,4 @@ loop-i-init c = counting_start c.args.store.now c.args.outputs _ (search (record
 
 pub loop-i-preserved : goal.loop-i-preserved
 loop-i-preserved c =
-    counting_next c.loop-i.invariant (search rules) c.count_node-s.ensures.stats c.count_node-s.ensures.taken
+    counting_next c.loop-i.invariant (search rules) c.count_node.ensures.stats c.count_node.ensures.taken

@@ -1,6 +1,6 @@
 use Rattle.std.proofs.Common.{arith}
 use Rattle.nodes.specs.Store.{store_few}
-use Rattle.bootstrap.specs.Boot.{sum_good, grown_by_one, number_inside, entries_known, entries_few, made_stands}
+use Rattle.bootstrap.specs.Boot.{sum_good, grown_by_one, number_inside, entries_few, made_stands}
 use Rattle.bootstrap.proofs.boot.materialize.Goals as goal
 
 pub linear-requires : goal.linear-requires
@@ -10,10 +10,9 @@ pub bootstrap-requires : goal.bootstrap-requires
 bootstrap-requires c =
     let i = c.linear.ensures in
     let g = grown_by_one i in
-    let h = c.requires.1.cone in
     let e = c.span.ensures in record {
       store = (omega (arith, g.1), number_inside i c.in-Node.is);
-      known_len_bound = ((entries_few _ h _ e).1, entries_known _ h _ e);
+      known_len_bound = entries_few _ _ e;
     }
 
 pub identity-requires : goal.identity-requires
@@ -21,5 +20,4 @@ identity-requires c = omega (arith, number_inside c.bootstrap.ensures c.in-Node-
 
 pub returns-clause-stands : goal.returns-clause-stands
 returns-clause-stands c =
-    let k = c.identity.ensures in
-    made_stands c.args.s _ _ c.requires.1 _ c.sum_of.ensures _ _ c.linear.ensures _ c.in-Node.is _ c.span.ensures _ _ c.bootstrap.ensures _ c.in-Node-bootstrap.is _ k.0 k.1
+    made_stands c.args.s _ _ c.requires.1 _ c.sum_of.ensures _ _ c.linear.ensures _ c.in-Node.is _ c.span.ensures _ _ c.bootstrap.ensures _ c.in-Node-bootstrap.is _ c.identity.ensures

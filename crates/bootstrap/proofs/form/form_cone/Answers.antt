@@ -1,15 +1,17 @@
-use Rattle.std.proofs.Common.{◌≡◌, refl, sym, ap, subst, ◌∙◌, List, ℕ, ◌≤◌, arith, rules, ℤ, length, take}
-use Rattle.rules.specs.Cone as C
+use Rattle.std.proofs.Common.{◌≡◌, refl, sym, ap, subst, ◌∙◌, List, arith, rules, ℤ, length, take}
 use mathlib.Core.Option.{some}
 use Rattle.std.specs.Option.{IfSome}
 use Rattle.rules.specs.Builder.{known_entries}
-use Rattle.rules.specs.Cone.{linear_table, cone_span, values, fits}
+use Rattle.rules.specs.Cone.{linear_table, cone_span, values}
 use Rattle.rules.specs.Span.{span}
+use Rattle.rotation.specs.Entries.{numbers}
 use Rattle.cone.specs.declared.Cone.{Cone}
+use Rattle.cone.specs.Fields.{cone_from}
 use Rattle.cone.specs.View.{cone_of}
-use Rattle.cone.specs.Sources.{Stands, below_same}
+use Rattle.cone.specs.Sources.{Stands}
 use Rattle.nodes.specs.Store.{store_of}
-use Rattle.bootstrap.specs.Form.{reformed, formed_is, formed_cone, candidate_in, fits_long, fits-clash, form_not, form_tested, stands_tested}
+use Rattle.theorems.specs.SettingLimits.{limits_m}
+use Rattle.bootstrap.specs.Form.{reformed, formed_is, formed_held, formed_stands, candidate_in, fits_long, fits-clash, form_not, form_tested, stands_tested}
 use Rattle.bootstrap.proofs.form.form_cone.Goals as goal
 use Rattle.bootstrap.proofs.form.form_cone.Goals.{In_ok-known}
 
@@ -23,61 +25,57 @@ module _ (c : Cone) (cs : List ℤ) where
   unfolding values reformed
   entries_are = refl
 
-  sources_are : (reformed (cone_of c) cs).support ≡ (cone_of c).support
-  unfolding reformed
-  sources_are = refl
-
 module _ (c : In_ok-known) where
   abbrev coefs : List ℤ
   coefs = take c.args.c.n c.args.coefs
 
-  abbrev made : Cone
-  made = record { n = c.args.c.n; support = c.args.c.support; coefs = c.args.coefs; known = c.in_ok-known.known }
-
   form_long : length c.args.coefs ≡ 11
   form_long = search rules
 
-  known_long : length c.in_ok-known.known ≡ 32
-  known_long = search rules
-
-  -- the span is within the entries
-  short : span (linear_table coefs) ≤ 32
-  short = omega (arith, c.requires.0, c.if-s-span.false, c.linear_span-span.ensures)
-
-  entries : known_entries (linear_table coefs) (cone_of c.args.c).truth ≡ some (take (span (linear_table coefs)) c.in_ok-known.known)
-  entries = sym c.in_ok-known.ensures ∙ ap (λ (n : ℕ). some (take n c.in_ok-known.known)) c.linear_span-span.ensures
+  entries : known_entries (linear_table coefs) (cone_of c.args.c).truth ≡ some (numbers (take (span (linear_table coefs)) c.in_ok-known.known))
+  entries = sym c.in_ok-known.ensures
 
   -- the cone is the one with the form's coefficients
-  form : cone_of made ≡ reformed (cone_of c.args.c) coefs
-  form = formed_is c.args.c c.requires.1.cone c.args.coefs form_long _ short entries
+  form : cone_from c.args.c.n c.args.c.support c.args.coefs c.in_ok-known.known ≡ reformed (cone_of c.args.c) coefs
+  form = formed_is c.args.c c.args.coefs form_long _ entries
 
-  stands : Stands (length (store_of c.args.store.now)) made
-  stands =
-      record {
-        cone = formed_cone c.args.c c.requires.1.cone c.args.coefs form_long _ short entries known_long;
-        below = below_same _ (cone_of made) (cone_of c.args.c) (ap (λ (k : C.Cone). k.support) form ∙ sources_are c.args.c coefs) c.requires.1.below;
-      }
+pub invariant_of-form : goal.invariant_of-form
+invariant_of-form c =
+    let p = (goal.at.invariant_of-form c).In_ok-known in
+    let k = c.args.c in
+    record {
+      support_long = k.support_long;
+      coefs_long = form_long p;
+      entries_long = search rules;
+      few = k.few;
+      different = k.different;
+      near = k.near;
+      narrow = omega (arith, limits_m c.args.s.settings c.args.s.limits, c.if-s-linear_span.false, c.linear_span.ensures);
+      held = formed_held k c.args.coefs (form_long p) _ (entries p);
+    }
 
-pub returns-then-s-span-clause-is : goal.returns-then-s-span-clause-is
-returns-then-s-span-clause-is c =
+pub returns-then-s-linear_span-clause-is : goal.returns-then-s-linear_span-clause-is
+returns-then-s-linear_span-clause-is c =
     let cs = take c.args.c.n c.args.coefs in
     let v = reformed (cone_of c.args.c) cs in
-    form_not c.args.s _ v (fits_long c.args.s _ v (omega (arith, span_is c.args.c cs, c.linear_span-span.ensures, c.if-s-span.true)))
+    form_not c.args.s.settings _ v (fits_long c.args.s.settings _ v (omega (arith, span_is c.args.c cs, c.linear_span.ensures, c.if-s-linear_span.true)))
 
 pub returns-in_err-known-clause-is : goal.returns-in_err-known-clause-is
 returns-in_err-known-clause-is c =
     let cs = take c.args.c.n c.args.coefs in
     let v = reformed (cone_of c.args.c) cs in
     ap (candidate_in (store_of c.args.store.now)) c.from_residual.ensures
-    ∙ form_not c.args.s _ v (fits-clash c.args.s _ v (entries_are c.args.c cs ∙ sym c.in_err-known.ensures))
+    ∙ form_not c.args.s.settings _ v (fits-clash c.args.s.settings _ v (entries_are c.args.c cs ∙ sym c.in_err-known.ensures))
 
 pub is_fit-requires : goal.is_fit-requires
-is_fit-requires c = stands (goal.at.is_fit-requires c).In_ok-known
+unfolding cone_of
+is_fit-requires c = formed_stands _ c.args.c _ _ (form (goal.at.is_fit-requires c).In_ok-known) c.requires.0
 
 pub returns : goal.returns
+unfolding cone_of
 returns c =
     let p = (goal.at.returns c).In_ok-known in record {
       is = ap (candidate_in (store_of c.args.store.now)) c.then_some.ensures
-          ∙ form_tested c.args.s _ (reformed (cone_of c.args.c) (take c.args.c.n c.args.coefs)) (made p) (form p) c.is_fit.result c.is_fit.ensures;
-      stands = subst (λ o. IfSome o (Stands (length (store_of c.args.store.now)))) (sym c.then_some.ensures) (stands_tested _ c.is_fit.result (made p) (stands p));
+          ∙ form_tested c.args.s.settings _ (reformed (cone_of c.args.c) (take c.args.c.n c.args.coefs)) _ (form p) c.is_fit.result c.is_fit.ensures;
+      stands = subst (λ o. IfSome o (Stands (length (store_of c.args.store.now)))) (sym c.then_some.ensures) (stands_tested _ c.is_fit.result _ (formed_stands _ c.args.c _ _ (form p) c.requires.0));
     }

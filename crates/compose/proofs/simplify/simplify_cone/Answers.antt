@@ -9,21 +9,22 @@ use Rattle.rules.specs.Store.{is_used}
 use Rattle.theorems.specs.Terms.{terms-length, terms_over}
 use Rattle.cone.specs.declared.Cone.{Cone}
 use Rattle.cone.specs.View.{cone_of, view_sources, view_coefs}
+use Rattle.compose.specs.declared.simplify.Retained.{Retained}
 use Rattle.compose.specs.Simplify.{IsRetained, used_from, used_all, used_on, unused_on, used_end}
-use Rattle.compose.proofs.Result.{rebuilt}
+use Rattle.compose.proofs.Result.{used_of, rebuilt_fits, rebuilt}
 use Rattle.compose.proofs.simplify.simplify_cone.Invariants.{Kept}
 use Rattle.compose.proofs.simplify.simplify_cone.Goals as goal
-use Rattle.compose.proofs.simplify.simplify_cone.Goals.{In-Some, Start, Then-coef-ne0}
+use Rattle.compose.proofs.simplify.simplify_cone.Goals.{In-Some, In-None, Then-coef-ne0}
 
 used_few : (cs : List ℤ) (ns : List ℕ) → length cs ≡ length ns → length (used_from cs ns 0) ≤ length ns
 used_few cs ns e = rw used_all (omega (arith, select_le is_used (terms_over cs ns), terms-length cs ns e))
 
-module _ (cs : List ℤ) (ns : List ℕ) (i : ℕ) (same : length cs ≡ length ns) (h : i < length ns) (r : Cone) (k : Kept cs ns i r) where
+module _ (cs : List ℤ) (ns : List ℕ) (i : ℕ) (same : length cs ≡ length ns) (h : i < length ns) (r : Retained) (k : Kept cs ns i r) where
   has_room : length ns ≤ 11 → 0 < nat_abs (get_or cs i (pos 0)) → r.n < 11
   has_room l u = omega (arith, k.count, ap length (used_on cs ns i same h u), used_few cs ns same)
 
   added : length ns ≤ 11 → 0 < nat_abs (get_or cs i (pos 0)) → (z : ℤ) (n : ℕ) → z ≡ get_or cs i (pos 0) → n ≡ get_or ns i 0
-      → Kept cs ns (i + 1) (record { n = r.n + 1; support = set r.support r.n n; coefs = set r.coefs r.n z; known = r.known })
+      → Kept cs ns (i + 1) (record { n = r.n + 1; support = set r.support r.n n; coefs = set r.coefs r.n z })
   unfolding sources
   added l u z n e f =
       let m = used_on cs ns i same h u in
@@ -40,7 +41,7 @@ module _ (cs : List ℤ) (ns : List ℕ) (i : ℕ) (same : length cs ≡ length 
       let m = unused_on cs ns i same h e in
       record { room = k.room; count = rw m at k.count; nodes = rw m at k.nodes; values = rw m at k.values }
 
-done : (cs : List ℤ) (ns : List ℕ) (i : ℕ) (r : Cone) → length cs ≡ length ns → length ns ≤ i → Kept cs ns i r → IsRetained (select is_used (terms_over cs ns)) r
+done : (cs : List ℤ) (ns : List ℕ) (i : ℕ) (r : Retained) → length cs ≡ length ns → length ns ≤ i → Kept cs ns i r → IsRetained (select is_used (terms_over cs ns)) r
 unfolding sources
 done cs ns i r e h k =
     let m = used_end cs ns i e h in
@@ -63,45 +64,52 @@ this c =
     let t = zip_turn (cone_of c.args.cone).support (cone_of c.args.cone).coefficients c.loop-source.yielded _ _ c.next.new.self _ (cc) (cc) c.loop-source.yielded_by _ c.in-Some.is c.next.ensures.steps in
     (t.0, (t.2 0, t.3 (pos 0)))
 
-few : (c : Start) → length (cone_of c.args.cone).support ≤ 11
-few c = omega (arith, view_sources c.args.cone c.requires, c.requires.few)
+few : (k : Cone) → length (cone_of k).support ≤ 11
+few k = omega (arith, view_sources k, k.few)
 
-same : (c : Start) → length (cone_of c.args.cone).coefficients ≡ length (cone_of c.args.cone).support
-same c = view_coefs c.args.cone c.requires ∙ sym (view_sources c.args.cone c.requires)
+same : (k : Cone) → length (cone_of k).coefficients ≡ length (cone_of k).support
+same k = view_coefs k ∙ sym (view_sources k)
 
 not_zero : (c : Then-coef-ne0) (z : ℤ) → c.in-Some.field-0-1.now ≡ z → 0 < nat_abs z
 not_zero c z e = rw e at (used c.in-Some.field-0-1.now (search rules) c.if-coef-ne0.true)
 
 pub push-requires : goal.push-requires
 push-requires c =
-    let s = (goal.at.push-requires c).Start in
     let t = this (goal.at.push-requires c).In-Some in
     let v = cone_of c.args.cone in
-    has_room v.coefficients v.support (length c.loop-source.yielded) (same s) t.0 c.loop-source.kept c.loop-source.invariant.0 (few s) (not_zero (goal.at.push-requires c).Then-coef-ne0 _ t.1.1)
+    has_room v.coefficients v.support (length c.loop-source.yielded) (same c.args.cone) t.0 c.loop-source.kept c.loop-source.invariant (few c.args.cone) (not_zero (goal.at.push-requires c).Then-coef-ne0 _ t.1.1)
 
 pub loop-source-preserved-then-coef-ne0 : goal.loop-source-preserved-then-coef-ne0
 loop-source-preserved-then-coef-ne0 c =
-    let s = (goal.at.loop-source-preserved-then-coef-ne0 c).Start in
     let t = this (goal.at.loop-source-preserved-then-coef-ne0 c).In-Some in
     let o = c.loop-source in
     let v = cone_of c.args.cone in
-    let k = added v.coefficients v.support (length o.yielded) (same s) t.0 o.kept o.invariant.0 (few s) (not_zero (goal.at.loop-source-preserved-then-coef-ne0 c).Then-coef-ne0 _ t.1.1) _ _ (read_back _ (search rules) ∙ t.1.1) t.1.0 in
-    (rw (length_push o.yielded _) (subst (Kept v.coefficients v.support (length o.yielded + 1)) (sym c.push.ensures) k), ap (λ (r : Cone). r.known) c.push.ensures ∙ o.invariant.1)
+    let k = added v.coefficients v.support (length o.yielded) (same c.args.cone) t.0 o.kept o.invariant (few c.args.cone) (not_zero (goal.at.loop-source-preserved-then-coef-ne0 c).Then-coef-ne0 _ t.1.1) _ _ (read_back _ (search rules) ∙ t.1.1) t.1.0 in
+    rw (length_push o.yielded _) (subst (Kept v.coefficients v.support (length o.yielded + 1)) (sym c.push.ensures) k)
 
 pub loop-source-preserved : goal.loop-source-preserved
 loop-source-preserved c =
-    let s = (goal.at.loop-source-preserved c).Start in
     let t = this (goal.at.loop-source-preserved c).In-Some in
     let o = c.loop-source in
     let v = cone_of c.args.cone in
     let z : get_or v.coefficients (length o.yielded) (pos 0) ≡ pos 0 = sym t.1.1 ∙ sym (read_back _ (search rules)) ∙ ap (to_z w64) c.if-coef-ne0.false in
-    (rw (length_push o.yielded _) (passed v.coefficients v.support (length o.yielded) (same s) t.0 o.kept o.invariant.0 z), o.invariant.1)
+    rw (length_push o.yielded _) (passed v.coefficients v.support (length o.yielded) (same c.args.cone) t.0 o.kept o.invariant z)
 
-pub returns : goal.returns
-returns c =
-    let s = (goal.at.returns c).Start in
+-- the arrays hold the used terms
+retained : (c : In-None) → IsRetained (used_of (cone_of c.args.cone)) c.loop-source.kept
+retained c =
     let o = c.loop-source in
     let v = cone_of c.args.cone in
     let e : length o.yielded ≡ min (length v.support) (length v.coefficients) =
     zip_end v.support v.coefficients o.yielded _ _ c.next.new.self _ (cc) (cc) o.yielded_by c.in-None.is c.next.ensures.steps in
-    rebuilt c.args.cone c.requires o.kept (done v.coefficients v.support (length o.yielded) o.kept (same s) (omega (arith, same s)) o.invariant.0) o.invariant.1 o.invariant.0.room.0 o.invariant.0.room.1
+    done v.coefficients v.support (length o.yielded) o.kept (same c.args.cone) (omega (arith, same c.args.cone)) o.invariant
+
+pub invariant_of-result : goal.invariant_of-result
+invariant_of-result c =
+    let r = c.loop-source in
+    let f = rebuilt_fits c.args.cone r.kept (retained (goal.at.invariant_of-result c).In-None) in
+    record { support_long = r.invariant.room.0; coefs_long = r.invariant.room.1; entries_long = c.args.cone.entries_long; few = f.few; different = f.different; near = f.near; narrow = f.narrow; held = f.held }
+
+pub returns : goal.returns
+unfolding cone_of
+returns c = rebuilt c.args.cone c.loop-source.kept (retained (goal.at.returns c).In-None)

@@ -3,7 +3,7 @@ use Rattle.conclude.specs.Live.{marked_none, marked_next}
 use Rattle.conclude.proofs.live.mark_outputs.Goals as goal
 
 pub loop-output-init : goal.loop-output-init
-loop-output-init c = marked_none _ _ c.told-live
+loop-output-init c = marked_none _ _
 
 pub mark_output-requires : goal.mark_output-requires
 mark_output-requires c = wire_at _ _ _ _ c.loop-output-test.true c.requires

@@ -1,4 +1,4 @@
-use Rattle.std.proofs.Common.{◌≡◌, refl, sym, ap, ◌∙◌, List, map, ℕ, ◌≤◌, ◌<◌, arith, ℤ, pos, nat_abs, ◌-ℤ◌, length, get_or, ◌≤ℤ◌, w32, to_z, of_z, to_z-of_z}
+use Rattle.std.proofs.Common.{◌≡◌, refl, sym, ap, ◌∙◌, List, map, ℕ, ◌≤◌, ◌<◌, arith, rules, ℤ, pos, nat_abs, ◌-ℤ◌, length, get_or, ◌≤ℤ◌, w32, to_z, of_z, to_z-of_z}
 use lib.ListN.{length-map}
 use Rattle.laws.specs.Integer.{read_back-at}
 use Rattle.laws.specs.Front.{Filling, filling_start, filling_step}
@@ -6,9 +6,10 @@ use Rattle.laws.specs.Over.{over, front-over}
 use Rattle.laws.specs.Lists.{map_at}
 use Rattle.rules.specs.Span.{least}
 use Rattle.theorems.specs.Spans.{least_le, offset_lt}
-use Rattle.cone.specs.View.{entry_at}
+use Rattle.rotation.specs.Entries.{numbers, number_at}
+use Rattle.cone.specs.Fields.{entry_at}
 use Rattle.cone.proofs.table.look_up.Goals as goal
-use Rattle.cone.proofs.table.look_up.Goals.{Start}
+use Rattle.cone.proofs.table.look_up.Goals.{Start, After-offset}
 
 -- one row's entry, and the rows at the end
 looked : (low : ℤ) (known : List ℕ) (values : List ℤ) (i k : ℕ) → i < length values → k ≡ nat_abs (get_or values i (pos 0) -ℤ low) → get_or known k 0 ≡ get_or (map (entry_at low known) values) i 0
@@ -37,11 +38,14 @@ pub offset-requires : goal.offset-requires
 offset-requires c =
     below _ _ (read_back-at w32 _ (omega arith)) (low-is (goal.at.offset-requires c).Start ∙ c.requires.0) (least_le c.args.values.now c.loop-i.i c.loop-i-test.true)
 
-pub bounds-known-offset : goal.bounds-known-offset
-bounds-known-offset c =
+inside : (c : After-offset) → c.offset.result < 32
+inside c =
     let at : c.offset.result ≡ nat_abs (get_or c.args.values.now c.loop-i.i (pos 0) -ℤ least c.args.values.now) =
-    placed _ _ _ _ _ c.offset.ensures.0 (read_back-at w32 _ (omega arith)) (low-is (goal.at.bounds-known-offset c).Start ∙ c.requires.0) in
+    placed _ _ _ _ _ c.offset.ensures.0 (read_back-at w32 _ (omega arith)) (to_z-of_z c.ranges.low ∙ c.requires.0) in
     omega (arith, at, c.requires.1.0, offset_lt c.args.values.now c.loop-i.i c.loop-i-test.true)
+
+pub bounds-known-offset : goal.bounds-known-offset
+bounds-known-offset c = inside (goal.at.bounds-known-offset c).After-offset
 
 pub loop-i-preserved : goal.loop-i-preserved
 loop-i-preserved c =
@@ -49,9 +53,11 @@ loop-i-preserved c =
     let h : o.i < length c.args.values.now = c.loop-i-test.true in
     let at : c.offset.result ≡ nat_abs (get_or c.args.values.now o.i (pos 0) -ℤ to_z w32 (of_z w32 c.args.low)) =
     placed (get_or c.args.values.now o.i (pos 0)) _ _ _ _ c.offset.ensures.0 (read_back-at w32 _ (omega arith)) refl in
-    filling_step _ _ o.truth o.i _ 0 o.invariant (looked _ c.args.known c.args.values.now o.i c.offset.result h at) (rw length-map h) (omega (arith, c.requires.1.1))
+    let long : length c.args.known ≡ 32 = search rules in
+    let l : c.offset.result < length c.args.known = omega (arith, long, inside (goal.at.loop-i-preserved c).After-offset) in
+    filling_step _ _ o.truth o.i _ 0 o.invariant (c.number_of.ensures ∙ sym (number_at c.args.known c.offset.result _ l) ∙ looked _ (numbers c.args.known) c.args.values.now o.i c.offset.result h at) (rw length-map h) (omega (arith, c.requires.1.1))
 
 pub returns : goal.returns
 returns c =
     let o = c.loop-i in
-    whole _ _ c.args.known c.args.values.now _ o.truth o.i (low-is (goal.at.returns c).Start) o.invariant (omega (arith, c.loop-i-test.false)) c.requires.1.1
+    whole _ _ (numbers c.args.known) c.args.values.now _ o.truth o.i (low-is (goal.at.returns c).Start) o.invariant (omega (arith, c.loop-i-test.false)) c.requires.1.1

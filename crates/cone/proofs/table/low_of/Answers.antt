@@ -10,7 +10,7 @@ result_is : (c : After-least) → to_z w64 (of_z w64 c.least.result) ≡ least (
 result_is c = read_back c.least.result c.least.type_inv ∙ c.least.ensures
 
 pub overflow_cast-result : goal.overflow_cast-result
-overflow_cast-result c = rw (result_is c) (fits_abs _ (omega (arith, low_small c.args.cone c.requires)))
+overflow_cast-result c = rw (result_is c) (fits_abs _ (omega (arith, low_small c.args.cone)))
 
 pub returns : goal.returns
 returns c = to_z-of_z {w = w32} (overflow_cast-result c) ∙ result_is c

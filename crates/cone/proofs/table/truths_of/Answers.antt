@@ -4,14 +4,16 @@ use Rattle.laws.specs.Integer.{read_back-at}
 use Rattle.laws.specs.Over.{over, take-over}
 use Rattle.laws.specs.Tail.{head_length}
 use Rattle.rules.specs.Span.{least, span}
+use Rattle.rotation.specs.Entries.{numbers}
 use Rattle.cone.specs.declared.Cone.{Cone}
-use Rattle.cone.specs.View.{cone_of, IsCone, entry_at, truth_at, rows_are}
+use Rattle.cone.specs.Fields.{entry_at, truth_at}
+use Rattle.cone.specs.View.{cone_of, span_narrow, rows_are}
 use Rattle.cone.proofs.table.truths_of.Goals as goal
 use Rattle.cone.proofs.table.truths_of.Goals.{After-low_of}
 
 -- `cone::table::truths_of` meets its contract: the rows are the cone's values, and their entries its truths.
 -- the rows: vs is the table with the cone's values written, and n their number
-module _ (k : Cone) (is : IsCone k) (cs : List ℤ) (are : cs ≡ (cone_of k).coefficients) (count : length cs ≡ k.n) (vs d : List ℤ) (n : ℕ) (e : n ≡ 2 ^ k.n)
+module _ (k : Cone) (cs : List ℤ) (are : cs ≡ (cone_of k).coefficients) (count : length cs ≡ k.n) (vs d : List ℤ) (n : ℕ) (e : n ≡ 2 ^ k.n)
     (f : vs ≡ over (rules.linear_table cs) d) where
   seen : vs ≡ over (rules.values (cone_of k)) d
   unfolding rules.values
@@ -22,11 +24,11 @@ module _ (k : Cone) (is : IsCone k) (cs : List ℤ) (are : cs ≡ (cone_of k).co
 
   narrow : span (take n vs) ≤ 32
   unfolding rules.cone_span
-  narrow = rw values_are is.narrow
+  narrow = rw values_are (span_narrow k)
 
-  truths_are : (low : ℤ) → low ≡ least (rules.values (cone_of k)) → map (entry_at low k.known) (take n vs) ≡ (cone_of k).truth
+  truths_are : (low : ℤ) → low ≡ least (rules.values (cone_of k)) → map (entry_at low (numbers k.known)) (take n vs) ≡ (cone_of k).truth
   unfolding cone_of rules.values truth_at
-  truths_are low l = ap₂ (λ z v. map (entry_at z k.known) v) l values_are
+  truths_are low l = ap₂ (λ z v. map (entry_at z (numbers k.known)) v) l values_are
 
 low-is : (c : After-low_of) → to_z w32 (of_z w32 c.low_of.result) ≡ least (rules.values (cone_of c.args.cone))
 low-is c = read_back-at w32 c.low_of.result c.low_of.type_inv ∙ c.low_of.ensures
@@ -34,19 +36,19 @@ low-is c = read_back-at w32 c.low_of.result c.low_of.type_inv ∙ c.low_of.ensur
 pub look_up-requires : goal.look_up-requires
 look_up-requires c =
     let k = c.coefficients.ensures in
-    let e = values_are c.args.cone c.requires.0 _ k.are k.count _ _ c.rows_of.result c.rows_of.ensures c.linear_table.ensures in
+    let e = values_are c.args.cone _ k.are k.count _ _ c.rows_of.result c.rows_of.ensures c.linear_table.ensures in
     let n : c.rows_of.result ≡ length (take c.rows_of.result c.linear_table.new.table) = head_length _ c.rows_of.result (search rules) in (
       low-is (goal.at.look_up-requires c).After-low_of ∙ ap least (sym e),
       (
-        narrow c.args.cone c.requires.0 _ k.are k.count _ _ c.rows_of.result c.rows_of.ensures c.linear_table.ensures,
-        omega (arith, n, c.rows_of.ensures, c.requires.1.1),
+        narrow c.args.cone _ k.are k.count _ _ c.rows_of.result c.rows_of.ensures c.linear_table.ensures,
+        omega (arith, n, c.rows_of.ensures, c.requires.1),
       ),
     )
 
 pub returns : goal.returns
 returns c =
     let k = c.coefficients.ensures in (
-      seen c.args.cone c.requires.0 _ k.are k.count _ _ c.rows_of.result c.rows_of.ensures c.linear_table.ensures,
+      seen c.args.cone _ k.are k.count _ _ c.rows_of.result c.rows_of.ensures c.linear_table.ensures,
       c.look_up.ensures
-          ∙ ap (λ l. over l c.args.truth.now) (truths_are c.args.cone c.requires.0 _ k.are k.count _ _ c.rows_of.result c.rows_of.ensures c.linear_table.ensures _ (low-is (goal.at.returns c).After-low_of)),
+          ∙ ap (λ l. over l c.args.truth.now) (truths_are c.args.cone _ k.are k.count _ _ c.rows_of.result c.rows_of.ensures c.linear_table.ensures _ (low-is (goal.at.returns c).After-low_of)),
     )

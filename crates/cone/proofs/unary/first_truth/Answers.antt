@@ -1,11 +1,12 @@
-use Rattle.std.proofs.Common.{◌≡◌, sym, ap, ◌∙◌, arith, ℕ, ℤ, pos, nat_abs, ◌-ℤ◌, ◌≤ℤ◌, w32, to_z, of_z}
+use Rattle.std.proofs.Common.{◌≡◌, sym, ap, ◌∙◌, arith, ℕ, ℤ, pos, nat_abs, ◌-ℤ◌, ◌≤ℤ◌, ◌<◌, length, w32, to_z, of_z}
 use Rattle.rules.specs.Cone as rules
 use Rattle.laws.specs.Integer.{plus, minus, abs_parts, sub_parts, one_part_zero, read_back-at}
 use Rattle.rules.specs.Span.{least}
 use Rattle.cone.specs.View.{cone_of, low_below, low_small}
+use Rattle.rotation.specs.Entries.{number_at}
 use Rattle.cone.specs.Unary.{first_row}
 use Rattle.cone.proofs.unary.first_truth.Goals as goal
-use Rattle.cone.proofs.unary.first_truth.Goals.{After-low_of}
+use Rattle.cone.proofs.unary.first_truth.Goals.{After-low_of, After-offset}
 
 -- `cone::unary::first_truth` meets its contract: the first row has the value 0.
 opposite : (z : ℤ) → nat_abs (pos 0 -ℤ z) ≡ nat_abs z
@@ -24,12 +25,19 @@ place : (k : ℕ) (z low : ℤ) → k ≡ nat_abs (pos 0 -ℤ z) → z ≡ low �
 place k z low e f = e ∙ ap (λ y. nat_abs (pos 0 -ℤ y)) f
 
 pub offset-requires : goal.offset-requires
-offset-requires c = below _ _ (low-is (goal.at.offset-requires c).After-low_of) (low_below c.args.c c.requires)
+offset-requires c = below _ _ (low-is (goal.at.offset-requires c).After-low_of) (low_below c.args.c)
+
+place-is : (c : After-offset) → c.offset.result ≡ nat_abs (pos 0 -ℤ least (rules.values (cone_of c.args.c)))
+place-is c = place _ _ _ c.offset.ensures.0 (read_back-at w32 c.low_of.result c.low_of.type_inv ∙ c.low_of.ensures)
+
+inside : (c : After-offset) → c.offset.result < 32
+inside c = omega (arith, place-is c, opposite (least (rules.values (cone_of c.args.c))), low_small c.args.c)
 
 pub bounds-c-offset : goal.bounds-c-offset
-bounds-c-offset c =
-    let e = place _ _ _ c.offset.ensures.0 (low-is (goal.at.bounds-c-offset c).After-low_of) in
-    omega (arith, e, opposite (least (rules.values (cone_of c.args.c))), low_small c.args.c c.requires)
+bounds-c-offset c = inside (goal.at.bounds-c-offset c).After-offset
 
 pub returns : goal.returns
-returns c = sym (first_row c.args.c c.offset.result (place _ _ _ c.offset.ensures.0 (low-is (goal.at.returns c).After-low_of)))
+returns c =
+    let at = (goal.at.returns c).After-offset in
+    let l : c.offset.result < length c.args.c.known = omega (arith, inside at, c.args.c.entries_long) in
+    c.number_of.ensures ∙ sym (number_at c.args.c.known c.offset.result _ l) ∙ sym (first_row c.args.c c.offset.result (place-is at))

@@ -25,4 +25,4 @@ loop-i-preserved c =
     let q = c.deref-input-items.ensures.0 in
     let l = c.loop-i-test.true in
     subst (λ inputs. Started inputs c.put_input.new.store c.push.new.self.items) (sym (input_next _ _ q _ no_input l))
-    (started_more _ _ _ c.loop-i.invariant _ _ c.put_input.ensures _ _ c.identity.ensures.0 (c.identity.ensures.1 ∙ ap identity (sym (inputs_before _ _ q _ no_input l))) c.push.ensures.items)
+    (started_more _ _ _ c.loop-i.invariant _ _ c.put_input.ensures _ _ (c.identity.ensures ∙ ap identity (sym (inputs_before _ _ q _ no_input l))) c.push.ensures.items)

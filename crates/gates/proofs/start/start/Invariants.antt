@@ -4,4 +4,4 @@ use Rattle.gates.specs.Start.{Started}
 use Rattle.gates.proofs.start.start.Given as goal
 
 abbrev pub invariant-loop-i : goal.invariant-loop-i
-invariant-loop-i l = Started (take l.i (map given_of l.c.inputs.items)) l.store l.wires.items
+invariant-loop-i l = Started (take l.i (map given_of l.circuit.inputs.items)) l.store l.wires.items

@@ -4,4 +4,4 @@ use Rattle.lines.proofs.line.put_boot.Goals as goal
 
 pub returns : goal.returns
 unfolding node_text
-returns c = (put_both (put_both (put_both (put_both c.put_all-a.ensures c.put_number-b.ensures) c.put-c.ensures) c.put_bits-d.ensures) c.put_all.ensures)
+returns c = (put_both (put_both (put_both (put_both c.put_all.ensures c.put_number.ensures) c.put.ensures) c.put_bits.ensures) c.put_all-2.ensures)

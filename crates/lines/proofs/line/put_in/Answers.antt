@@ -4,4 +4,4 @@ use Rattle.lines.proofs.line.put_in.Goals as goal
 
 pub returns : goal.returns
 unfolding in_text
-returns c = put_both (put_both (put_both c.put_all-a.ensures c.put_all-b.ensures) c.put_weight-c.ensures) c.put_all.ensures
+returns c = put_both (put_both (put_both c.put_all.ensures c.put_all-2.ensures) c.put_weight.ensures) c.put_all-3.ensures

@@ -4,4 +4,4 @@ use Rattle.lines.proofs.line.put_out.Goals as goal
 
 pub returns : goal.returns
 unfolding out_text
-returns c = (put_both (put_both (put_both (put_both c.put_all-a.ensures c.put_all-b.ensures) c.put-c.ensures) c.put_wire-d.ensures) c.put_all.ensures)
+returns c = (put_both (put_both (put_both (put_both c.put_all.ensures c.put_all-2.ensures) c.put.ensures) c.put_wire.ensures) c.put_all-3.ensures)

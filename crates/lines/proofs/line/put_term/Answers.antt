@@ -5,4 +5,4 @@ use Rattle.lines.proofs.line.put_term.Goals as goal
 
 pub returns : goal.returns
 unfolding term_text
-returns c = (put_both (put_both (put_both (put_both c.put_all-a.ensures (put_as (to_z-of_z c.ranges.c) c.put_signed-b.ensures)) c.put-d.ensures) c.put_number-e.ensures) c.put.ensures)
+returns c = (put_both (put_both (put_both (put_both c.put_all.ensures (put_as (to_z-of_z c.ranges.c) c.put_signed.ensures)) c.put.ensures) c.put_number.ensures) c.put-2.ensures)

@@ -12,9 +12,9 @@ loop-row-preserved c =
     let row = get_or c.args.rows.now o.row-index no_row in
     let left = 2048 - length c.args.rows.now in
     let at : left + o.row-index + 1 ≡ left + (o.row-index + 1) = omega arith in
-    let e = c.with_row-m.ensures.row ∙ ap₂ (λ x y. add_row o.m x y row.count) (read_back-at w32 row.x (search rules)) (read_back-at w32 row.y (search rules)) in (
+    let e = c.with_row-moments.ensures.row ∙ ap₂ (λ x y. add_row o.moments x y row.count) (read_back-at w32 row.x (search rules)) (read_back-at w32 row.y (search rules)) in (
       e ∙ ap (λ (m : Moments). add_record m row) o.invariant.0 ∙ sym (fold_more add_record c.args.sums c.args.rows.now o.row-index no_row c.loop-row-test.true),
-      subst (λ k. Grown k c.with_row-m.result) at
+      subst (λ k. Grown k c.with_row-moments.result) at
           (subst (Grown (left + o.row-index + 1)) (sym e)
-          (grown_row (left + o.row-index) o.m row.x row.y row.count o.invariant.1 (c.requires.near.x o.row-index c.loop-row-test.true) (c.requires.near.y o.row-index c.loop-row-test.true) c.with_row-m.ensures.few)),
+          (grown_row (left + o.row-index) o.moments row.x row.y row.count o.invariant.1 (c.requires.near.x o.row-index c.loop-row-test.true) (c.requires.near.y o.row-index c.loop-row-test.true) c.with_row-moments.ensures.few)),
     )

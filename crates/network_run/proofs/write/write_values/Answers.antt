@@ -5,4 +5,4 @@ use Rattle.network_run.proofs.write.write_values.Goals as goal
 pub loop-i-preserved : goal.loop-i-preserved
 loop-i-preserved c =
     simp (read_back c.wire_value.result c.wire_value.type_inv)
-    (outputs_next c.args.found.now c.args.outputs.now c.args.values.now _ _ c.loop-i.invariant c.requires _ _ c.wire_value.ensures c.loop-i-test.true)
+    (outputs_next c.args.node_values.now c.args.outputs.now c.args.values.now _ _ c.loop-i.invariant c.requires _ _ c.wire_value.ensures c.loop-i-test.true)

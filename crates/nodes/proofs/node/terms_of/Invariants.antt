@@ -1,5 +1,5 @@
-use Rattle.nodes.specs.Made.{Made}
+use Rattle.nodes.specs.Terms.{Made}
 use Rattle.nodes.proofs.node.terms_of.Given as goal
 
-abbrev pub invariant-loop-k : goal.invariant-loop-k
-invariant-loop-k l = Made l.t l.k l.terms.items
+abbrev pub invariant-loop-term : goal.invariant-loop-term
+invariant-loop-term l = Made l.t l.term-index l.terms.items

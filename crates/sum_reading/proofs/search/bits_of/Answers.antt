@@ -1,27 +1,29 @@
-use Rattle.std.proofs.Common.{◌≡◌, refl, sym, ◌∙◌, List, ℕ, ◌+◌, ◌-◌, ◌<◌, ◌≤◌, arith, rules, replicate, set}
+use Rattle.std.proofs.Common.{◌≡◌, refl, sym, ap₂, ◌∙◌, List, ℕ, ◌++◌, ◌+◌, ◌-◌, ◌<◌, ◌≤◌, length, length-take-le, take, drop, set, replicate}
 use Rattle.laws.specs.Digits.{bit, digits, digits-length}
-use Rattle.laws.specs.Front.{Filling, filling_start, filling_step}
-use Rattle.laws.specs.Over.{over, front-over}
+use Rattle.laws.specs.Front.{Filling, filling_start, filling_step, filling-all}
+use Rattle.laws.specs.Over.{over}
 use Rattle.sum_reading.specs.Rows.{digit_at}
 use Rattle.sum_reading.proofs.search.bits_of.Goals as goal
 
-module _ (n row k : ℕ) (bits : List ℕ) (f : Filling (digits n row) (replicate 11 0) bits k) (h : n ≤ 11) where
-  turn : (b : ℕ) → b ≡ bit (n - 1 - k) row → k < n → Filling (digits n row) (replicate 11 0) (set bits k b) (k + 1)
-  turn b e l = filling_step (digits n row) (replicate 11 0) bits k b 0 f (e ∙ sym (digit_at n row k l)) (rw (digits-length n row) l) (omega arith)
+module _ (n row k : ℕ) (zeros bits : List ℕ) (f : Filling (digits n row) (take n zeros) bits k) (h : n ≤ length zeros) where
+  long : length (take n zeros) ≡ n
+  long = length-take-le n zeros h
 
-  done : k ≡ n → bits ≡ over (digits n row) (replicate 11 0)
-  done e = f.so_far ∙ front-over (digits n row) (replicate 11 0) k (digits-length n row ∙ sym e) (rw (digits-length n row) h)
+  turn : (b : ℕ) → b ≡ bit (n - 1 - k) row → k < length (take n zeros) → Filling (digits n row) (take n zeros) (set bits k b) (k + 1)
+  turn b e l =
+      let inside : k < n = rw long at l in
+      filling_step (digits n row) (take n zeros) bits k b 0 f (e ∙ sym (digit_at n row k inside)) (rw (digits-length n row) inside) l
+
+  done : length (take n zeros) ≤ k → bits ++ drop n zeros ≡ over (digits n row) zeros
+  unfolding over
+  done l = ap₂ {C = List ℕ} (λ s j. s ++ drop j zeros) (filling-all (digits n row) (take n zeros) bits k f (digits-length n row ∙ sym long) l) (sym (digits-length n row))
 
 pub loop-k-init : goal.loop-k-init
-loop-k-init c = filling_start (digits c.args.n c.args.row) (replicate 11 0)
+loop-k-init c = filling_start _ _
 
 pub loop-k-preserved : goal.loop-k-preserved
 unfolding bit
-loop-k-preserved c =
-    let o = c.loop-k in
-    turn c.args.n c.args.row o.k o.bits o.invariant c.requires _ refl (search rules)
+loop-k-preserved c = turn c.args.n c.args.row c.loop-k.k (replicate 11 0) c.loop-k.bit-items c.loop-k.invariant c.requires _ refl c.loop-k-test.true
 
 pub returns : goal.returns
-returns c =
-    let o = c.loop-k in
-    done c.args.n c.args.row o.k o.bits o.invariant c.requires (search rules)
+returns c = done c.args.n c.args.row c.loop-k.k (replicate 11 0) c.loop-k.bit-items c.loop-k.invariant c.requires c.loop-k-test.false

@@ -1,23 +1,14 @@
-use Rattle.std.proofs.Common.{◌≡◌, List, ℕ, ◌≤◌, ◌<◌, ◌^◌, arith, lt-ltb, le-ltb, replicate, Ok, Some, None}
+use Rattle.std.proofs.Common.{◌≡◌, List, ℕ, replicate, Ok, Some, Option}
 use Rattle.laws.specs.Digits.{digits, digits-length}
 use Rattle.laws.specs.Over.{over, take-over}
 use Rattle.rules.specs.SumReading.{sum_answer, sum_reply, shown}
 use Rattle.sum_reading.specs.Rows.{row_reading}
 use Rattle.sum_reading.proofs.search.shown.Goals as goal
 
-module _ (n row : ℕ) where
-  some_bits : (bits : List ℕ) → bits ≡ over (digits n row) (replicate 11 0) → row < 2 ^ n
-      → sum_reply (Ok (Some (record { count = n; bits = bits }))) ≡ sum_answer (shown (row_reading n row))
+module _ (n k : ℕ) (row : Option ℕ) where
+  shown_bits : (bits : List ℕ) → row ≡ Some k → bits ≡ over (digits n k) (replicate 11 0) → sum_reply (Ok (Some (record { count = n; bits = bits }))) ≡ sum_answer (shown (row_reading n row))
   unfolding sum_answer shown row_reading
-  some_bits bits e h = rw (lt-ltb row (2 ^ n) h, e, take-over (digits n row) (replicate 11 0) n (digits-length n row))
+  shown_bits bits e f = rw (e, f, take-over (digits n k) (replicate 11 0) n (digits-length n k))
 
-  no_bits : 2 ^ n ≤ row → sum_reply (Ok None) ≡ sum_answer (shown (row_reading n row))
-  unfolding sum_answer shown row_reading
-  no_bits h = rw (le-ltb row (2 ^ n) h)
-
-pub returns-then-row-rows_of : goal.returns-then-row-rows_of
-returns-then-row-rows_of c =
-    record { few = c.requires; is = some_bits c.args.n c.args.row c.bits_of-bits.result c.bits_of-bits.ensures (omega (arith, c.rows_of.ensures)) }
-
-pub returns : goal.returns
-returns c = record { few = tt; is = no_bits c.args.n c.args.row (omega (arith, c.rows_of.ensures)) }
+pub returns-clause-is : goal.returns-clause-is
+returns-clause-is c = shown_bits c.args.n c.in_ok-row.field-0 c.args.row c.bits_of-bits.result c.in_ok-row.was c.bits_of-bits.ensures

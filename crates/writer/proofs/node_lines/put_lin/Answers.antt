@@ -7,4 +7,4 @@ use Rattle.writer.proofs.node_lines.put_lin.Goals as goal
 pub returns : goal.returns
 unfolding node_text new_node
 returns c =
-    put_both (put_both (put_both c.put_all-a.ensures (put_as (to_z-of_z c.ranges.constant) c.put_signed-b.ensures)) c.put_terms-c.ensures) c.put_all.ensures
+    put_both (put_both (put_both c.put_all.ensures (put_as (to_z-of_z c.ranges.constant) c.put_signed.ensures)) c.put_terms.ensures) c.put_all-2.ensures

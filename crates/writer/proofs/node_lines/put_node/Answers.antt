@@ -9,7 +9,7 @@ pub put_lin-requires-clause-ready : goal.put_lin-requires-clause-ready
 put_lin-requires-clause-ready c = let d = c.deref-in-Linear.ensures in rw d.0 (sum_ready c.in-Linear.is c.requires.ready).1
 
 pub number_of-requires : goal.number_of-requires
-number_of-requires c = (boot_ready c.in-Bootstrap.is c.requires.ready).0
+number_of-requires c = rw c.get.ensures (boot_ready c.in-Bootstrap.is c.requires.ready).0
 
 pub put_boot-requires-clause-by_index : goal.put_boot-requires-clause-by_index
 put_boot-requires-clause-by_index c = let d = c.deref-in-Bootstrap.ensures in rw d.0 (boot_ready c.in-Bootstrap.is c.requires.ready).1

@@ -7,4 +7,4 @@ use Rattle.writer.proofs.node_lines.put_terms.Given as goal
 
 abbrev pub invariant-loop-term : goal.invariant-loop-term
 invariant-loop-term l =
-    Left l.at (terms_text (map (new_term l.live) (terms_seen l.terms))) l.initial.out l.to (terms_left l.live l.terms l.term-index) l.out
+    Left (terms_text (map (new_term l.live) (terms_seen l.terms))) l.initial.cursor (terms_left l.live l.terms l.term-index) l.cursor

@@ -1,27 +1,23 @@
-use Rattle.std.proofs.Common.{refl, ◌∙◌}
-use Rattle.lines.specs.Put.{left-all, put_length}
+use Rattle.lines.specs.Put.{left-all}
 use Rattle.writer.specs.Outputs.{outputs_left, output_live, output-room, output-turn, outputs_done}
 use Rattle.writer.proofs.outputs.put_outs.Goals as goal
 
 pub loop-output-init : goal.loop-output-init
 unfolding outputs_left
-loop-output-init c = record { left = left-all _ _ _; long = refl }
+loop-output-init c = left-all _ _
 
-pub put_output-to-requires : goal.put_output-to-requires
-put_output-to-requires c =
+pub put_output-requires : goal.put_output-requires
+put_output-requires c =
     let l = c.loop-output in
     record {
-      live = output_live c.args.live.now c.args.outputs.now l.output-index _ c.loop-output-test.true c.requires.live;
-      room = output-room c.args.live.now c.args.outputs.now l.output-index _ c.loop-output-test.true l.invariant.left c.requires.room;
+      live = output_live c.args.text.now.live.now c.args.text.now.outputs.now l.output-index _ c.loop-output-test.true c.args.text.now.all_live;
+      room = output-room c.args.text.now.live.now c.args.text.now.outputs.now l.output-index _ c.loop-output-test.true l.invariant c.requires;
     }
 
 pub loop-output-preserved : goal.loop-output-preserved
 loop-output-preserved c =
     let l = c.loop-output in
-    record {
-      left = output-turn c.args.live.now c.args.outputs.now l.output-index _ c.loop-output-test.true l.invariant.left c.put_output-to.ensures;
-      long = put_length c.put_output-to.ensures ∙ l.invariant.long;
-    }
+    output-turn c.args.text.now.live.now c.args.text.now.outputs.now l.output-index _ c.loop-output-test.true l.invariant c.put_output.ensures
 
 pub returns : goal.returns
-returns c = outputs_done c.args.live.now c.args.outputs.now c.loop-output.output-index c.loop-output-test.false c.loop-output.invariant.left
+returns c = outputs_done c.args.text.now.live.now c.args.text.now.outputs.now c.loop-output.output-index c.loop-output-test.false c.loop-output.invariant

@@ -1,4 +1,3 @@
-use Rattle.std.proofs.Common.{◌≡◌, length}
 use Rattle.std.specs.Prelude.{map}
 use Rattle.forms.specs.Forms.{output_of}
 use Rattle.rules.specs.Writing.{outputs_text}
@@ -8,7 +7,4 @@ use Rattle.writer.proofs.outputs.put_outs.Given as goal
 
 abbrev pub invariant-loop-output : goal.invariant-loop-output
 invariant-loop-output l =
-    record {
-      left : Left l.at (outputs_text (live_outputs l.live (map output_of l.outputs))) l.initial.out l.to (outputs_left l.live l.outputs l.output-index) l.out;
-      long : length l.out ≡ length l.initial.out;
-    }
+    Left (outputs_text (live_outputs l.text.live.now (map output_of l.text.outputs.now))) l.initial.cursor (outputs_left l.text.live.now l.text.outputs.now l.output-index) l.cursor

@@ -7,4 +7,4 @@ use Rattle.writer2.proofs.many.put_lines.Given as goal
 
 abbrev pub invariant-loop-i : goal.invariant-loop-i
 invariant-loop-i l =
-    Left l.at (stream l.p None (ordered l.live (store_of l.store) l.order)) l.initial.out l.to (lines_left l.p l.live (store_of l.store) l.order l.i-index l.opened) l.out
+    Left (stream l.text.net.p None (ordered l.text.live.now (store_of l.text.store.now) l.order)) l.initial.cursor (lines_left l.text.net.p l.text.live.now (store_of l.text.store.now) l.order l.i-index l.opened) l.cursor

@@ -1,4 +1,4 @@
-use Rattle.std.proofs.Common.{arith, refl}
+use Rattle.std.proofs.Common.{◌∙◌, arith, refl}
 use Rattle.std.proofs.lemmas.List.{length-map}
 use Rattle.nodes.specs.Grown.{few_grown, fine_grown, deep_grown, adds_grown}
 use Rattle.nodes.specs.Store.{store_of}
@@ -14,7 +14,7 @@ invariant_of-self c =
     record {
       few = few_grown c.args.self.now _ _ c.push.ensures.items c.requires.0;
       fine = fine_grown c.args.self.now _ _ c.push.ensures.items c.requires.1;
-      deep = deep_grown c.args.self.now _ _ c.push.ensures.items c.depth_of-depth.ensures.0;
+      deep = deep_grown c.args.self.now _ _ c.push.ensures.items (c.new.ensures ∙ c.depth_of-depth.ensures.0);
     }
 
 pub returns : goal.returns

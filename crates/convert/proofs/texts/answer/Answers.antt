@@ -1,8 +1,0 @@
-use Rattle.convert.specs.Buffer.{answer_short, answer-written}
-use Rattle.convert.proofs.texts.answer.Goals as goal
-
-pub returns-then-out-size : goal.returns-then-out-size
-returns-then-out-size g c = λ t w. answer_short t _ _ (w _ _ _ c.write-size.ensures) _ c.if-out-size.true
-
-pub returns : goal.returns
-returns g c = λ t w. answer-written t _ _ (w _ _ _ c.write-size.ensures) _ c.if-out-size.false _ _ (w _ _ _ c.write.ensures)

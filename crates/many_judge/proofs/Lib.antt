@@ -1,0 +1,2 @@
+-- The test of all tables of a line.
+pub mod Faulty
