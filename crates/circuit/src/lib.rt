@@ -47,7 +47,9 @@ pub struct Circuit<'a> {
 }
 
 // The circuit that a text describes. Each line's form finds its end: lines cut by `split_inclusive` first would be gone over twice.
-// And a `for` over them, with a counter beside it, has an invariant with no name for the closure that finds the newlines (network's `take_lines`).
+// And a `for` over them, with a counter beside it, has an invariant with no name for the closure that finds the newlines (network's `take_lines`, where
+// it was tried). An iterator of our own over (number, line) would have to hand on, beside its items, the number of the line behind the last: `finish`
+// wants it.
 #[tactic(auto, using(crate::specs::Reading::reads_start, crate::specs::Reading::reads_end, crate::specs::Reading::reads_refused, crate::specs::Reading::reads_next, text::specs::FirstLine::after_shorter))]
 pub fn read(text: &[u8]) -> Result<Circuit<'_>, Refusal>
     ensures { reading_of result ≡ read_circuit text.now }

@@ -78,7 +78,7 @@ impl From<Result<usize, RunError>> for FbsReply {
 }
 
 // No document has a number for the second: 103 is ours. A function, since it asks something of the reply, which a `From` may not.
-// `Shown` could promise it by a ghost field, since no definition makes one; but `rules` lies below every crate, and two functions ask it.
+// No ghost field of `Shown` says it: this function alone asks it.
 #[tactic(auto, unfolding(crate::specs::Numbers::sum_numbers, crate::specs::Numbers::sum_places))]
 pub fn sum_numbers(reply: Result<Option<Shown>, Refusal>) -> FbsSum
     requires { FewShown reply }

@@ -42,14 +42,12 @@ pub fn used_settings(s: Settings) -> Settings
     }
 }
 
-// An output names the node: by the cases of its wire, as the definition has it.
+// An output names the node.
 #[tactic(auto, unfolding(rules::specs::Mapper::leads_to))]
 fn is_output(outputs: &[Output<'_>], id: usize) -> bool
     ensures { result ≡ named id (map output_of outputs.now) }
 {
-    outputs
-        .iter()
-        .any(|o| matches!(o.wire, Wire::Node(node) if node == id))
+    outputs.iter().any(|o| o.wire == Wire::Node(id))
 }
 
 // Basic bootstraps every gate; with one table a sum, the gates that an output names are.

@@ -1,5 +1,5 @@
 // The start of map_once: the inputs are the first nodes, and each is its own cone.
-ghost use Rattle.std.specs.Prelude.{◌≡◌, [], ◌<◌, length, map};
+ghost use Rattle.std.specs.Prelude.{◌<◌, length, map};
 ghost use Rattle.rules.specs.Network.{Input};
 ghost use Rattle.forms.specs.Forms.{given_of};
 ghost use Rattle.nodes.specs.Store.{store_of, Adds};
@@ -20,11 +20,13 @@ fn put_input(store: &mut Store, name: &[u8], weight: u8)
     store.push(LutNode::of_input(name, weight), 0);
 }
 
-// The circuit's inputs become the first nodes, and each has its own cone among the wires.
+// The circuit's inputs become the first nodes, and each has its own cone among the wires, whatever both held before.
 pub fn start(circuit: &Circuit<'_>, store: &mut Store, wires: &mut ArrayVec<Cone, 128>)
-    requires { (store_of store.old ≡ []) × ((wires.old.items ≡ []) × GoodInputs (map given_of circuit.now.inputs.items)) }
+    requires { GoodInputs (map given_of circuit.now.inputs.items) }
     ensures { Started (map given_of circuit.now.inputs.items) store.new wires.new.items }
 {
+    store.clear();
+    wires.clear();
     for (i, input) in circuit.inputs.iter().enumerate() {
         put_input(store, input.name, input.weight);
         wires.push(Cone::identity(i));

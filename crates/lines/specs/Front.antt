@@ -1,5 +1,5 @@
 -- A text in the buffer: its length comes first, of a text that goes into no byte; then it is laid into as many bytes of the front.
-use Rattle.std.specs.Prelude.{◌≡◌, List, [], ◌++◌, ℕ, ◌+◌, ◌≤◌, length, take, drop}
+use Rattle.std.specs.Prelude.{◌≡◌, List, [], ◌++◌, ℕ, ◌≤◌, length, take, drop}
 use Rattle.std.proofs.Math.Path.{ap}
 use Rattle.std.proofs.Common.{◌∙◌, append-nil, arith, zero-add, drop_of_length-le, length-take-le}
 use Rattle.laws.specs.Laid.{laid, laid-over}

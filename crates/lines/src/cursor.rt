@@ -59,7 +59,7 @@ impl Cursor<'_> {
         self.put_all(Buffer::new().format(n).as_bytes());
     }
 
-    // A minus only below 0.
+    // A minus only below 0. Not one generic function with `put_number`: `format` takes any integer type, but the contracts name two definitions, `digits` and `signed_text`.
     #[tactic(auto, using(crate::specs::Put::signed_is))]
     pub fn put_signed(&mut self, z: i64)
         requires { Room self.old.at (signed_text z) }

@@ -50,7 +50,8 @@ fn has_other_centre(p: usize, t: Table) -> bool
     t.centre != rotation::centre_of(&table[..t.text.bits.len()], p)
 }
 
-// One of the tables is faulty. A function, since `tables.any(..)` at each of the three tests was tried: `search` left five goals of check_many.
+// One of the tables is faulty. A function, which ties std's `any` to the definition's once: with `tables.any(..)` at each of the three tests (tried)
+// `search` leaves five goals of check_many, so the same tie would stand three times in its answers, and this is plainer.
 fn any_table<F: Fn(Table<'_>) -> bool>(mut tables: Tables, is_faulty: F) -> bool
     requires { (t : _) → F.pre is_faulty t }
     ensures { (f : Whole → Bool) → ((t : _) (r : Bool) → F.post is_faulty t r → r ≡ f (table_of t)) → result ≡ any f (tables_left tables.entry) }

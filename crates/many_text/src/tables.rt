@@ -17,7 +17,7 @@ impl<'a> Tables<'a> {
     ghost use Rattle.many_text.specs.Tables.{tables_in, rest_in};
     ghost use Rattle.many_text.specs.View.{tables_left};
 
-    // The tables at the front, and what stands behind them.
+    // The tables at the front, and what stands behind them. They are counted by a `while let`: a `Tables` carries its count as a ghost fact, so none can be made to count them.
     #[tactic(auto, using(crate::proofs::Walk::one_by_one))]
     pub fn read(s: &'a [u8]) -> (Tables<'a>, &'a [u8])
         ensures { (tables_left result.0 ≡ tables_in s.now) × (result.1.now ≡ rest_in s.now) }

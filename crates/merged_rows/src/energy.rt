@@ -88,7 +88,8 @@ pub fn energy_moments(
     ensures { result ≡ moments_of (take n xs.now) (take n ys.now) (take n counts.now) }
 {
     let mut moments = Moments::default();
-    // By the block's number: a loop over `(0..n).step_by(8)` would want a measure besides the invariant.
+    // By the block's number: over `(0..n).step_by(8)` (tried) the proof would have to be told that each start is a multiple of 8, by which a block ends
+    // before 2,048 (`pack_rows`); `8 * block` says it.
     for block in 0..n.div_ceil(8) {
         let start = 8 * block;
         let rows = pack_rows(xs, ys, truth, counts, start);

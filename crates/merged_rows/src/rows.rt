@@ -29,8 +29,9 @@ fn cell(f: Frame, x: i32, y: i32, truth: u8) -> usize
 }
 
 // The distinct rows moved to the front, each with how many assignments it stands for; answers how many there are. What the counts were before does not matter.
-// Asks for first rows that lie in the grid, which holds 2,048 cells. Document 01 names the flat arrays xs, ys and truth. No struct
-// of them with the counts: they are filled one by one, and searched as slices, without the counts.
+// Asks for first rows that lie in the grid, which holds 2,048 cells. Document 01 names the flat arrays xs, ys and truth, and lends a slice of row
+// records for the energy's sum alone: so no array of such records. No struct of the arrays with the counts: they are filled one by one, and searched as
+// slices, without the counts.
 pub fn compact_rows(
     f: Frame,
     rows: usize,

@@ -108,7 +108,8 @@ fn finish(network: &Network<'_>, line: usize) -> Result<Net, Refusal>
 }
 
 // The lines of a text in turn, each taken by `take`. Not a `for` over `split_inclusive` with a counter beside it (tried): the invariant has no name
-// for the closure that finds the newlines, so it would have to carry that what the iterator gives are the definition's lines.
+// for the closure that finds the newlines, so it would have to carry that what the iterator gives are the definition's lines. An iterator of our own over
+// (number, line) would have to hand on, beside its items, the number of the line behind the last: `finish` wants it.
 #[tactic(auto, using(text::specs::FirstLine::after_shorter))]
 pub fn take_lines<'a, F: Fn(&mut Network<'a>, &'a [u8]) -> Result<(), Reason>>(
     text: &'a [u8],
@@ -124,7 +125,8 @@ pub fn take_lines<'a, F: Fn(&mut Network<'a>, &'a [u8]) -> Result<(), Reason>>(
     let mut line = 1;
     while !rest.is_empty() {
         let (l, next) = split_line(rest);
-        // no `map_err(..)?`: `search` then gives up at the loop's invariant, which closes here with no file
+        // no `map_err(..)?` (tried): that `take` gave Ok then stands in `map_err`'s cases alone, and the loop's next turn (`loop-rest-preserved`) has to be
+        // answered by hand; this pattern says it
         if let Err(reason) = take(network, l) {
             return Err(Refusal { reason, line });
         }

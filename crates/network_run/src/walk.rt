@@ -20,7 +20,8 @@ pub fn are_rotatable(store: &Store, p: usize) -> bool
 }
 
 // The values of the nodes of a network whose tables a rotation gives; none where a boot breaks off. No table is judged here.
-// Public from before: a caller may judge once and run often. By number: over `store.nodes.iter()` (tried) five goals are left, and here none.
+// Public from before: a caller may judge once and run often. By number, since the store says by number what its nodes are (`node`, `node_fine`): over
+// `store.nodes.iter()` (tried) the turn is no shorter, and its answers have to turn each item back into node i first.
 #[tactic(auto, using(crate::specs::Nodes::running))]
 pub fn run_rotatable(store: &Store, bits: &[u8]) -> Option<ArrayVec<i64, 672>>
     requires { Flat (store_of store.now) }

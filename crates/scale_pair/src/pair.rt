@@ -34,8 +34,9 @@ pub fn merge_rows(basis: &Basis, a: i64, b: i64) -> [i64; 11]
     let left = basis.left();
     let right = basis.right();
     let mut coefs = [0i64; 11];
-    // An index: of a zip over `iter_mut` the proof learns nothing of what was written (docs/proof-notes.md). Over `left.iter().zip(right).enumerate()`
-    // four goals want an answer by hand, here one does.
+    // An index, one for the three arrays: of a zip over `iter_mut` the proof learns nothing of what was written (docs/proof-notes.md), and
+    // `for (i, (&l, &r)) in left.iter().zip(right).enumerate()` (tried) names as many things, keeps the index for `coefs`, and has to be told by hand that l
+    // and r are those at i.
     for i in 0..left.len() {
         coefs[i] = scale::scaled(a, left[i], b, right[i]);
     }

@@ -33,6 +33,7 @@ fn write_closing(rt: &impl Print, text: &[u8], feed: Feed) -> io::Result<()>
 }
 
 // What the program has between two bytes: what is known of the job, the bytes kept of it, and the room for an answer.
+// Whole arrays, since memory is fixed and there is no heap: `feed` has the job's count, and `say` gives the answer's.
 #[derive(Drop)]
 struct Service {
     feed: Feed,

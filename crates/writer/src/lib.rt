@@ -43,8 +43,8 @@ impl Text<'_> {
         let net = self.net;
         let mut cursor = Cursor { out, at: 0 };
         put_net(&mut cursor, b"(net ", net.p, net.m, net.norm);
-        put_nodes(&mut cursor, self);
-        put_outs(&mut cursor, self);
+        put_nodes(&mut cursor, self.store, self.live);
+        put_outs(&mut cursor, self.outputs, self.live);
         cursor.at
     }
 }

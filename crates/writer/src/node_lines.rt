@@ -5,12 +5,12 @@ ghost use Rattle.rules.specs.Writing.{terms_text, node_text, nodes_text};
 ghost use Rattle.nodes.specs.Store.{store_of};
 ghost use Rattle.nodes.specs.View.{lut_node, terms_seen};
 ghost use Rattle.lines.specs.Put.{Put, Room};
-ghost use Rattle.writer.specs.Live.{new_number, new_term, new_node, live_nodes, TermsReady, Ready, HasNumber, line_at};
+ghost use Rattle.writer.specs.Live.{new_number, new_term, new_node, live_nodes, TermsReady, Ready, HasNumber, Sourced, line_at};
 
-use crate::Text;
 use lines::cursor::Cursor;
 use lines::line::{put_boot, put_in, put_term};
 use nodes::node::{LutNode, Term};
+use nodes::store::Store;
 
 // The new number of a live node.
 #[tactic(auto, unfolding(crate::specs::Live::new_number))]
@@ -64,22 +64,23 @@ pub fn put_node(cursor: &mut Cursor<'_>, node: &LutNode, live: &[Option<u16>; 67
 
 // Node i, if it is live.
 #[tactic(auto, using(nodes::specs::Store::store_few))]
-fn put_live(cursor: &mut Cursor<'_>, text: &Text<'_>, i: usize)
-    requires inside { i < length (store_of text.now.store.now) }
-    requires room { Room cursor.old.at (line_at text.now.live.now (store_of text.now.store.now) i) }
-    ensures { Put (line_at text.now.live.now (store_of text.now.store.now) i) cursor.old cursor.new }
+fn put_live(cursor: &mut Cursor<'_>, store: &Store, live: &[Option<u16>; 672], i: usize)
+    requires sourced { Sourced live.now store.now × (i < length (store_of store.now)) }
+    requires room { Room cursor.old.at (line_at live.now (store_of store.now) i) }
+    ensures { Put (line_at live.now (store_of store.now) i) cursor.old cursor.new }
 {
-    if text.live[i].is_some() {
-        put_node(cursor, text.store.node(i), text.live);
+    if live[i].is_some() {
+        put_node(cursor, store.node(i), live);
     }
 }
 
-// The live ones of the nodes. By place, since `live` is by place.
-pub fn put_nodes(cursor: &mut Cursor<'_>, text: &Text<'_>)
-    requires { Room cursor.old.at (nodes_text (live_nodes text.now.live.now text.now.store.now)) }
-    ensures { Put (nodes_text (live_nodes text.now.live.now text.now.store.now)) cursor.old cursor.new }
+// The live ones of the nodes. By place, since `live` is by place; and by its parts, since a `Text` would ask of the outputs too.
+pub fn put_nodes(cursor: &mut Cursor<'_>, store: &Store, live: &[Option<u16>; 672])
+    requires sourced { Sourced live.now store.now }
+    requires room { Room cursor.old.at (nodes_text (live_nodes live.now store.now)) }
+    ensures { Put (nodes_text (live_nodes live.now store.now)) cursor.old cursor.new }
 {
-    for i in 0..text.store.len() {
-        put_live(cursor, text, i);
+    for i in 0..store.len() {
+        put_live(cursor, store, live, i);
     }
 }

@@ -3,9 +3,8 @@ ghost use Rattle.std.specs.Prelude.{◌≡◌, map};
 ghost use Rattle.rules.specs.Writing.{output_text, outputs_text};
 ghost use Rattle.forms.specs.Forms.{output_of};
 ghost use Rattle.lines.specs.Put.{Put, Room};
-ghost use Rattle.writer.specs.Outputs.{new_wire, new_output, live_outputs, IsLive};
+ghost use Rattle.writer.specs.Outputs.{new_wire, new_output, live_outputs, IsLive, AllLive};
 
-use crate::Text;
 use crate::node_lines::number_of;
 use forms::Output;
 use lines::cursor::Cursor;
@@ -33,12 +32,13 @@ fn put_output(cursor: &mut Cursor<'_>, output: Output<'_>, live: &[Option<u16>; 
     put_out(cursor, output.name, new_wire(live, output.wire));
 }
 
-// The outputs.
-pub fn put_outs(cursor: &mut Cursor<'_>, text: &Text<'_>)
-    requires { Room cursor.old.at (outputs_text (live_outputs text.now.live.now (map output_of text.now.outputs.now))) }
-    ensures { Put (outputs_text (live_outputs text.now.live.now (map output_of text.now.outputs.now))) cursor.old cursor.new }
+// The outputs. By its parts, since a `Text` would ask of the nodes too.
+pub fn put_outs(cursor: &mut Cursor<'_>, outputs: &[Output<'_>], live: &[Option<u16>; 672])
+    requires all_live { AllLive live.now (map output_of outputs.now) }
+    requires room { Room cursor.old.at (outputs_text (live_outputs live.now (map output_of outputs.now))) }
+    ensures { Put (outputs_text (live_outputs live.now (map output_of outputs.now))) cursor.old cursor.new }
 {
-    for &output in text.outputs {
-        put_output(cursor, output, text.live);
+    for &output in outputs {
+        put_output(cursor, output, live);
     }
 }

@@ -26,6 +26,6 @@ pub fn write(out: &mut [u8], text: &Text<'_>, order: &[u16]) -> usize
     let mut cursor = Cursor { out, at: 0 };
     put_net(&mut cursor, b"(net2 ", net.p, net.m, net.norm);
     put_lines(&mut cursor, text, order);
-    put_outs(&mut cursor, text);
+    put_outs(&mut cursor, text.outputs, text.live);
     cursor.at
 }

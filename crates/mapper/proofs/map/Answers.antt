@@ -9,7 +9,7 @@ returns-in_err-circuit c =
     text_refused _ _ _ c.read.ensures _ c.in_err-circuit.was _ e
 
 pub start-requires : goal.start-requires
-start-requires c = (c.new-store.ensures, (c.new-wires.ensures, inputs_asked _ (sound _ _ c.read.ensures _ c.in_ok-circuit.was)))
+start-requires c = inputs_asked _ (sound _ _ c.read.ensures _ c.in_ok-circuit.was)
 
 pub invariant_of-valid : goal.invariant_of-valid
 invariant_of-valid c = record { limits = limits _ _ c.read.ensures _ c.in_ok-circuit.was _ c.used_settings-settings.ensures }

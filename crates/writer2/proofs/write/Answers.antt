@@ -25,7 +25,7 @@ put_lines-requires c =
 pub put_outs-requires : goal.put_outs-requires
 unfolding text2 net2_text
 put_outs-requires c =
-    room (put_both c.put_net.ensures c.put_lines.ensures) c.requires.room
+    record { all_live = c.args.text.now.all_live; room = room (put_both c.put_net.ensures c.put_lines.ensures) c.requires.room }
 
 pub returns : goal.returns
 unfolding text2 net2_text

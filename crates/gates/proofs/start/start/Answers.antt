@@ -9,14 +9,14 @@ no_input : I.Input
 no_input = record { name = record { ref_ptr = (0, 0); now = [] }; weight = 0 }
 
 pub loop-i-init : goal.loop-i-init
-loop-i-init c = started_none _ _ c.requires.0 c.requires.1.0
+loop-i-init c = started_none _ _ c.clear.ensures c.clear-2.ensures
 
 pub put_input-requires : goal.put_input-requires
 unfolding no_input
 put_input-requires c =
     let q = c.deref-input-items.ensures.0 in
     let l = c.loop-i-test.true in
-    let g = good_at _ _ q _ no_input l c.requires.1.1 in
+    let g = good_at _ _ q _ no_input l c.requires in
     (omega (arith, started_count _ _ _ c.loop-i.invariant, inputs_before _ _ q _ no_input l, g.0), g.1)
 
 pub loop-i-preserved : goal.loop-i-preserved

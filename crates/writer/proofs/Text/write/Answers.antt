@@ -20,11 +20,16 @@ pub put_nodes-requires : goal.put_nodes-requires
 unfolding net_text
 put_nodes-requires c =
     let t = c.args.self.now in
-    room c.put_net.ensures (shorter (outputs_text (live_outputs t.live.now (map output_of t.outputs.now))) (room_text (text_parts t) c.requires))
+    record {
+      sourced = t.sourced;
+      room = room c.put_net.ensures (shorter (outputs_text (live_outputs t.live.now (map output_of t.outputs.now))) (room_text (text_parts t) c.requires));
+    }
 
 pub put_outs-requires : goal.put_outs-requires
 unfolding net_text
-put_outs-requires c = room (put_both c.put_net.ensures c.put_nodes.ensures) (room_text (text_parts c.args.self.now) c.requires)
+put_outs-requires c =
+    let t = c.args.self.now in
+    record { all_live = t.all_live; room = room (put_both c.put_net.ensures c.put_nodes.ensures) (room_text (text_parts t) c.requires) }
 
 pub returns : goal.returns
 unfolding net_text

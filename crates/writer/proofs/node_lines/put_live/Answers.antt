@@ -6,19 +6,17 @@ use Rattle.writer.proofs.node_lines.put_live.Goals as goal
 
 pub put_node-requires : goal.put_node-requires
 put_node-requires c =
-    let t = c.args.text.now in
     let e = c.node.ensures in
     let h = sym c.is_some.ensures ∙ c.if-is_some.true in
     record {
-      ready = rw e (ready t.live.now t.store.now c.args.i t.sourced c.requires.inside h);
-      room = rw e (room_text (its_line t.live.now (store_of t.store.now) c.args.i h) c.requires.room);
+      ready = rw e (ready c.args.live.now c.args.store.now c.args.i c.requires.sourced.0 c.requires.sourced.1 h);
+      room = rw e (room_text (its_line c.args.live.now (store_of c.args.store.now) c.args.i h) c.requires.room);
     }
 
 pub returns-then-is_some : goal.returns-then-is_some
 returns-then-is_some c =
-    let t = c.args.text.now in
     let e = c.node.ensures in
-    put_text (its_line t.live.now (store_of t.store.now) c.args.i (sym c.is_some.ensures ∙ c.if-is_some.true)) (rw e at c.put_node.ensures)
+    put_text (its_line c.args.live.now (store_of c.args.store.now) c.args.i (sym c.is_some.ensures ∙ c.if-is_some.true)) (rw e at c.put_node.ensures)
 
 pub returns-else-is_some : goal.returns-else-is_some
-returns-else-is_some c = put_text (no_line c.args.text.now.live.now (store_of c.args.text.now.store.now) c.args.i (sym c.is_some.ensures ∙ c.if-is_some.false)) (put_none _)
+returns-else-is_some c = put_text (no_line c.args.live.now (store_of c.args.store.now) c.args.i (sym c.is_some.ensures ∙ c.if-is_some.false)) (put_none _)

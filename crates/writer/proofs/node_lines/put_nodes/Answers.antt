@@ -11,10 +11,10 @@ loop-i-init c = left-all _ _
 pub put_live-requires : goal.put_live-requires
 put_live-requires c =
     let o = c.loop-i in
-    record { inside = omega arith; room = line-room c.args.text.now.live.now (store_of c.args.text.now.store.now) o.i o.invariant (omega arith) c.requires }
+    record { sourced = (c.requires.sourced, omega arith); room = line-room c.args.live.now (store_of c.args.store.now) o.i o.invariant (omega arith) c.requires.room }
 
 pub loop-i-preserved : goal.loop-i-preserved
-loop-i-preserved c = line-turn c.args.text.now.live.now (store_of c.args.text.now.store.now) c.loop-i.i c.loop-i.invariant (omega arith) c.put_live.ensures
+loop-i-preserved c = line-turn c.args.live.now (store_of c.args.store.now) c.loop-i.i c.loop-i.invariant (omega arith) c.put_live.ensures
 
 pub returns : goal.returns
-returns c = lines_done c.args.text.now.live.now (store_of c.args.text.now.store.now) c.loop-i.i c.loop-i.invariant (omega arith)
+returns c = lines_done c.args.live.now (store_of c.args.store.now) c.loop-i.i c.loop-i.invariant (omega arith)

@@ -5,4 +5,4 @@ use Rattle.writer.specs.Live.{live_nodes, lines_left}
 use Rattle.writer.proofs.node_lines.put_nodes.Given as goal
 
 abbrev pub invariant-loop-i : goal.invariant-loop-i
-invariant-loop-i l = Left (nodes_text (live_nodes l.text.live.now l.text.store.now)) l.initial.cursor (lines_left l.text.live.now (store_of l.text.store.now) l.i) l.cursor
+invariant-loop-i l = Left (nodes_text (live_nodes l.live l.store)) l.initial.cursor (lines_left l.live (store_of l.store) l.i) l.cursor

@@ -10,14 +10,14 @@ pub put_output-requires : goal.put_output-requires
 put_output-requires c =
     let l = c.loop-output in
     record {
-      live = output_live c.args.text.now.live.now c.args.text.now.outputs.now l.output-index _ c.loop-output-test.true c.args.text.now.all_live;
-      room = output-room c.args.text.now.live.now c.args.text.now.outputs.now l.output-index _ c.loop-output-test.true l.invariant c.requires;
+      live = output_live c.args.live.now c.args.outputs.now l.output-index _ c.loop-output-test.true c.requires.all_live;
+      room = output-room c.args.live.now c.args.outputs.now l.output-index _ c.loop-output-test.true l.invariant c.requires.room;
     }
 
 pub loop-output-preserved : goal.loop-output-preserved
 loop-output-preserved c =
     let l = c.loop-output in
-    output-turn c.args.text.now.live.now c.args.text.now.outputs.now l.output-index _ c.loop-output-test.true l.invariant c.put_output.ensures
+    output-turn c.args.live.now c.args.outputs.now l.output-index _ c.loop-output-test.true l.invariant c.put_output.ensures
 
 pub returns : goal.returns
-returns c = outputs_done c.args.text.now.live.now c.args.text.now.outputs.now c.loop-output.output-index c.loop-output-test.false c.loop-output.invariant
+returns c = outputs_done c.args.live.now c.args.outputs.now c.loop-output.output-index c.loop-output-test.false c.loop-output.invariant

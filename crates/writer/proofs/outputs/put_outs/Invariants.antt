@@ -7,4 +7,4 @@ use Rattle.writer.proofs.outputs.put_outs.Given as goal
 
 abbrev pub invariant-loop-output : goal.invariant-loop-output
 invariant-loop-output l =
-    Left (outputs_text (live_outputs l.text.live.now (map output_of l.text.outputs.now))) l.initial.cursor (outputs_left l.text.live.now l.text.outputs.now l.output-index) l.cursor
+    Left (outputs_text (live_outputs l.live (map output_of l.outputs))) l.initial.cursor (outputs_left l.live l.outputs l.output-index) l.cursor
