@@ -39,7 +39,7 @@ fn materialize(s: Settings, store: &mut Store, d: Cone) -> Cone
 }
 
 // bootstrap_cone: a cone of no source or one source stays as it was, and asks for no room in the store.
-#[tactic(auto, using(crate::specs::Boot::booting))]
+#[tactic(auto, using(crate::specs::Boot::booting, theorems::specs::SettingLimits::limits_m))]
 pub fn bootstrap_cone(s: ValidSettings, store: &mut Store, c: Cone) -> Cone
     requires { (1 < c.n → length (store_of store.old) + 2 ≤ 672) × Stands (length (store_of store.old)) c }
     ensures is { booted_of store.new result ≡ bootstrap_cone s.settings (store_of store.old) (cone_of c) }
@@ -48,6 +48,6 @@ pub fn bootstrap_cone(s: ValidSettings, store: &mut Store, c: Cone) -> Cone
     if c.n <= 1 {
         return c;
     }
-    let d = realign(s, store, c);
+    let d = realign(s.settings, store, c);
     materialize(s.settings, store, d)
 }

@@ -16,7 +16,6 @@ ghost use Rattle.bootstrap.specs.Form.{candidate_in, fitting, reformed, turned};
 
 use cone::Cone;
 use cone::order::{cone_order_key, is_less};
-use cone::settings::ValidSettings;
 use cone::table::truths_of;
 use linear::{linear_span, linear_table, rows_of};
 use nodes::node::LutNode;
@@ -47,13 +46,12 @@ fn is_fit(s: Settings, store: &Store, c: Cone) -> bool
 }
 
 // The cone with other coefficients over its sources, where that fits. Taken apart and built again: a struct with ghost fields has no `..c` in Rattle.
-#[tactic(auto, using(theorems::specs::SettingLimits::limits_m))]
-fn form_cone(s: ValidSettings, store: &Store, c: Cone, coefs: [i64; 11]) -> Option<Cone>
-    requires { Stands (length (store_of store.now)) c × Within 31 (take c.n coefs) }
-    ensures is { candidate_in (store_of store.now) result ≡ fitting s.settings (store_of store.now) (reformed (cone_of c) (take c.n coefs)) }
+fn form_cone(s: Settings, store: &Store, c: Cone, coefs: [i64; 11]) -> Option<Cone>
+    requires { Stands (length (store_of store.now)) c × Within 31 (take c.n coefs) × (s.m ≤ 32) }
+    ensures is { candidate_in (store_of store.now) result ≡ fitting s (store_of store.now) (reformed (cone_of c) (take c.n coefs)) }
     ensures stands { IfSome result (Stands (length (store_of store.now))) }
 {
-    if s.settings.m < linear_span(&coefs[..c.n]) {
+    if s.m < linear_span(&coefs[..c.n]) {
         return None;
     }
     let known = enter_form(c, coefs)?;
@@ -64,7 +62,7 @@ fn form_cone(s: ValidSettings, store: &Store, c: Cone, coefs: [i64; 11]) -> Opti
         coefs,
         known,
     };
-    is_fit(s.settings, store, form).then_some(form)
+    is_fit(s, store, form).then_some(form)
 }
 
 // The better of the best form so far and this one: span, then norm; the first of equals stays. See scale_pair's `better`.
@@ -87,9 +85,9 @@ fn better_form(store: &Store, best: Option<Cone>, form: Cone) -> Cone
 }
 
 // The best form so far, and what node i takes if it is a bootstrap.
-fn consider(s: ValidSettings, store: &Store, i: usize, c: Cone, best: Option<Cone>) -> Option<Cone>
-    requires { (i < length (store_of store.now)) × Stands (length (store_of store.now)) c × IfSome best (Stands (length (store_of store.now))) }
-    ensures is { candidate_in (store_of store.now) result ≡ turned s.settings (store_of store.now) (cone_of c) (candidate_in (store_of store.now) best) (form_terms (store_of store.now) (node_at (store_of store.now) i)) }
+fn consider(s: Settings, store: &Store, i: usize, c: Cone, best: Option<Cone>) -> Option<Cone>
+    requires { (i < length (store_of store.now)) × Stands (length (store_of store.now)) c × IfSome best (Stands (length (store_of store.now))) × (s.m ≤ 32) }
+    ensures is { candidate_in (store_of store.now) result ≡ turned s (store_of store.now) (cone_of c) (candidate_in (store_of store.now) best) (form_terms (store_of store.now) (node_at (store_of store.now) i)) }
     ensures stands { IfSome result (Stands (length (store_of store.now))) }
 {
     let Some(coefs) = lut::forms::form_at(store, i, c.sources()) else {
@@ -111,12 +109,12 @@ fn is_bootstrap(node: &LutNode) -> bool
 
 // reusable_cone_coefficients: with many tables a sum, the cone by the first form of the least span and norm that fits, if there is one.
 #[tactic(auto, using(crate::specs::FormWalk::walking))]
-pub fn realign(s: ValidSettings, store: &Store, c: Cone) -> Cone
-    requires { Stands (length (store_of store.now)) c }
-    ensures is { cone_of result ≡ realigned s.settings (store_of store.now) (cone_of c) }
+pub fn realign(s: Settings, store: &Store, c: Cone) -> Cone
+    requires { Stands (length (store_of store.now)) c × (s.m ≤ 32) }
+    ensures is { cone_of result ≡ realigned s (store_of store.now) (cone_of c) }
     ensures stands { Stands (length (store_of store.now)) result }
 {
-    if !s.settings.many {
+    if !s.many {
         return c;
     }
     let mut best = None;

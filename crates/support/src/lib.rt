@@ -61,11 +61,7 @@ pub fn coefficient(sources: &[usize], coefs: &[i64], node: usize) -> i64
     requires { length sources.now ≡ length coefs.now }
     ensures { result ≡ coefficient_of (terms_over coefs.now sources.now) node }
 {
-    // Not `map_or`: the search does not prove it, and by hand the same two cases of the closure would be taken apart.
-    match place(sources, node) {
-        Some(at) => coefs[at],
-        None => 0,
-    }
+    place(sources, node).map_or(0, |at| coefs[at])
 }
 
 // The coefficients of the nodes of a support.

@@ -22,21 +22,21 @@ module _ (c : In-Some) where
   many : length (cone_of c.args.c).support ≡ c.args.c.n
   many = sym (ap length c.sources.ensures.are) ∙ c.sources.ensures.count
 
-  fitted : (o : Option Cone) → candidate_in nodes o ≡ fitting c.args.s.settings nodes (reformed (cone_of c.args.c) (take c.args.c.n c.in-Some.coefs))
-      → better_of (candidate_in nodes c.args.best) (candidate_in nodes o) ≡ turned c.args.s.settings nodes (cone_of c.args.c) (candidate_in nodes c.args.best) (form_terms nodes (node_at nodes c.args.i))
+  fitted : (o : Option Cone) → candidate_in nodes o ≡ fitting c.args.s nodes (reformed (cone_of c.args.c) (take c.args.c.n c.in-Some.coefs))
+      → better_of (candidate_in nodes c.args.best) (candidate_in nodes o) ≡ turned c.args.s nodes (cone_of c.args.c) (candidate_in nodes c.args.best) (form_terms nodes (node_at nodes c.args.i))
   fitted o e =
-      ap (better_of (candidate_in nodes c.args.best)) (e ∙ ap (λ (n : ℕ). fitting c.args.s.settings nodes (reformed (cone_of c.args.c) (take n c.in-Some.coefs))) (sym many))
-      ∙ form-taken c.args.s.settings nodes (cone_of c.args.c) (candidate_in nodes c.args.best) _ c.in-Some.coefs form
+      ap (better_of (candidate_in nodes c.args.best)) (e ∙ ap (λ (n : ℕ). fitting c.args.s nodes (reformed (cone_of c.args.c) (take n c.in-Some.coefs))) (sym many))
+      ∙ form-taken c.args.s nodes (cone_of c.args.c) (candidate_in nodes c.args.best) _ c.in-Some.coefs form
 
 pub returns-in_default-clause-is : goal.returns-in_default-clause-is
 returns-in_default-clause-is c =
     let nodes = store_of c.args.store.now in
-    form_skips c.args.s.settings _ (cone_of c.args.c) (candidate_in _ c.args.best) _
+    form_skips c.args.s _ (cone_of c.args.c) (candidate_in _ c.args.best) _
     (subst (λ l. FormOf l (form_terms nodes (node_at nodes c.args.i)) None) c.sources.ensures.are c.in_default.ensures)
 
 pub form_cone-requires : goal.form_cone-requires
 form_cone-requires c =
-    (c.requires.1, subst (λ (n : ℕ). Within 31 (take n c.in-Some.coefs)) (many c) (form_small (cone_of c.args.c).support c.args.store.now c.args.i c.in-Some.coefs c.requires.0 (form c)))
+    (c.requires.1, subst (λ (n : ℕ). Within 31 (take n c.in-Some.coefs)) (many c) (form_small (cone_of c.args.c).support c.args.store.now c.args.i c.in-Some.coefs c.requires.0 (form c)), c.requires.3)
 
 pub returns-in_default-form_cone-clause-is : goal.returns-in_default-form_cone-clause-is
 unfolding better_of

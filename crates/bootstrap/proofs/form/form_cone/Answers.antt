@@ -10,7 +10,6 @@ use Rattle.cone.specs.Fields.{cone_from}
 use Rattle.cone.specs.View.{cone_of}
 use Rattle.cone.specs.Sources.{Stands}
 use Rattle.nodes.specs.Store.{store_of}
-use Rattle.theorems.specs.SettingLimits.{limits_m}
 use Rattle.bootstrap.specs.Form.{reformed, formed_is, formed_held, formed_stands, candidate_in, fits_long, fits-clash, form_not, form_tested, stands_tested}
 use Rattle.bootstrap.proofs.form.form_cone.Goals as goal
 use Rattle.bootstrap.proofs.form.form_cone.Goals.{In_ok-known}
@@ -50,7 +49,7 @@ invariant_of-form c =
       few = k.few;
       different = k.different;
       near = k.near;
-      narrow = omega (arith, limits_m c.args.s.settings c.args.s.limits, c.if-s-linear_span.false, c.linear_span.ensures);
+      narrow = omega (arith, c.requires.2, c.if-s-linear_span.false, c.linear_span.ensures);
       held = formed_held k c.args.coefs (form_long p) _ (entries p);
     }
 
@@ -58,14 +57,14 @@ pub returns-then-s-linear_span-clause-is : goal.returns-then-s-linear_span-claus
 returns-then-s-linear_span-clause-is c =
     let cs = take c.args.c.n c.args.coefs in
     let v = reformed (cone_of c.args.c) cs in
-    form_not c.args.s.settings _ v (fits_long c.args.s.settings _ v (omega (arith, span_is c.args.c cs, c.linear_span.ensures, c.if-s-linear_span.true)))
+    form_not c.args.s _ v (fits_long c.args.s _ v (omega (arith, span_is c.args.c cs, c.linear_span.ensures, c.if-s-linear_span.true)))
 
 pub returns-in_err-known-clause-is : goal.returns-in_err-known-clause-is
 returns-in_err-known-clause-is c =
     let cs = take c.args.c.n c.args.coefs in
     let v = reformed (cone_of c.args.c) cs in
     ap (candidate_in (store_of c.args.store.now)) c.from_residual.ensures
-    ∙ form_not c.args.s.settings _ v (fits-clash c.args.s.settings _ v (entries_are c.args.c cs ∙ sym c.in_err-known.ensures))
+    ∙ form_not c.args.s _ v (fits-clash c.args.s _ v (entries_are c.args.c cs ∙ sym c.in_err-known.ensures))
 
 pub is_fit-requires : goal.is_fit-requires
 unfolding cone_of
@@ -76,6 +75,6 @@ unfolding cone_of
 returns c =
     let p = (goal.at.returns c).In_ok-known in record {
       is = ap (candidate_in (store_of c.args.store.now)) c.then_some.ensures
-          ∙ form_tested c.args.s.settings _ (reformed (cone_of c.args.c) (take c.args.c.n c.args.coefs)) _ (form p) c.is_fit.result c.is_fit.ensures;
+          ∙ form_tested c.args.s _ (reformed (cone_of c.args.c) (take c.args.c.n c.args.coefs)) _ (form p) c.is_fit.result c.is_fit.ensures;
       stands = subst (λ o. IfSome o (Stands (length (store_of c.args.store.now)))) (sym c.then_some.ensures) (stands_tested _ c.is_fit.result _ (formed_stands _ c.args.c _ _ (form p) c.requires.0));
     }
