@@ -45,11 +45,11 @@ enum fbs_number {
     FBS_NAME_REPEATED = 5,    /* (in a) twice */
     FBS_NO_EARLIER_NODE = 6,  /* (gate g 10 (n 0)) as line 2 */
     FBS_WIRES_OR_BITS = 7,    /* (gate g 10 (n 0) (n 1)) */
-    /* mapping it: fbs_map */
+    /* mapping it: fbs_map; 11 from fbs_convert too */
     FBS_NORM_LIMIT = 8,       /* limit 0, a NOT */
     FBS_NO_COMPOSITION = 9,   /* P = M = 2, AND */
     FBS_SHORT_ANSWER = 11,    /* buffer of 0 bytes */
-    /* a network's text: fbs_admit, fbs_sum_reading; fbs_run_network has 21 and 22 alone */
+    /* a network's text: fbs_admit, fbs_convert, fbs_sum_reading; fbs_run_network has 21 and 22 alone */
     FBS_NET_TEXT = 21,        /* (lin 0 (0 0)); empty text, line 1 */
     FBS_NET_NODE = 22,        /* (boot 9 01) as line 3 */
     FBS_NET_BOUNDS = 23,      /* (boot 0 001) on an input */

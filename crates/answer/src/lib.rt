@@ -2,7 +2,7 @@
 // and `(end)` behind it. It leans on `mapper` and `framing`.
 #![tactic(auto)]
 
-ghost use Rattle.std.specs.Prelude.{◌≡◌, ◌++◌, ◌≤◌, length, take};
+ghost use Rattle.std.specs.Prelude.{◌++◌, ◌≤◌, length, take};
 ghost use Rattle.framing.specs.Step.{Within};
 ghost use Rattle.framing.specs.Feeding.{said, closing};
 ghost use Rattle.rules.specs.Refusal.{reason_number};

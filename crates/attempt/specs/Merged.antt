@@ -4,7 +4,7 @@ use Rattle.std.specs.Prelude.{Some, None, IfSome, ◌≡◌, true, List, ℕ, �
 use Rattle.std.proofs.Math.Path.{refl, sym, ap, ap₂}
 use Rattle.std.proofs.Common.{◌∙◌, le_refl, arith, get_or-take, ext_get_or}
 use Rattle.std.proofs.Math.Option.{Option, some, map}
-use Rattle.std.proofs.Math.ListN.{length, get_or, take, length-map}
+use Rattle.std.proofs.Math.ListN.{length, get_or, take}
 use Rattle.std.proofs.Math.Seq.{take_all}
 use Rattle.rules.specs.declared.Settings.{Settings}
 use Rattle.rules.specs.Builder.{known_entries}
@@ -18,15 +18,14 @@ use Rattle.theorems.specs.KnownRows.{known-hit}
 use Rattle.theorems.specs.Rows.{offset}
 use Rattle.theorems.specs.Spans.{offset_lt}
 use Rattle.compose.specs.declared.basis.Basis.{Basis}
-use Rattle.compose.specs.Basis.{lefts, rights, coefficients_over, IsBasis}
+use Rattle.compose.specs.Basis.{lefts, rights, lefts_long, IsBasis}
 use Rattle.cone.specs.Fields.{cone_from, Fits, truths-length, truths_entry}
 use Rattle.cone.specs.View.{numbers, numbers_take}
 use Rattle.theorems.specs.ConeValues.{linear_table-length}
 use Rattle.scale_pair.specs.declared.score.Score.{Score}
 use Rattle.search.specs.Candidates.{merged_cone, candidate_of, Found}
 use Rattle.merged_rows.specs.MergedValues.{merged-coefficients}
-use Rattle.theorems.specs.Normalised.{normalised-length}
-use Rattle.scale_pair.specs.Pair.{Rows, Scaling, merged_row, merged, row_length}
+use Rattle.scale_pair.specs.Pair.{basis_rows, Scaling, merged_row, merged, merged-length}
 use Rattle.search.specs.Options.{option_by}
 use Rattle.search.specs.Policies.{Finds}
 use Rattle.search.specs.Search.{cone_by}
@@ -37,8 +36,6 @@ merged_of basis best = cone_from basis.n basis.support (merged best.rank.a best.
 
 -- It is a cone within the limits, but for the lengths of its arrays.
 pub record Mergeable (basis : Basis) (best : Score) : Type 0 where
-  pub long : length (lefts basis) ≡ basis.n
-  pub rows : Rows (lefts basis) (rights basis)
   pub scaling : Scaling best.rank.a best.rank.b
   pub different : all_different (merged_of basis best).support ≡ true
   pub narrow : cone_span (merged_of basis best) ≤ 32
@@ -58,25 +55,24 @@ module _ (basis : Basis) (best : Score) where
   abbrev R : List ℤ
   R = rights basis
 
-  merged_long : Rows L R → length L ≡ basis.n → length (merged best.rank.a best.rank.b L R) ≡ basis.n
-  unfolding merged
-  merged_long r e = normalised-length (merged_row best.rank.a best.rank.b L R) ∙ row_length L R r best.rank.a best.rank.b ∙ e
+  merged_long : length (merged best.rank.a best.rank.b L R) ≡ basis.n
+  merged_long = merged-length L R (basis_rows basis) best.rank.a best.rank.b ∙ lefts_long basis
 
   pub merged-support : (merged_of basis best).support ≡ take basis.n basis.support
   unfolding merged_of
   merged-support = refl
 
-  merged-coefs : Rows L R → length L ≡ basis.n → (merged_of basis best).coefficients ≡ merged best.rank.a best.rank.b L R
+  merged-coefs : (merged_of basis best).coefficients ≡ merged best.rank.a best.rank.b L R
   unfolding merged_of
-  merged-coefs r e = take_all basis.n (merged best.rank.a best.rank.b L R) (rw (merged_long r e) (le_refl _))
+  merged-coefs = take_all basis.n (merged best.rank.a best.rank.b L R) (rw merged_long (le_refl _))
 
-  pub merged-coefs_long : Rows L R → length L ≡ basis.n → length (merged_of basis best).coefficients ≡ basis.n
-  merged-coefs_long r e = ap length (merged-coefs r e) ∙ merged_long r e
+  pub merged-coefs_long : length (merged_of basis best).coefficients ≡ basis.n
+  merged-coefs_long = ap length merged-coefs ∙ merged_long
 
   -- the coefficients in an array of 11
-  module _ (m : Mergeable basis best) (coefs : List ℤ) (long : length L ≡ basis.n) (e : take basis.n coefs ≡ merged best.rank.a best.rank.b L R) where
+  module _ (m : Mergeable basis best) (coefs : List ℤ) (e : take basis.n coefs ≡ merged best.rank.a best.rank.b L R) where
     same : take basis.n coefs ≡ take basis.n (merged best.rank.a best.rank.b L R)
-    same = e ∙ sym (take_all basis.n (merged best.rank.a best.rank.b L R) (rw (merged_long m.rows long) (le_refl _)))
+    same = e ∙ sym (take_all basis.n (merged best.rank.a best.rank.b L R) (rw merged_long (le_refl _)))
 
     pub made_is : cone_from basis.n basis.support coefs best.known ≡ merged_of basis best
     unfolding merged_of
@@ -84,29 +80,24 @@ module _ (basis : Basis) (best : Score) where
 
     pub made_fits : Fits basis.n basis.support coefs best.known
     unfolding merged_of values cone_span
-    made_fits = record { few = basis.few; different = m.different; near = m.near; narrow = rw same m.narrow; held = rw same m.held }
+    made_fits = record { few = basis.few; form = record { different = m.different; near = m.near; narrow = rw same m.narrow }; held = rw same m.held }
 
 -- ---- what was found can be merged
 cone_of_lem : (c : C.Cone) (ns : List ℕ) (cs : List ℤ) (ts : List ℕ) → c.support ≡ ns → c.coefficients ≡ cs → c.truth ≡ ts → c ≡ cone_by ns cs ts
 unfolding cone_by
 cone_of_lem c ns cs ts e f g = ap (λ l. cone_by l c.coefficients c.truth) e ∙ ap₂ (λ x y. cone_by ns x y) f g
 
-module _ (left right : C.Cone) (truth : List ℕ) (basis : Basis) (best : Score) (s : Settings) (is : IsBasis left right basis)
-    (rows : Rows (lefts basis) (rights basis))
-    (t_long : length truth ≡ 2 ^ basis.n) (found : Found s (union_support left.support right.support) left right truth best) where
+module _ (left right : C.Cone) (truth : List ℕ) (basis : Basis) (best : Score) (s : Settings)
+    (is : IsBasis left right basis) (t_long : length truth ≡ 2 ^ basis.n) (found : Found s (union_support left.support right.support) left right truth best) where
   abbrev U : List ℕ
   U = union_support left.support right.support
 
   abbrev X : C.Cone
   X = merged_cone U left right truth best.rank.a best.rank.b
 
-  lefts_long : length (lefts basis) ≡ basis.n
-  unfolding coefficients_over
-  lefts_long = ap length is.left_is ∙ length-map U _ ∙ sym is.count
-
   coefs_are : (merged_of basis best).coefficients ≡ merged_coefficients U left right (scales best.rank.a best.rank.b)
   unfolding merged merged_row scales
-  coefs_are = merged-coefs basis best rows lefts_long ∙ ap₂ (merged best.rank.a best.rank.b) is.left_is is.right_is ∙ sym (merged-coefficients U left right (scales best.rank.a best.rank.b))
+  coefs_are = merged-coefs basis best ∙ ap₂ (merged best.rank.a best.rank.b) is.left_is is.right_is ∙ sym (merged-coefficients U left right (scales best.rank.a best.rank.b))
 
   support_is : (merged_of basis best).support ≡ U
   support_is = merged-support basis best ∙ is.sources
@@ -117,7 +108,7 @@ module _ (left right : C.Cone) (truth : List ℕ) (basis : Basis) (best : Score)
 
   values_long : length (values X) ≡ length truth
   unfolding values
-  values_long = ap length (sym values_are) ∙ linear_table-length (merged_of basis best).coefficients ∙ ap (λ k. 2 ^ k) (merged-coefs_long basis best rows lefts_long) ∙ sym t_long
+  values_long = ap length (sym values_are) ∙ linear_table-length (merged_of basis best).coefficients ∙ ap (λ k. 2 ^ k) (merged-coefs_long basis best) ∙ sym t_long
 
   entry : (i : ℕ) → i < length (values X) → get_or (merged_of basis best).truth i 0 ≡ get_or truth i 0
   unfolding merged_of values cone_span
@@ -140,8 +131,6 @@ module _ (left right : C.Cone) (truth : List ℕ) (basis : Basis) (best : Score)
   pub found_mergeable : s.m ≤ 32 → all_different U ≡ true → ((i : ℕ) → get_or U i 0 < 672) → Mergeable basis best
   found_mergeable small different near =
       record {
-        long = lefts_long;
-        rows = rows;
         scaling = found.scaling;
         different = rw support_is different;
         narrow = rw merged_is (omega (arith, found.span_is, found.short));
@@ -150,8 +139,8 @@ module _ (left right : C.Cone) (truth : List ℕ) (basis : Basis) (best : Score)
       }
 
 -- it is the definition's
-module _ (s : Settings) (nodes : List LutNode) (left right : C.Cone) (truth : List ℕ) (basis : Basis) (best : P.Option Score) (is : IsBasis left right basis)
-    (rows : Rows (lefts basis) (rights basis)) (t_long : length truth ≡ 2 ^ basis.n) (finds : Finds s nodes left right truth best) where
+module _ (s : Settings) (nodes : List LutNode) (left right : C.Cone) (truth : List ℕ) (basis : Basis) (best : P.Option Score)
+    (is : IsBasis left right basis) (t_long : length truth ≡ 2 ^ basis.n) (finds : Finds s nodes left right truth best) where
   pub merged_by_lem : merged_by basis best ≡ map merge_cones (find_candidate s nodes (union_support left.support right.support) left right truth)
   unfolding merged_by candidate_of merge_cones
   merged_by_lem = by best finds.found ∙ ap (map merge_cones) finds.candidate
@@ -159,4 +148,4 @@ module _ (s : Settings) (nodes : List LutNode) (left right : C.Cone) (truth : Li
       by : (o : P.Option Score) → IfSome o (Found s (union_support left.support right.support) left right truth)
           → merged_by basis o ≡ map merge_cones (candidate_of (union_support left.support right.support) left right truth o)
       by None f = refl
-      by (Some r) f = ap (λ c. some (simplify_cone c)) (merged_is left right truth basis r s is rows t_long f)
+      by (Some r) f = ap (λ c. some (simplify_cone c)) (merged_is left right truth basis r s is t_long f)

@@ -15,7 +15,7 @@ use Rattle.rules.specs.declared.Settings.{Settings}
 use Rattle.rules.specs.declared.Entry.{Entry}
 use Rattle.rules.specs.Builder.{known_entries}
 use Rattle.rules.specs.Cone as C
-use Rattle.rules.specs.Cone.{Candidate, linear_table, values, cone_span, completed, encoding, is_lut_valid, within_norm, norm2, fits, better, best}
+use Rattle.rules.specs.Cone.{Candidate, linear_table, values, cone_span, completed, encoding, is_lut_valid, within_norm, norm2, fits, better}
 use Rattle.rules.specs.Network.{Term, LutNode, Input, Linear, Bootstrap, is_bootstrap, node_at}
 use Rattle.rules.specs.Span.{least, span}
 use Rattle.rules.specs.Store.{terms_of, coefficient_of, same_sources, with_form, ranked}

@@ -1,7 +1,7 @@
 -- A line taken: the first condition that it meets, or the lines so far with it.
-use Rattle.std.specs.Prelude.{◌≡◌, refl, Bool, true, false, not, ◌||◌, List, [], ◌∷◌, map, ℕ, ◌<◌, ◌≤◌, leb, IsTrue, ◌↔◌}
+use Rattle.std.specs.Prelude.{◌≡◌, refl, Bool, true, false, ◌||◌, List, [], ◌∷◌, map, ℕ, ◌≤◌, leb, IsTrue, ◌↔◌}
 use Rattle.std.specs.List.{Any, list_any}
-use Rattle.std.proofs.Common.{sym, ap, ◌∙◌, true≢false, ⊎_elim, arith, le-leb}
+use Rattle.std.proofs.Common.{sym, ap, ◌∙◌, true≢false, ⊎_elim, le-leb}
 use Rattle.std.proofs.Math.Option.{Option, none, some, some-injective, none-ne-some}
 use Rattle.laws.specs.Test.{decide}
 use Rattle.rules.specs.Circuit.{Name, given_names}

@@ -4,6 +4,7 @@ use Rattle.std.specs.Prelude.{List, [], ◌∷◌, map, length, ℕ}
 use Rattle.std.proofs.Math.Option.{Option, none, some}
 use Rattle.laws.specs.Test.{is_some}
 use Rattle.rules.specs.declared.Refusal.{Refusal}
+use Rattle.rules.specs.declared.Settings.{Settings}
 use Rattle.rules.specs.declared.Wire.{Wire}
 use Rattle.rules.specs.Circuit as C
 use Rattle.rules.specs.CircuitText.{Prefix}
@@ -15,7 +16,6 @@ use Rattle.circuit.specs.declared.Circuit.{Circuit}
 use Rattle.circuit.specs.declared.Function.{Function}
 use Rattle.circuit.specs.declared.Function.TheVariants.{Unary, Binary}
 use Rattle.circuit.specs.declared.Gate.{Gate}
-use Rattle.circuit.specs.declared.take as T
 
 abbrev pub wires_of : Function → List Wire
 wires_of (Unary w answers) = w ∷ []
@@ -28,25 +28,27 @@ answers_of (Binary u v answers) = answers
 abbrev pub gate_of : Gate → C.Gate
 gate_of g = record { bits = answers_of g.function; wires = wires_of g.function; line = g.line }
 
-abbrev pub circuit_of : Circuit → C.Circuit
-circuit_of c =
+-- With its `fbs` line.
+abbrev pub circuit_of : Settings → Circuit → C.Circuit
+circuit_of s c =
     record {
-      settings = c.settings;
+      settings = s;
       inputs = map given_of c.inputs.items;
       gates = map gate_of c.gates.items;
       outputs = map output_of c.outputs.items;
     }
 
-abbrev pub reading_of : P.Result Circuit Refusal → Reading C.Circuit
-reading_of (P.Ok c) = Good (circuit_of c)
-reading_of (P.Err r) = Refused (reason_number r.reason) r.line
+-- What the reader answers beside the circuit that it filled.
+abbrev pub reading_of : P.Result Settings Refusal → Circuit → Reading C.Circuit
+reading_of (P.Ok s) c = Good (circuit_of s c)
+reading_of (P.Err r) c = Refused (reason_number r.reason) r.line
 
 -- What the lines so far say.
 abbrev pub option_of : {A : Type 0} → P.Option A → Option A
 option_of P.None = none
 option_of (P.Some s) = some s
 
-abbrev pub prefix_of : T.Prefix.Prefix → Prefix
+abbrev pub prefix_of : Circuit → Prefix
 prefix_of c =
     record {
       settings = option_of c.settings;

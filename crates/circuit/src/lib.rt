@@ -8,7 +8,6 @@ ghost use Rattle.std.specs.Prelude.{◌≡◌};
 ghost use Rattle.rules.specs.CircuitText.{read_circuit};
 ghost use Rattle.circuit.specs.View.{reading_of};
 
-use crate::take::Prefix;
 use arrayvec::ArrayVec;
 use forms::{Input, Output};
 use rules::{Refusal, Settings, Wire};
@@ -37,31 +36,34 @@ impl Default for Gate {
     }
 }
 
-// A circuit; its names are parts of its text.
+// What the lines so far say, and behind the last one the whole circuit: the `fbs` line, once it came, the inputs, the gates and the outputs, whose names
+// are parts of the text.
 #[derive(Drop)]
 pub struct Circuit<'a> {
-    pub settings: Settings,
+    pub settings: Option<Settings>,
     pub inputs: ArrayVec<Input<'a>, 32>,
     pub gates: ArrayVec<Gate, 96>,
     pub outputs: ArrayVec<Output<'a>, 32>,
 }
 
-// The circuit that a text describes. Each line's form finds its end: lines cut by `split_inclusive` first would be gone over twice.
+// The circuit that a text describes. It takes the place of the lent one, so that none is copied; the answer is the `fbs` line alone, as a network's
+// reader answers the `net` line: who calls has lent the circuit, and has it. Each line's form finds its end: lines cut by `split_inclusive` first would
+// be gone over twice.
 // And a `for` over them, with a counter beside it, has an invariant with no name for the closure that finds the newlines (network's `take_lines`, where
 // it was tried). An iterator of our own over (number, line) would have to hand on, beside its items, the number of the line behind the last: `finish`
 // wants it.
 #[tactic(auto, using(crate::specs::Reading::reads_start, crate::specs::Reading::reads_end, crate::specs::Reading::reads_refused, crate::specs::Reading::reads_next, text::specs::FirstLine::after_shorter))]
-pub fn read(text: &[u8]) -> Result<Circuit<'_>, Refusal>
-    ensures { reading_of result ≡ read_circuit text.now }
+pub fn read<'a>(text: &'a [u8], circuit: &mut Circuit<'a>) -> Result<Settings, Refusal>
+    ensures { reading_of result circuit.new ≡ read_circuit text.now }
 {
-    let mut prefix = Prefix::new();
+    circuit.clear();
     let mut rest = text;
     let mut line = 1;
     while !rest.is_empty() {
-        rest = prefix
+        rest = circuit
             .take_line(line, rest)
             .map_err(|reason| Refusal { reason, line })?;
         line += 1;
     }
-    prefix.finish(line)
+    circuit.finish(line)
 }

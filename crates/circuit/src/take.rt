@@ -21,15 +21,6 @@ use forms::{Input, Output};
 use rules::{Reason, Refusal, Settings};
 use text::digit_of;
 
-// What the lines so far say.
-#[derive(Drop)]
-pub struct Prefix<'a> {
-    settings: Option<Settings>,
-    inputs: ArrayVec<Input<'a>, 32>,
-    gates: ArrayVec<Gate, 96>,
-    outputs: ArrayVec<Output<'a>, 32>,
-}
-
 // A gate by its wires and its bits, as they stand in the text: one wire and two bits, or two wires and four.
 #[tactic(auto, unfolding(circuit_conditions::specs::Wires::shape, rules::specs::Form::bits_from))]
 fn function_of(bits: &[u8], wires: Wires) -> Option<Function>
@@ -54,17 +45,29 @@ fn is_listed(inputs: &[Input<'_>], name: &[u8]) -> bool
     inputs.iter().any(|i| name == i.name)
 }
 
-impl<'a> Prefix<'a> {
+impl<'a> Circuit<'a> {
+    // Before the first line.
     #[tactic(auto, unfolding(rules::specs::CircuitText::nothing))]
     pub fn new() -> Self
         ensures { prefix_of result ≡ nothing }
     {
-        Prefix {
+        Circuit {
             settings: None,
             inputs: ArrayVec::new(),
             gates: ArrayVec::new(),
             outputs: ArrayVec::new(),
         }
+    }
+
+    // As before the first line, whatever stood here.
+    #[tactic(auto, unfolding(rules::specs::CircuitText::nothing))]
+    pub(crate) fn clear(&mut self)
+        ensures { prefix_of self.new ≡ nothing }
+    {
+        self.settings = None;
+        self.inputs.clear();
+        self.gates.clear();
+        self.outputs.clear();
     }
 
     #[tactic(auto, using(crate::specs::Took::counts))]
@@ -147,7 +150,7 @@ impl<'a> Prefix<'a> {
 
     // The first line of some bytes, which is line `line` of the text, and the bytes behind it.
     #[tactic(auto, using(crate::specs::Took::no_form, crate::specs::Took::line_met, crate::specs::Took::line_added))]
-    pub fn take_line(&mut self, line: usize, s: &'a [u8]) -> Result<&'a [u8], Reason>
+    pub(crate) fn take_line(&mut self, line: usize, s: &'a [u8]) -> Result<&'a [u8], Reason>
         ensures number { number_met result ≡ line_number (prefix_of self.old) (circuit_line (first_line s.now)) }
         ensures taken { IfOk result (λ rest. (rest.now ≡ after_line s.now) × (prefix_of self.new ≡ with_form line (prefix_of self.old) (circuit_line (first_line s.now)))) }
     {
@@ -158,22 +161,10 @@ impl<'a> Prefix<'a> {
 
     // The text ends before this line.
     #[tactic(auto, unfolding(rules::specs::CircuitText::ended, rules::specs::CircuitText::with_settings))]
-    pub fn finish(self, line: usize) -> Result<Circuit<'a>, Refusal>
-        ensures { reading_of result ≡ ended line (prefix_of self.entry) }
+    pub(crate) fn finish(&self, line: usize) -> Result<Settings, Refusal>
+        ensures { reading_of result self.now ≡ ended line (prefix_of self.now) }
     {
-        let Prefix {
-            settings,
-            inputs,
-            gates,
-            outputs,
-        } = self;
         let reason = Reason::OutOfOrder;
-        let settings = settings.ok_or(Refusal { reason, line })?;
-        Ok(Circuit {
-            settings,
-            inputs,
-            gates,
-            outputs,
-        })
+        self.settings.ok_or(Refusal { reason, line })
     }
 }

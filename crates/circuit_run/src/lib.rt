@@ -7,7 +7,7 @@ ghost use Rattle.std.specs.Prelude.{◌≡◌};
 ghost use Rattle.rules.specs.Runs.{run_reply, ran, run_circuit};
 
 use crate::run::run_read;
-use circuit::read;
+use circuit::Circuit;
 use rules::RunError;
 
 // The circuit that a text describes, run on a bit for each input.
@@ -15,6 +15,7 @@ use rules::RunError;
 pub fn run_circuit(text: &[u8], bits: &[u8], values: &mut [u8]) -> Result<usize, RunError>
     ensures { ran (run_reply result) values.new ≡ run_circuit text.now bits.now values.old }
 {
-    let circuit = read(text).map_err(RunError::Unreadable)?;
+    let mut circuit = Circuit::new();
+    circuit::read(text, &mut circuit).map_err(RunError::Unreadable)?;
     run_read(&circuit, bits, values)
 }

@@ -2,6 +2,7 @@
 ghost use Rattle.std.specs.Prelude.{◌≡◌, ◌≤◌, map, length, get_or};
 ghost use Rattle.std.proofs.Math.Option.{some};
 ghost use Rattle.laws.specs.Over.{over};
+ghost use Rattle.rules.specs.declared.Settings.{Settings};
 ghost use Rattle.rules.specs.Circuit.{wire_bit, gate_bit, gate_values, circuit_run};
 ghost use Rattle.rules.specs.Runs.{run_reply, ran, run_on};
 ghost use Rattle.circuit.specs.View.{gate_of, circuit_of};
@@ -71,10 +72,10 @@ fn put_outputs(values: &[u8], outputs: &[Output<'_>], out: &mut [u8])
     }
 }
 
-// A circuit run on a bit for each input.
+// A circuit run on a bit for each input; its `fbs` line changes nothing.
 #[tactic(auto, using(crate::specs::Run::bad_bits, crate::specs::Run::no_room, crate::specs::Run::ran_on, crate::specs::Run::as_many, crate::specs::Run::outputs_many), unfolding(rules::specs::Circuit::circuit_run, crate::specs::Run::output_bits))]
 pub fn run_read(c: &Circuit<'_>, bits: &[u8], values: &mut [u8]) -> Result<usize, RunError>
-    ensures { ran (run_reply result) values.new ≡ run_on (length c.now.inputs.items) (length c.now.outputs.items) bits.now values.old (some (circuit_run (circuit_of c.now) bits.now)) }
+    ensures { (s : Settings) → ran (run_reply result) values.new ≡ run_on (length c.now.inputs.items) (length c.now.outputs.items) bits.now values.old (some (circuit_run (circuit_of s c.now) bits.now)) }
 {
     if !are_bits_for(c.inputs.len(), bits) {
         return Err(RunError::BadBits);

@@ -1,7 +1,7 @@
 -- Two cones laid over their sources together, and the tables of their composition.
 use Rattle.std.specs.Prelude.{◌≡◌, refl, true, false, not, ℕ, zero, suc, ◌+◌, ◌≤◌, ◌^◌, eqb, ℤ, pos, nat_abs, length, take}
 use mathlib.Core.List.{List, [], ◌∷◌, map, zip_with}
-use Rattle.std.proofs.Common.{sym, ap, subst, ◌∙◌, true≢false, ⊎_elim, zero-le, arith, eq-eqb, ne_eqb, pow_mono}
+use Rattle.std.proofs.Common.{sym, ap, subst, ◌∙◌, true≢false, ⊎_elim, zero-le, arith, eq-eqb, ne_eqb, pow_mono, length-take-le}
 use Rattle.std.proofs.lemmas.Bool.{not-true}
 use Rattle.laws.specs.Over.{over}
 use Rattle.laws.specs.Test.{if◌then◌otherwise◌, if_both, eq-or-ne, neither_left, neither_right, both_left, both_right}
@@ -48,8 +48,14 @@ pub record Composed (left right : Cone) (gate : List ℕ) (xs ys : List ℤ) (tr
   pub y : ys' ≡ over (linear_table (coefficients_over (union_support left.support right.support) right)) ys
   pub t : truth' ≡ over (gate_truth (union_support left.support right.support) left right gate) truth
 
--- ---- laws: no coefficient of a basis is large
+-- ---- laws: both rows of a basis have a coefficient for each source, and none is large
 module _ (b : Basis) where
+  pub lefts_long : length (lefts b) ≡ b.n
+  lefts_long = length-take-le b.n b.left (omega (arith, b.few, b.left_long))
+
+  pub rights_long : length (rights b) ≡ b.n
+  rights_long = length-take-le b.n b.right (omega (arith, b.few, b.right_long))
+
   pub lefts_within : Within 1984 (lefts b)
   lefts_within i = omega (arith, within_total (lefts b) i, b.narrow_left)
 

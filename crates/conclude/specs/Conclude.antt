@@ -1,6 +1,6 @@
 -- What is left to do when all outputs are mapped: Basic's last check, and the text.
 use Rattle.std.specs.Prelude as P
-use Rattle.std.specs.Prelude.{◌≡◌, Bool, true, false, ◌&&◌, not, List, [], ◌∷◌, ◌++◌, ℕ, zero, suc, ◌+◌, ◌≤◌, ◌<◌, length, get_or, take, drop}
+use Rattle.std.specs.Prelude.{◌≡◌, Bool, true, false, ◌&&◌, not, List, [], ◌∷◌, ℕ, zero, suc, ◌<◌, length, get_or}
 use Rattle.std.proofs.Common.{refl, ap, sym, ◌∙◌, le_of_suc-le-suc, arith}
 use Rattle.forms.specs.declared.Net.{Net}
 use Rattle.rules.specs.declared.Reason.TheVariants.{OverNorm}

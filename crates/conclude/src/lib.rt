@@ -6,16 +6,12 @@ mod norm;
 
 ghost use Rattle.std.specs.Prelude.{◌≡◌, ◌&&◌, not, List, map, ℕ, length};
 ghost use Rattle.rules.specs.Cone.{within_norm};
-ghost use Rattle.rules.specs.Form.{Good};
 ghost use Rattle.rules.specs.Mapper.{is_basic, answer_with, map_reply};
 ghost use Rattle.rules.specs.Outcome.{outcome};
 ghost use Rattle.rules.specs.Store.{kept_from};
-ghost use Rattle.rules.specs.Writing.{network_text};
 ghost use Rattle.forms.specs.Forms.{output_of};
 ghost use Rattle.nodes.specs.Store.{store_of};
 ghost use Rattle.writer.specs.Kept.{Closed, Numbered};
-ghost use Rattle.lines.specs.Put.{Room};
-ghost use Rattle.writer.specs.Whole.{network_of};
 ghost use Rattle.conclude.specs.Norm.{largest_norm};
 ghost use Rattle.conclude.specs.Conclude.{concluded, Finishable};
 ghost use Rattle.conclude.specs.Recorded.{Recorded};

@@ -1,5 +1,5 @@
 // What the outputs need is kept of the nodes.
-ghost use Rattle.std.specs.Prelude.{◌≡◌, map, length};
+ghost use Rattle.std.specs.Prelude.{map, length};
 ghost use Rattle.rules.specs.Store as rules;
 ghost use Rattle.rules.specs.Store.{wire_needs, output_needs};
 ghost use Rattle.forms.specs.Forms.{output_of};

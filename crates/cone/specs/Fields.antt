@@ -36,12 +36,16 @@ cone_from n support coefs known = record { support = take n support; coefficient
 abbrev pub Held : List ℤ → List Entry → Type 0
 Held coefs known = known_entries (linear_table coefs) (truths coefs known) ≡ some (numbers (take (span (linear_table coefs)) known))
 
--- What holds of a cone's fields beside their lengths.
-pub record Fits (n : ℕ) (support : List ℕ) (coefs : List ℤ) (known : List Entry) : Type 0 where
-  pub few : n ≤ 11
+-- What holds of a cone's sources and of its coefficients.
+pub record Form (n : ℕ) (support : List ℕ) (coefs : List ℤ) : Type 0 where
   pub different : all_different (take n support) ≡ true
   pub near : (i : ℕ) → get_or (take n support) i 0 < 672
   pub narrow : span (linear_table (take n coefs)) ≤ 32
+
+-- What holds of a cone's fields beside their lengths.
+pub record Fits (n : ℕ) (support : List ℕ) (coefs : List ℤ) (known : List Entry) : Type 0 where
+  pub few : n ≤ 11
+  pub form : Form n support coefs
   pub held : Held (take n coefs) known
 
 -- ---- laws
@@ -71,9 +75,12 @@ fits n support coefs known v e long few d t near bits rest =
     let narrow : span (linear_table (take n coefs)) ≤ 32 = rw cs (omega (arith, span_table v.coefficients)) in
     record {
       few = few;
-      different = ap (λ (k : rules.Cone). all_different k.support) e ∙ d;
-      near = λ i. rw (ap (λ (k : rules.Cone). k.support) e) (near i);
-      narrow = narrow;
+      form =
+          record {
+            different = ap (λ (k : rules.Cone). all_different k.support) e ∙ d;
+            near = λ i. rw (ap (λ (k : rules.Cone). k.support) e) (near i);
+            narrow = narrow;
+          };
       held = known_held (linear_table (take n coefs)) (truths (take n coefs) known) (truths-length (take n coefs) known) (numbers known) (omega (arith, numbers-length known))
           (record { at = λ i h. sym (truths_entry (take n coefs) known i h) })
           (λ i h. rw (ap (λ (k : rules.Cone). k.truth) e) (bits i (rw cs at h)))

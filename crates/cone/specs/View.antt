@@ -9,7 +9,6 @@ use Rattle.laws.specs.Integer.{ints, plus, minus, plus_neg, minus_neg, abs_parts
 use Rattle.laws.specs.Test.{if◌then◌otherwise◌, lt_or_le}
 use Rattle.rules.specs.Builder.{known_entries}
 use Rattle.rules.specs.Cone as rules
-use Rattle.rules.specs.Cone.{linear_table}
 use Rattle.rules.specs.Mapper.{is_constant, constant_value}
 use Rattle.rules.specs.NetworkText.{all_different}
 use Rattle.rules.specs.Span.{least, span}

@@ -5,7 +5,7 @@ use borrow.Author.Tests.{leb-false, ltb-false}
 use Rattle.std.proofs.Math.Option.{Option, none, some}
 use Rattle.rules.specs.Builder.{table_limits}
 use Rattle.rules.specs.Edition2 as C
-use Rattle.rules.specs.Edition2.{Line2, Plain, Many, line2, table_node, not_fitting, not_turning, other_centre, text_conditions2, safety_conditions2, conditions2, with_line2}
+use Rattle.rules.specs.Edition2.{Plain, Many, line2, table_node, text_conditions2, safety_conditions2, conditions2, with_line2}
 use Rattle.rules.specs.Network.{LutNode, Bootstrap}
 use Rattle.rules.specs.NetworkText.{Net, NetPrefix, NetworkLine, NetLine, NodeLine, network_line, started, unknown, text_conditions, safety_conditions, admission_conditions, with_network_line}
 use Rattle.rules.specs.declared.Reason.{Reason}

@@ -33,7 +33,7 @@ shares ns i j = same_group (node_at ns i) (node_at ns j)
 abbrev pub Together : List LutNode → Type 0
 Together ns = (i j k : ℕ) → i < j → j < k → k < length ns → shares ns i k ≡ true → shares ns i j ≡ true
 
--- ---- reads-back-2: what is written in edition 2 is admitted and says the network.
+-- ---- reads_back_2: what is written in edition 2 is admitted and says the network.
 
 abbrev pub ReadsBack2 : Type 0
 ReadsBack2 = (w : Network) → Writable w → Together w.nodes → (read_either (network_text2 w) ≡ Good w) × (admission (network_text2 w) ≡ admitted (stats w))
@@ -85,7 +85,7 @@ pub record Converted (text other : List ℕ) : Type 0 where
 abbrev pub Converts : Type 0
 Converts = (text other : List ℕ) → convert text ≡ Good other → Converted text other
 
--- ---- there-and-back, second_trip, plain-trip: further trips.
+-- ---- there_and_back, second_trip, plain_trip: further trips.
 
 -- From edition 2 and back is the identity.
 abbrev pub ThereAndBack : Type 0

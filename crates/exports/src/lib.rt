@@ -1,6 +1,6 @@
 // The entries for an evaluator in C, C++ or Rust: include/wonkpecan.h says how to call them. A reply is numbers in a struct, by value:
 // C reads it, so it has a number for the reason, a place for each part, and its own names, also where two have the same shape.
-// It leans on the entries and on nothing below them.
+// It leans on the entries, and on `rules` for what they answer.
 #![tactic(auto)]
 
 mod numbers;

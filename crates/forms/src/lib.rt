@@ -1,5 +1,5 @@
 // What both texts are made of, from pieces: wires, norm limits, numbers with a sign, weights, and the lines `(in NAME)`, `(in NAME W)` and `(out NAME WIRE)`.
-// It leans on the pieces (`text`) and on no other code.
+// It leans on the pieces (`text`) and on `rules`.
 #![tactic(auto, unfolding(crate::specs::Readers::readers))]
 
 ghost use Rattle.std.specs.Prelude.{◌≡◌, Some};

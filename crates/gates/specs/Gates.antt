@@ -1,6 +1,6 @@
 -- The gates in turn: what is asked of them, what the loop's results stand for, and each step.
 use Rattle.std.specs.Prelude as P
-use Rattle.std.specs.Prelude.{◌≡◌, ⊤, Bool, false, ◌||◌, ◌↔◌, IsTrue, ℕ, ◌+◌, ◌≤◌, ◌<◌, leb, length}
+use Rattle.std.specs.Prelude.{◌≡◌, ⊤, Bool, false, ◌||◌, ◌↔◌, IsTrue, ℕ, ◌+◌, ◌≤◌, ◌<◌, length}
 use Rattle.std.proofs.Math.Path.{refl, sym, ap}
 use Rattle.std.proofs.Common.{subst, ⊎_elim, true≢false, ◌∙◌}
 use Rattle.std.specs.List.{Any, list_any}

@@ -236,7 +236,7 @@ bits_abs b h =
     by_cond (ltb b (2 ^ 63)) (pos b) (negsuc (2 ^ 64 - suc b)) (λ z. 0 < nat_abs z)
     (λ t. omega (arith)) (λ t. omega arith)
 
--- what the machine reads back from the bits of a call's result, whose range is `c.CALL.ok`
+-- what the machine reads back from the bits of a call's result, whose range is `c.CALL.type_inv`
 pub read_back-at : (w : Width) (z : ℤ) → mag z < 2 ^ hbits w → to_z w (of_z w z) ≡ z
 read_back-at w z h = to_z-of_z (record { sfits = h })
 

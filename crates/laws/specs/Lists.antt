@@ -1,5 +1,5 @@
 -- Lists: one that is empty, the entries of one that was mapped and of one of zeros, and a property of each element.
-use Rattle.std.specs.Prelude.{◌≡◌, refl, List, [], ◌∷◌, map, ◌++◌, ℕ, zero, suc, ◌<◌, ◌≤◌, length, get_or, replicate}
+use Rattle.std.specs.Prelude.{◌≡◌, refl, List, [], ◌∷◌, map, ◌++◌, ℕ, zero, suc, ◌<◌, ◌≤◌, length, get_or}
 use Rattle.std.proofs.Common.{arith, length-append}
 
 pub nil_of : {A : Type 0} (l : List A) → length l ≡ 0 → l ≡ []
@@ -10,11 +10,6 @@ pub map_at : {A B : Type 0} (f : A → B) (l : List A) (i : ℕ) (a : A) (b : B)
 map_at f [] i a b h = absurd (omega arith)
 map_at f (v ∷ l) zero a b h = refl
 map_at f (v ∷ l) (suc i) a b h = map_at f l i a b (omega arith)
-
-pub zeros_at : (n i : ℕ) → ◌≡◌ {A = ℕ} (get_or (replicate n 0) i 0) 0
-zeros_at zero i = refl
-zeros_at (suc n) zero = refl
-zeros_at (suc n) (suc i) = zeros_at n i
 
 pub snoc_le : {A : Type 0} (l : List A) (a : A) (n : ℕ) → length l < n → length (l ++ (a ∷ [])) ≤ n
 snoc_le l a n h = rw length-append (omega arith)

@@ -1,4 +1,4 @@
-// The values of a linear form, one for each assignment of its sources, their span and the least of them. It leans on `scale`.
+// The values of a linear form, one for each assignment of its sources, their span and the least of them. Its code leans on no other, its specs on those of `scale`.
 // What a function asks of its coefficients (at most 11, each within 1984) is asked of a lent slice: a type of its own would be made for one call.
 #![tactic(auto)]
 

@@ -1,5 +1,5 @@
 -- A sum's coefficients over a support.
-use Rattle.std.specs.Prelude.{◌≡◌, refl, Bool, true, false, ◌&&◌, cond, List, [], ◌∷◌, map, ℕ, zero, suc, ◌+◌, ◌≤◌, ◌<◌, eqb, ℤ, pos, length, get_or, take, drop, set, Some, None}
+use Rattle.std.specs.Prelude.{◌≡◌, refl, Bool, true, false, ◌&&◌, List, [], ◌∷◌, map, ℕ, ◌+◌, ◌≤◌, ◌<◌, eqb, ℤ, length, get_or, take, drop, set, Some, None}
 use Rattle.std.specs.Prelude as P
 use Rattle.std.proofs.Common.{sym, ap, ◌∙◌, ⊎_elim, add-one, arith, length-set, drop_of_length-le}
 use Rattle.std.proofs.Math.Option.{Option, none, some}

@@ -7,7 +7,7 @@ mod order;
 pub mod reuse;
 pub mod store;
 
-ghost use Rattle.std.specs.Prelude.{◌≡◌, ◌≤◌, ◌<◌, length};
+ghost use Rattle.std.specs.Prelude.{◌≤◌, ◌<◌, length};
 ghost use Rattle.rules.specs.Network.{Linear, Bootstrap};
 ghost use Rattle.rules.specs.Builder.{last_tried};
 ghost use Rattle.rules.specs.Rotation.{centre_of};

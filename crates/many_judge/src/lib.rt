@@ -2,7 +2,7 @@
 // It leans on `network_bounds`, `network_judge`, `many_text` and `rotation`.
 #![tactic(auto)]
 
-ghost use Rattle.std.specs.Prelude.{◌≡◌, Bool, IfOk, Some, length};
+ghost use Rattle.std.specs.Prelude.{◌≡◌, Bool, IfOk, Some};
 ghost use Rattle.laws.specs.Select.{any};
 ghost use Rattle.rules.specs.Edition2.{Table as Whole, other_centre};
 ghost use Rattle.rules.specs.Network.{boot_sources, member};

@@ -1,5 +1,5 @@
 -- Which form a line of edition 2 is, and what the code's tests say of it.
-use Rattle.std.specs.Prelude.{◌≡◌, refl, Bool, ◌||◌, not, List, ℕ, ◌+◌, min, ltb}
+use Rattle.std.specs.Prelude.{◌≡◌, refl, Bool, ◌||◌, not, List, ℕ, ◌+◌, ltb}
 use Rattle.std.specs.Prelude as P
 use Rattle.std.proofs.Math.Path.{ap, ap₂}
 use Rattle.std.proofs.Common.{sym, ◌∙◌, ⊎_elim, eq-eqb, ne_eqb}

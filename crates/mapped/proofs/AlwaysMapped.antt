@@ -1,4 +1,4 @@
--- always-mapped: with the data sheet's settings no gate is refused, so every circuit that is read is mapped.
+-- always_mapped: with the data sheet's settings no gate is refused, so every circuit that is read is mapped.
 use Rattle.std.specs.Prelude.{◌≡◌, true, false, ◌⊎◌, ℕ}
 use Rattle.std.proofs.Common.{sym, ap, subst, ◌∙◌, true≢false, inl, inr, ⊎_elim, arith}
 use mathlib.Core.List.{List, zip_with}

@@ -1,4 +1,4 @@
--- never-ten: every cone of a mapping is built as its definition allows, so each passes the encoding check of `validate_cone`.
+-- never_ten: every cone of a mapping is built as its definition allows, so each passes the encoding check of `validate_cone`.
 use Rattle.std.specs.Prelude.{◌≡◌, Bool, T, leb, ltb, length, set, take, drop}
 use Rattle.std.proofs.Math.Path.{refl, subst}
 use Rattle.std.proofs.Math.Bool.{true, false}

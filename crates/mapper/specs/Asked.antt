@@ -3,6 +3,7 @@ use Rattle.std.specs.Prelude.{◌≡◌, false, ◌||◌, List, [], ◌∷◌, m
 use Rattle.std.proofs.Common.{subst, arith, leb-false, leb-true, not-suc-le-zero}
 use Rattle.std.proofs.lemmas.List.{length-map}
 use Rattle.laws.specs.Test.{T-is, both_right, neither_left, neither_right}
+use Rattle.rules.specs.declared.Settings.{Settings}
 use Rattle.rules.specs.declared.Wire.{Wire}
 use Rattle.rules.specs.declared.Wire.TheVariants.{Const, Node}
 use Rattle.rules.specs.Circuit as C
@@ -64,7 +65,7 @@ outputs_in n (o ∷ os) s (suc i) d h = outputs_in n os s.1 i d (omega arith)
 
 -- ---- The circuit.
 
-module _ (c : Circuit) (s : Sound (circuit_of c)) where
+module _ (c : Circuit) {settings : Settings} (s : Sound (circuit_of settings c)) where
   pub inputs_asked : GoodInputs (map given_of c.inputs.items)
   inputs_asked = record { few = s.parts.inputs_fit; each = inputs_good _ s.parts.input_names s.parts.weights }
 

@@ -1,6 +1,6 @@
 -- The entry: what the steps give back is what the mapper answers.
 use Rattle.std.specs.Prelude as P
-use Rattle.std.specs.Prelude.{◌≡◌, ⊤, true, List, [], map, ℕ, ◌+◌, ◌*◌, ◌≤◌, length}
+use Rattle.std.specs.Prelude.{◌≡◌, ⊤, true, List, map, ℕ, ◌+◌, ◌*◌, ◌≤◌, length}
 use Rattle.std.proofs.Common.{sym, ap, subst, ◌∙◌, arith}
 use Rattle.std.proofs.lemmas.List.{length-map}
 use Rattle.rules.specs.declared.Refusal.{Refusal}
@@ -29,28 +29,28 @@ use Rattle.outputs.specs.OutputsWalk.{started, mapped_read, Outs}
 use Rattle.mapper.specs.Asked.{gates_asked, outputs_few}
 use Rattle.conclude.specs.Conclude.{concluded, Finishable}
 
-pub text_refused : (text buffer : List ℕ) (r : P.Result Circuit Refusal) → reading_of r ≡ read_circuit text → (k : Refusal) → r ≡ P.Err k → (x : P.Result ℕ Refusal) → x ≡ P.Err k
+pub text_refused : (text buffer : List ℕ) (r : P.Result Settings Refusal) (c : Circuit) → reading_of r c ≡ read_circuit text → (k : Refusal) → r ≡ P.Err k → (x : P.Result ℕ Refusal) → x ≡ P.Err k
     → outcome (map_reply x) buffer ≡ mapper text buffer
 unfolding mapper answer_with and_then
-text_refused text buffer r e k q x a =
-    let f : F.Refused (reason_number k.reason) k.line ≡ read_circuit text = ap reading_of (sym q) ∙ e in
+text_refused text buffer r c e k q x a =
+    let f : F.Refused (reason_number k.reason) k.line ≡ read_circuit text = ap (λ y. reading_of y c) (sym q) ∙ e in
     ap (λ y. outcome (map_reply y) buffer) a ∙ ap (λ y. answer_with buffer (and_then y map_circuit)) f
 
--- a circuit that was read
-module _ (text : List ℕ) (r : P.Result Circuit Refusal) (e : reading_of r ≡ read_circuit text) (c : Circuit) (q : r ≡ P.Ok c) where
-  good : F.Good (circuit_of c) ≡ read_circuit text
-  good = ap reading_of (sym q) ∙ e
+-- a circuit that was read, with its `fbs` line
+module _ (text : List ℕ) (r : P.Result Settings Refusal) (c : Circuit) (e : reading_of r c ≡ read_circuit text) (s : Settings) (q : r ≡ P.Ok s) where
+  good : F.Good (circuit_of s c) ≡ read_circuit text
+  good = ap (λ y. reading_of y c) (sym q) ∙ e
 
-  pub sound : Sound (circuit_of c)
-  sound = read_sound text (circuit_of c) (sym good)
+  pub sound : Sound (circuit_of s c)
+  sound = read_sound text (circuit_of s c) (sym good)
 
-  pub text_mapped : (buffer : List ℕ) → mapper text buffer ≡ answer_with buffer (map_circuit (circuit_of c))
+  pub text_mapped : (buffer : List ℕ) → mapper text buffer ≡ answer_with buffer (map_circuit (circuit_of s c))
   unfolding mapper and_then
   text_mapped buffer = ap (λ y. answer_with buffer (and_then y map_circuit)) (sym good)
 
-  module _ (u : Settings) (eu : u ≡ used_settings c.settings) where
+  module _ (u : Settings) (eu : u ≡ used_settings s) where
     pub limits : in_limits u ≡ true
-    limits = ap in_limits eu ∙ used_limits c.settings sound.settings.limits
+    limits = ap in_limits eu ∙ used_limits s sound.settings.limits
 
     abbrev all : ℕ
     all = length c.inputs.items + length c.gates.items
@@ -60,11 +60,11 @@ module _ (text : List ℕ) (r : P.Result Circuit Refusal) (e : reading_of r ≡ 
 
     module _ (store : Store) (wires : List Cone) (h : Started (map given_of c.inputs.items) store wires) (last : Store) (cones : List Cone) (w : P.Result ⊤ Refusal)
         (is : state_read last cones w ≡ map_gates u os (state_of store wires) (map gate_of c.gates.items)) where
-      steps_are : map_circuit (circuit_of c) ≡ and_then (state_read last cones w) (finish u os)
+      steps_are : map_circuit (circuit_of s c) ≡ and_then (state_read last cones w) (finish u os)
       unfolding map_circuit map_with
       steps_are =
-          ap (λ v. map_with v (circuit_of c)) (sym eu)
-          ∙ ap (λ st. and_then (map_gates u os st (map gate_of c.gates.items)) (finish u os)) (sym (started_is (circuit_of c) store wires h))
+          ap (λ v. map_with v (circuit_of s c)) (sym eu)
+          ∙ ap (λ st. and_then (map_gates u os st (map gate_of c.gates.items)) (finish u os)) (sym (started_is (circuit_of s c) store wires h))
           ∙ ap (λ y. and_then y (finish u os)) (sym is)
 
       pub gates_refused : (buffer : List ℕ) (k : Refusal) → w ≡ P.Err k → (x : P.Result ℕ Refusal) → x ≡ P.Err k → outcome (map_reply x) buffer ≡ mapper text buffer
@@ -76,7 +76,7 @@ module _ (text : List ℕ) (r : P.Result Circuit Refusal) (e : reading_of r ≡ 
 
       module _ (k : ⊤) (f : w ≡ P.Ok k) (ends : Store) (outputs items : List O.Output) (eq : items ≡ outputs)
           (done : mapped_read ends outputs ≡ map_outputs u (map cone_of cones) (started (store_of last)) os) where
-        steps_done : concluded u (map output_of items) ends ≡ map_circuit (circuit_of c)
+        steps_done : concluded u (map output_of items) ends ≡ map_circuit (circuit_of s c)
         unfolding concluded and_then finish mapped_read started state_read state_of
         steps_done =
             ap (λ d. checked u (pruned u d)) (ap (mapped_read ends) eq ∙ done)
@@ -105,12 +105,12 @@ module _ (c : Circuit) (store : Store) (wires : List Cone) (h : Started (map giv
   inputs_wired = rw length-map at h.wired
 
   -- six nodes a gate and two an output are no more than the store's room
-  pub room_left : Sound (circuit_of c) → {p n : ℕ} {last : Store} {cones : List Cone} → Worked p store (6 * length c.gates.items) last cones n
+  pub room_left : {s : Settings} → Sound (circuit_of s c) → {p n : ℕ} {last : Store} {cones : List Cone} → Worked p store (6 * length c.gates.items) last cones n
       → (length (store_of last) + 2 * length c.outputs.items ≤ 672) × (length c.outputs.items ≤ 32)
-  room_left s w =
-      let g = gates_asked c s in
-      let d = outputs_few c s in
+  room_left sound w =
+      let g = gates_asked c sound in
+      let d = outputs_few c sound in
       (omega (arith, inputs_count, w.grown.most, g.inputs_few, g.few), d)
 
-pub nodes_few : (c : Circuit) → Sound (circuit_of c) → length c.inputs.items + length c.gates.items ≤ 128
-nodes_few c s = let g = gates_asked c s in let a = g.inputs_few in let b = g.few in omega arith
+pub nodes_few : (c : Circuit) {s : Settings} → Sound (circuit_of s c) → length c.inputs.items + length c.gates.items ≤ 128
+nodes_few c sound = let g = gates_asked c sound in let a = g.inputs_few in let b = g.few in omega arith

@@ -6,7 +6,7 @@ ghost use Rattle.rules.specs.Mapper.{map_reply, mapper};
 ghost use Rattle.rules.specs.Outcome.{outcome};
 
 use arrayvec::ArrayVec;
-use circuit::read;
+use circuit::{Circuit, read};
 use conclude::conclude;
 use cone::settings::ValidSettings;
 use gates::start::start;
@@ -19,8 +19,8 @@ use rules::Refusal;
 pub fn map(text: &[u8], out: &mut [u8]) -> Result<usize, Refusal>
     ensures { outcome (map_reply result) out.new ≡ mapper text.now out.old }
 {
-    let circuit = read(text)?;
-    let settings = used_settings(circuit.settings);
+    let mut circuit = Circuit::new();
+    let settings = used_settings(read(text, &mut circuit)?);
     let valid = ValidSettings { settings };
     let mut store = Store::new();
     let mut wires = ArrayVec::new();

@@ -2,11 +2,10 @@
 // It leans on `network_judge`, one line's reader (`network_text`) and the store (`nodes`).
 #![tactic(auto)]
 
-ghost use Rattle.std.specs.Prelude.{◌≡◌, ℕ, ◌<◌, OnOk, IfOk, Some, length};
+ghost use Rattle.std.specs.Prelude.{◌≡◌, ◌<◌, IfOk, Some, length};
 ghost use Rattle.laws.specs.Test.{if◌then◌otherwise◌};
 ghost use Rattle.rules.specs.Network.{Input as In, Linear, Bootstrap};
-ghost use Rattle.rules.specs.NetworkText.{network_line, network_ended, no_network, read_network, read_admitted};
-ghost use Rattle.rules.specs.Refusal.{number_met};
+ghost use Rattle.rules.specs.NetworkText.{network_ended, no_network, read_network, read_admitted};
 ghost use Rattle.rules.specs.Rotation.{centre_of};
 ghost use Rattle.forms.specs.Forms.{GoodGiven};
 ghost use Rattle.nodes.specs.Store.{store_of, Adds};
@@ -16,7 +15,6 @@ ghost use Rattle.network_text.specs.Table.{bits_of};
 ghost use Rattle.network_judge.specs.View.{prefix_of};
 ghost use Rattle.network.specs.View.{reading_of};
 ghost use Rattle.network.specs.Reading.{LineReader, Takes, plain};
-ghost use Rattle.network.specs.Verdict.{refusal, with_form};
 ghost use Rattle.network.specs.Put.{Ready, Follows};
 
 use forms::Net;

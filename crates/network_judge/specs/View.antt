@@ -1,6 +1,6 @@
 -- The lines so far as the code holds them, seen as the definition's.
 use Rattle.std.specs.Prelude as P
-use Rattle.std.specs.Prelude.{◌≡◌, refl, [], map, ℕ}
+use Rattle.std.specs.Prelude.{◌≡◌, refl, [], map}
 use Rattle.std.proofs.Math.Option.{Option, none, some}
 use Rattle.rules.specs.NetworkText.{Net, NetPrefix, no_network}
 use Rattle.forms.specs.Forms.{output_of}

@@ -1,6 +1,6 @@
 -- The run as an entry: the text, the bits and the buffer tested in turn, and whether it broke off.
 use Rattle.std.specs.Prelude as P
-use Rattle.std.specs.Prelude.{◌≡◌, Bool, true, false, ◌||◌, not, List, [], ◌∷◌, ℕ, zero, suc, ◌<◌, ◌≤◌, leb, ℤ, length, get_or, All}
+use Rattle.std.specs.Prelude.{◌≡◌, Bool, true, false, ◌||◌, not, List, [], ◌∷◌, ℕ, zero, suc, ◌<◌, ◌≤◌, leb, ℤ, length, All}
 use Rattle.std.proofs.Common.{sym, ap₂, ◌∙◌, not-suc-le-zero, le_of_suc-le-suc, refl}
 use Rattle.std.proofs.Math.Option.{none, some, map}
 use borrow.Author.Tests.{le-ltb, not-false}

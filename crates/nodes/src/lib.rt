@@ -1,5 +1,5 @@
 // The node store (src/lut.rs): its nodes, each with its depth and its table's centre, in the order in which they came; and a node's norm.
-// It leans on no other code.
+// It leans on the kit's `arrayvec` alone.
 #![tactic(auto)]
 
 pub mod depth;

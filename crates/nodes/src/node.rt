@@ -1,7 +1,6 @@
 // A node of the store, and one made of what a text or the mapper gives.
 ghost use Rattle.std.specs.Prelude.{◌≡◌, ◌≤◌, ◌<◌, length};
 ghost use Rattle.rules.specs.Network as rules;
-ghost use Rattle.theorems.specs.Weights.{GoodWeight};
 ghost use Rattle.nodes.specs.Terms.{terms_in, GoodTerms};
 ghost use Rattle.nodes.specs.View.{given, lut_node, terms_seen};
 

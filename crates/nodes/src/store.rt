@@ -1,5 +1,5 @@
 // The store of a network's nodes.
-ghost use Rattle.std.specs.Prelude.{◌≡◌, [], ◌∷◌, ◌++◌, ◌≤◌, ◌<◌, length};
+ghost use Rattle.std.specs.Prelude.{◌≡◌, [], ◌≤◌, ◌<◌, length};
 ghost use Rattle.rules.specs.Network.{depths};
 ghost use Rattle.nodes.specs.View.{nodes_of, depths_of, AllFine, AllFine_prop};
 
@@ -7,8 +7,8 @@ use crate::node::LutNode;
 use crate::number::Number;
 use arrayvec::ArrayVec;
 
-// A node, how many bootstraps lie one behind another up to it, and the centre of its table (of a node that has none 0: an Option
-// would take a byte more).
+// A node, how many bootstraps lie one behind another up to it, and the centre of its table. Of a node that has none it is 0, as the definition `node_centre`
+// has it: an Option, which takes a byte more, would be no plainer.
 // The centre is not in the node: nodes are shared where they are `==`, and a bootstrap's equality is that of its source and its table alone.
 #[derive(Drop, Default)]
 pub struct Stored {
@@ -28,7 +28,7 @@ pub struct Store {
 }
 
 impl Store {
-    ghost use Rattle.std.specs.Prelude.{◌≡◌, [], ◌∷◌, ◌++◌, ◌≤◌, ◌<◌, length};
+    ghost use Rattle.std.specs.Prelude.{◌≡◌, [], ◌≤◌, ◌<◌, length};
     ghost use Rattle.rules.specs.Network.{node_at, depth, weight_of};
     ghost use Rattle.nodes.specs.View.{Fine, lut_node, table_in};
     ghost use Rattle.nodes.specs.Store.{store_of, centre_in, Adds};

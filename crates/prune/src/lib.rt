@@ -1,7 +1,7 @@
 // What outputs need of the nodes: marks, and the numbers that the kept ones get. It leans on `nodes`.
 #![tactic(auto)]
 
-ghost use Rattle.std.specs.Prelude.{◌≡◌, ◌≤◌, ◌<◌, length};
+ghost use Rattle.std.specs.Prelude.{◌≤◌, ◌<◌, length};
 ghost use Rattle.rules.specs.NetworkText.{sources};
 ghost use Rattle.rules.specs.Store.{needs, wanted_below};
 ghost use Rattle.nodes.specs.Store.{store_of};

@@ -1,10 +1,9 @@
 -- Known entries as the definitions speak of them: by their numbers, 2 for unknown.
 use Rattle.std.specs.Prelude as P
-use Rattle.std.specs.Prelude.{◌≡◌, refl, List, [], ◌∷◌, map, ℕ, zero, suc, ◌<◌, ◌≤◌, length, get_or, set, take, Some, None}
+use Rattle.std.specs.Prelude.{◌≡◌, refl, List, [], ◌∷◌, map, ℕ, zero, suc, ◌<◌, ◌≤◌, length, get_or, take, Some, None}
 use Rattle.std.proofs.Common.{ap, ap₂, ◌∙◌, arith}
 use Rattle.std.proofs.Math.Option.{Option, none, some}
-use Rattle.std.proofs.Math.Seq.{take-set-lt}
-use Rattle.std.proofs.lemmas.List.{map-set, take-map, length-map}
+use Rattle.std.proofs.lemmas.List.{take-map, length-map}
 use Rattle.laws.specs.Lists.{map_at}
 use Rattle.rules.specs.declared.Entry.{Entry}
 use Rattle.rules.specs.declared.Entry.TheVariants.{Zero, One, Unknown}
@@ -77,7 +76,3 @@ number_at known i d h = map_at number_of_entry known i d 0 h
 
 pub entry_at : (known : List Entry) (i : ℕ) (d : Entry) → i < length known → entry_of (get_or (numbers known) i 0) ≡ get_or known i d
 entry_at known i d h = ap entry_of (number_at known i d h) ∙ entry_back (get_or known i d)
-
--- one entry of the first n written
-pub number_set : (n : ℕ) (known : List Entry) (k : ℕ) (x : Entry) → k < n → numbers (take n (set known k x)) ≡ set (numbers (take n known)) k (number_of_entry x)
-number_set n known k x h = ap numbers (take-set-lt n known k x h) ∙ map-set number_of_entry (take n known) k x

@@ -21,7 +21,7 @@ use Rattle.linear.specs.Span.{within_total}
 use Rattle.theorems.specs.LinearTables.{total}
 use Rattle.theorems.specs.Weights.{weighted_norm}
 use Rattle.compose.specs.declared.basis.Basis.{Basis}
-use Rattle.compose.specs.Basis.{lefts, rights}
+use Rattle.compose.specs.Basis.{lefts, rights, lefts_long, rights_long}
 use Rattle.scale_pair.specs.declared.pair.Pair.{Pair}
 use Rattle.merged_rows.specs.MergedIntegers.{zip_with_length, zip_with_at}
 use Rattle.merged_rows.specs.MergedValues.{combined, merged_value}
@@ -35,8 +35,8 @@ pub record Rows (left right : List ℤ) : Type 0 where
   pub rights : total right ≤ 31
 
 -- Those of a basis are such rows.
-pub basis_rows : (b : Basis) (left right : List ℤ) → left ≡ lefts b → right ≡ rights b → length left ≡ b.n → length right ≡ b.n → Rows left right
-basis_rows b left right p q e f = record { few = rw e b.few; even = f ∙ sym e; lefts = rw p b.narrow_left; rights = rw q b.narrow_right }
+pub basis_rows : (b : Basis) → Rows (lefts b) (rights b)
+basis_rows b = record { few = rw (lefts_long b) b.few; even = rights_long b ∙ sym (lefts_long b); lefts = b.narrow_left; rights = b.narrow_right }
 
 -- Scales within the spans.
 pub record Scaling (a b : ℤ) : Type 0 where

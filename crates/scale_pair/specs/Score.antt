@@ -15,7 +15,7 @@ use Rattle.scale_pair.specs.declared.score.Score.{Score}
 
 -- reuse, span, norm, energy, a, b
 unfoldable pub rank_list : Rank → List ℤ
-rank_list r = pos r.reuse ∷ pos r.span ∷ pos r.norm ∷ r.energy ∷ r.a ∷ r.b ∷ []
+rank_list r = pos r.reuse ∷ pos r.span ∷ pos r.norm ∷ pos r.energy ∷ r.a ∷ r.b ∷ []
 
 unfoldable pub score_list : Score → List ℤ
 score_list s = rank_list s.rank

@@ -10,7 +10,7 @@ pub struct Rank {
     pub reuse: usize,
     pub span: usize,
     pub norm: u64,
-    pub energy: i64,
+    pub energy: u64,
     pub a: i64,
     pub b: i64,
 }

@@ -161,12 +161,12 @@ module _ (s : Settings) (nodes : List LutNode) (support : List ℕ) (left right 
       unfolding known_entries
       known-first k e = enter-first (least all) all truth (span all) h inside k e
 
-    energy_is : energy_by m c ≡ pos (energy all)
+    energy_is : energy_by m c ≡ energy all
     unfolding energy_by measures merged merged_row
     energy_is =
-        ap (λ (z : Moments). quot_z (by_moments a b z.xx z.xy z.yy) (divisor (merged_row a b L R) *ℤ divisor (merged_row a b L R)))
+        ap (λ (z : Moments). nat_abs (quot_z (by_moments a b z.xx z.xy z.yy) (divisor (merged_row a b L R) *ℤ divisor (merged_row a b L R))))
         (moments ∙ moments_compacted (linear_table L) (linear_table R) truth xs ys ts counts stands)
-        ∙ sym (energy_by_moments a b L R even)
+        ∙ ap nat_abs (sym (energy_by_moments a b L R even))
 
     abbrev evaluated_one : Candidate
     evaluated_one = record { score = score s nodes (scales a b) C; cone = C }
@@ -179,7 +179,7 @@ module _ (s : Settings) (nodes : List LutNode) (support : List ℕ) (left right 
     unfolding score score_list rank_list score_of reuse_of reuse_cost linear_of values terms cone_span cone_by measures merged scales
     one_is known =
         ap₂ {C = Candidate}
-        (λ (e : ℤ) (k : Cone). record { score = pos (reuse_cost s nodes C) ∷ pos (span all) ∷ pos (weighted_norm ws cs) ∷ e ∷ a ∷ b ∷ []; cone = k })
+        (λ (e : ℕ) (k : Cone). record { score = pos (reuse_cost s nodes C) ∷ pos (span all) ∷ pos (weighted_norm ws cs) ∷ pos e ∷ a ∷ b ∷ []; cone = k })
         energy_is cone_is
         ∙ ap {B = Candidate} (λ n. record { score = pos (reuse_cost s nodes C) ∷ pos (span all) ∷ pos n ∷ pos (energy all) ∷ a ∷ b ∷ []; cone = C }) (sym norm_is)
 

@@ -1,6 +1,6 @@
 -- The pairs of each policy, and what is found among them.
 use Rattle.std.specs.Prelude as P
-use Rattle.std.specs.Prelude.{None, IfSome, ◌≡◌, refl, Bool, ℕ, zero, suc, ◌+◌, ◌*◌, ◌≤◌, ◌<◌, ◌^◌, eqb, ℤ, pos, nat_abs, neg_ℤ, ◌+ℤ◌, ◌-ℤ◌, length, take}
+use Rattle.std.specs.Prelude.{None, IfSome, ◌≡◌, refl, Bool, ℕ, zero, suc, ◌+◌, ◌*◌, ◌≤◌, ◌<◌, ◌^◌, eqb, ℤ, pos, neg_ℤ, ◌+ℤ◌, ◌-ℤ◌, length, take}
 use Rattle.std.proofs.Math.Path.{sym, ap, ap₂, subst}
 use Rattle.std.proofs.Common.{◌∙◌, lt-ltb, pow_pos}
 use Rattle.std.proofs.Math.Bool.{true, false}

@@ -1,6 +1,6 @@
 -- The search over scale pairs, pair by pair, as the code holds it.
 use Rattle.std.specs.Prelude as P
-use Rattle.std.specs.Prelude.{Some, None, ◌≡◌, ℕ, ◌+◌, ◌^◌, ◌≤◌, ◌<◌, ℤ, pos, nat_abs, ◌-ℤ◌, ◌*ℤ◌, ◌≤ℤ◌, ◌<ℤ◌, length, get_or, take, drop, replicate}
+use Rattle.std.specs.Prelude.{Some, None, ◌≡◌, ℕ, ◌^◌, ◌≤◌, ◌<◌, ℤ, pos, nat_abs, ◌-ℤ◌, ◌*ℤ◌, ◌≤ℤ◌, ◌<ℤ◌, length, get_or, take, drop, replicate}
 use mathlib.Core.List.{List, [], map, zip_with}
 use Rattle.std.proofs.Math.Option.{Option, none, some}
 use Rattle.std.specs.Int.Signed.{quot_z}
@@ -23,7 +23,7 @@ use Rattle.search.specs.declared.context.Context as Code
 use Rattle.search.specs.declared.Ranges.{Ranges}
 use Rattle.merged_rows.specs.EnergyMoments.{by_moments}
 use Rattle.merged_rows.specs.MergedValues.{merged_value}
-use Rattle.scale_pair.specs.Pair.{Rows, Scaling, Level, level_of, merged, pair_of}
+use Rattle.scale_pair.specs.Pair.{Scaling, Level, level_of, merged, pair_of}
 use Rattle.scale_pair.specs.Score.{better_score}
 use Rattle.search.specs.Walk.{walk, count_to, OneOf}
 
@@ -51,8 +51,8 @@ unfoldable pub entered_from : Pair → List ℤ → List ℤ → List ℕ → �
 entered_from c xs ys ts i known = enter c.low (drop i (row_values c xs ys)) (drop i ts) known
 
 -- The score of a pair with these known entries.
-unfoldable pub energy_by : Moments → Pair → ℤ
-energy_by m c = quot_z (by_moments c.a c.b m.xx m.xy m.yy) (c.divisor *ℤ c.divisor)
+unfoldable pub energy_by : Moments → Pair → ℕ
+energy_by m c = nat_abs (quot_z (by_moments c.a c.b m.xx m.xy m.yy) (c.divisor *ℤ c.divisor))
 
 -- The cone of some coefficients; its truths do not matter to the reuse.
 unfoldable pub cone_by : List ℕ → List ℤ → List ℕ → Cone
@@ -103,9 +103,8 @@ pub record ValuesIn (x y : ℤ) (left right : List ℤ) : Type 0 where
   pub x_is : get_or (linear_table left) at (pos 0) ≡ x
   pub y_is : get_or (linear_table right) at (pos 0) ≡ y
 
--- The rows are some of those of two cones within the limits.
+-- The rows are some of those of both cones.
 pub record Ready (k : Code.Context) (xs ys : List ℤ) (ts : List ℕ) : Type 0 where
-  pub rows : Rows (lefts k.basis.now) (rights k.basis.now)
   pub short : length xs ≤ 2048
   pub y_long : length ys ≡ length xs
   pub t_long : length ts ≡ length xs

@@ -1,6 +1,6 @@
 -- A step of the search: a pair that is no candidate, one whose rows clash, and one that is considered.
 use Rattle.std.specs.Prelude as P
-use Rattle.std.specs.Prelude.{Some, None, Bool, ◌&&◌, ◌≡◌, true, false, List, [], ◌∷◌, ℕ, zero, suc, ◌+◌, ◌≤◌, ◌<◌, leb, ℤ, ◌-ℤ◌, set, drop, replicate, ◌≤ℤ◌}
+use Rattle.std.specs.Prelude.{Some, None, Bool, ◌&&◌, ◌≡◌, true, false, List, [], ◌∷◌, ℕ, zero, suc, ◌+◌, ◌≤◌, ◌<◌, leb, ℤ, ◌-ℤ◌, set, replicate, ◌≤ℤ◌}
 use Rattle.std.proofs.Math.Path.{refl, sym, ap, ap₂, subst}
 use Rattle.std.proofs.Common.{◌∙◌, arith, pow_pos}
 use Rattle.std.proofs.Math.Option.{none, some}
@@ -34,7 +34,7 @@ use Rattle.scale_pair.specs.declared.pair.Pair.{Pair}
 use Rattle.scale_pair.specs.declared.score.Score.{Score}
 use Rattle.merged_rows.specs.MergedIntegers.{zip_with_length, zip_with_at}
 use Rattle.merged_rows.specs.MergedValues.{merged_value, merged-values}
-use Rattle.scale_pair.specs.Pair.{Rows, Scaling, merged_row, merged, weighed, measures, measured, pair_of, level_of, Level, row_small, pair_weights}
+use Rattle.scale_pair.specs.Pair.{Rows, basis_rows, Scaling, merged_row, merged, weighed, measures, measured, pair_of, level_of, Level, row_small, pair_weights}
 use Rattle.search.specs.Options.{option_by}
 use Rattle.search.specs.Search.{Levels, Context, row_values, entered_from, considered, step_of, step_at, ValuesIn, Ready, Weighs, Scored, Merges}
 use Rattle.linear.specs.Table.{table_first}
@@ -114,7 +114,7 @@ low_below l v n e h k =
     omega (arith, abs_parts (pos 0 -ℤ l), sub_parts (pos 0) l, one_part_zero (pos 0 -ℤ l), abs_parts l, one_part_zero l)
 
 -- ---- a pair that is a candidate
-module _ (k : Code.Context) (xs ys : List ℤ) (ts : List ℕ) (ready : Ready k xs ys ts) (ws : List ℕ) (a b : ℤ) (scaling : Scaling a b) where
+module _ (k : Code.Context) (ws : List ℕ) (a b : ℤ) (scaling : Scaling a b) where
   abbrev s : Settings
   s = k.settings
 
@@ -123,6 +123,9 @@ module _ (k : Code.Context) (xs ys : List ℤ) (ts : List ℕ) (ready : Ready k 
 
   abbrev right : List ℤ
   right = rights k.basis.now
+
+  rows : Rows left right
+  rows = basis_rows k.basis.now
 
   abbrev cs : List ℤ
   cs = merged_row a b left right
@@ -133,16 +136,16 @@ module _ (k : Code.Context) (xs ys : List ℤ) (ts : List ℕ) (ready : Ready k 
   all_long : length all ≡ length (linear_table left)
   unfolding merged_row
   all_long =
-      ap length (merged-values a b left right ready.rows.even)
-      ∙ zip_with_length (merged_value a b (divisor cs)) (linear_table left) (linear_table right) (rw (linear_table-length right, linear_table-length left, ready.rows.even))
+      ap length (merged-values a b left right rows.even)
+      ∙ zip_with_length (merged_value a b (divisor cs)) (linear_table left) (linear_table right) (rw (linear_table-length right, linear_table-length left, rows.even))
 
   -- a row's value is one of all
   value_at : (i : ℕ) (x y : ℤ) → i < length (linear_table left) → get_or (linear_table left) i (pos 0) ≡ x → get_or (linear_table right) i (pos 0) ≡ y
       → get_or all i (pos 0) ≡ merged_value a b (divisor cs) x y
   unfolding merged_row
   value_at i x y h ex ey =
-      ap (λ l. get_or l i (pos 0)) (merged-values a b left right ready.rows.even)
-      ∙ zip_with_at (merged_value a b (divisor cs)) (linear_table left) (linear_table right) i (pos 0) (pos 0) (pos 0) (rw (linear_table-length right, linear_table-length left, ready.rows.even)) h
+      ap (λ l. get_or l i (pos 0)) (merged-values a b left right rows.even)
+      ∙ zip_with_at (merged_value a b (divisor cs)) (linear_table left) (linear_table right) i (pos 0) (pos 0) (pos 0) (rw (linear_table-length right, linear_table-length left, rows.even)) h
       ∙ ap₂ (merged_value a b (divisor cs)) ex ey
 
   abbrev here : Pair
@@ -165,7 +168,7 @@ module _ (k : Code.Context) (xs ys : List ℤ) (ts : List ℕ) (ready : Ready k 
       record {
         scaling = scaling;
         divides = divisor_not_zero cs;
-        divisor-small = omega (arith, divisor_abs cs, gcds_small 1984 0 cs (omega arith) (row_small left right ready.rows a b scaling));
+        divisor-small = omega (arith, divisor_abs cs, gcds_small 1984 0 cs (omega arith) (row_small left right rows a b scaling));
         low_small = low_small (fits-span h);
         narrow = fits-span h;
       }
@@ -176,10 +179,10 @@ module _ (k : Code.Context) (xs ys : List ℤ) (ts : List ℕ) (ready : Ready k 
 
   module _ (x y : ℤ) (r : ValuesIn x y left right) where
     x_near : nat_abs x ≤ 31
-    x_near = subst (λ z. nat_abs z ≤ 31) r.x_is (omega (arith, table_within_total left r.at, ready.rows.lefts))
+    x_near = subst (λ z. nat_abs z ≤ 31) r.x_is (omega (arith, table_within_total left r.at, rows.lefts))
 
     y_near : nat_abs y ≤ 31
-    y_near = subst (λ z. nat_abs z ≤ 31) r.y_is (omega (arith, table_within_total right r.at, ready.rows.rights))
+    y_near = subst (λ z. nat_abs z ≤ 31) r.y_is (omega (arith, table_within_total right r.at, rows.rights))
 
     level_measured : fit ≡ true → Level here x y
     unfolding measures
@@ -219,8 +222,8 @@ module _ (k : Code.Context) (xs ys : List ℤ) (ts : List ℕ) (ready : Ready k 
     pub merges : Merges left right c
     merges = subst (Merges left right) (sym measured_is.0) merges_measured
 
-    pub levels : Levels c xs ys ts
-    levels =
+    pub levels : (xs ys : List ℤ) (ts : List ℕ) → Ready k xs ys ts → Levels c xs ys ts
+    levels xs ys ts ready =
         record {
           short = ready.short;
           y_long = ready.y_long;

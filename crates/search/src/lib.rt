@@ -4,7 +4,7 @@
 
 pub mod context;
 
-ghost use Rattle.std.specs.Prelude.{◌≡◌, List, ℕ, ◌≤◌, ◌<◌, ◌^◌, nat_abs, ◌*ℤ◌, length, take};
+ghost use Rattle.std.specs.Prelude.{◌≡◌, List, ℕ, ◌≤◌, ◌<◌, ◌^◌, nat_abs, ◌*ℤ◌, take};
 ghost use Rattle.std.proofs.Math.Option.{some};
 ghost use Rattle.rules.specs.Builder.{completable};
 ghost use Rattle.rules.specs.Cone.{Cone};
@@ -71,11 +71,11 @@ fn energy_sum(moments: Moments, a: i64, b: i64) -> i64
 
 // EnergyMoments::energy over the divisor's square.
 #[tactic(auto, using(laws::specs::Integer::abs_mul, laws::specs::Integer::fits_abs), unfolding(crate::specs::Search::energy_by))]
-fn energy_of(moments: Moments, pair: Pair) -> i64
+fn energy_of(moments: Moments, pair: Pair) -> u64
     requires { Small moments × Scored pair }
     ensures { result ≡ energy_by moments pair }
 {
-    energy_sum(moments, pair.a, pair.b) / (pair.divisor * pair.divisor)
+    (energy_sum(moments, pair.a, pair.b) / (pair.divisor * pair.divisor)).unsigned_abs()
 }
 
 // The sum of a pair: its values less the least one.
@@ -137,7 +137,7 @@ fn considered(
 
 // search_candidate: the least score among the scale pairs, norms by the sources' weights, if there is one.
 fn search(context: Context, ranges: Ranges, xs: &[i32], ys: &[i32], truth: &[u8]) -> Option<Score>
-    requires { Ready context xs.now ys.now truth.now × (InSpans ranges × (length (lefts context.basis.now) ≡ context.basis.now.n)) }
+    requires { Ready context xs.now ys.now truth.now × InSpans ranges }
     ensures { result ≡ walk_all (step_at (context_of context.entry) xs.now ys.now truth.now) ranges None }
 {
     let weights = weights_of(context.store, context.basis.sources());
@@ -149,8 +149,7 @@ fn search(context: Context, ranges: Ranges, xs: &[i32], ys: &[i32], truth: &[u8]
                 continue 'pair;
             };
             let mut known = [Entry::Unknown; 32];
-            // By the index: over a zip of the three slices a small program with this loop, 256 rows, took 1.35 times as long. The bar is the ratio
-            // to the Rust that tools/bench measures, and most of a search's time goes here.
+            // By the index: `((&x, &y), &bit)` over two zips is no plainer, and a small program with that loop, 256 rows, took 1.35 times as long.
             for i in 0..xs.len() {
                 let at = pair.level(xs[i], ys[i]);
                 let Some(entry) = rotation::with_truth(known[at], truth[i]) else {

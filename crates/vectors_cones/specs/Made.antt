@@ -28,7 +28,7 @@ use Rattle.compose.specs.Basis.{few_rows}
 use Rattle.linear.specs.Span.{within_total}
 use Rattle.theorems.specs.LinearTables.{span_table}
 use Rattle.theorems.specs.ConeValues.{linear_table-length}
-use Rattle.cone.specs.Fields.{cone_from, Fits, truths, truths-length, truths_entry}
+use Rattle.cone.specs.Fields.{cone_from, Form, Fits, truths, truths-length, truths_entry}
 use Rattle.cone.specs.View.{cone_of, sources_near}
 use Rattle.cone.specs.Sources.{Below}
 use Rattle.nodes.specs.Store.{store_of}
@@ -53,13 +53,8 @@ module _ (m : ℕ) (l nodes : List ℕ) (is : nodes ≡ m ∷ l) where
 unfoldable pub rows_of : ConeRows → rules.Cone
 rows_of c = record { support = take c.n c.support; coefficients = take c.n c.coefs; truth = take (2 ^ c.n) c.truth }
 
-pub record IsForm (n : ℕ) (support : List ℕ) (coefs : List ℤ) : Type 0 where
-  pub different : all_different (take n support) ≡ true
-  pub near : (i : ℕ) → get_or (take n support) i 0 < 672
-  pub narrow : span (linear_table (take n coefs)) ≤ 32
-
 -- where each value has one truth, the entries at the values are the truths
-module _ (n : ℕ) (support : List ℕ) (coefs : List ℤ) (truth : List ℕ) (known : List Entry) (few : n ≤ 11) (form : IsForm n support coefs) (c11 : length coefs ≡ 11) (t2048 : length truth ≡ 2048)
+module _ (n : ℕ) (support : List ℕ) (coefs : List ℤ) (truth : List ℕ) (known : List Entry) (few : n ≤ 11) (form : Form n support coefs) (c11 : length coefs ≡ 11) (t2048 : length truth ≡ 2048)
     (one : known_entries (linear_table (take n coefs)) (take (2 ^ n) truth) ≡ some (numbers (take (span (linear_table (take n coefs))) known))) where
   rows_are : length (linear_table (take n coefs)) ≡ 2 ^ n
   rows_are = linear_table-length (take n coefs) ∙ ap (λ k. 2 ^ k) (length-take-le n coefs (omega (arith, few)))
@@ -90,9 +85,7 @@ module _ (n : ℕ) (support : List ℕ) (coefs : List ℤ) (truth : List ℕ) (k
   made =
       record {
         few = few;
-        different = form.different;
-        near = form.near;
-        narrow = form.narrow;
+        form = form;
         held = ap (known_entries (linear_table (take n coefs))) truths_are ∙ one;
       }
 

@@ -1,5 +1,5 @@
 // A cone by its rows, as the list has it, and whether it is one.
-ghost use Rattle.std.specs.Prelude.{◌≡◌, ℕ, ◌≤◌, ◌<◌, ◌^◌, length, get_or, take, OnSome, IfSome};
+ghost use Rattle.std.specs.Prelude.{◌≡◌, ℕ, ◌≤◌, ◌<◌, ◌^◌, length, get_or, IfSome};
 ghost use Rattle.std.specs.Bool.{OnTrue};
 ghost use Rattle.rules.specs.Builder.{known_entries};
 ghost use Rattle.rules.specs.Cone.{linear_table};
@@ -91,14 +91,15 @@ impl<'a> FromTokens<'a> for ConeRows {
 }
 
 impl ConeRows {
-    ghost use Rattle.std.specs.Prelude.{◌≡◌, ◌≤◌, length, OnSome, IfSome};
+    ghost use Rattle.std.specs.Prelude.{◌≡◌, ◌≤◌, length, IfSome};
     ghost use Rattle.std.specs.Bool.{OnTrue};
     ghost use Rattle.cone.specs.View.{cone_of};
-    ghost use Rattle.vectors_cones.specs.Made.{rows_of, IsForm};
+    ghost use Rattle.cone.specs.Fields.{Form};
+    ghost use Rattle.vectors_cones.specs.Made.{rows_of};
 
     // What has to hold of the sources and coefficients.
     fn is_form(&self) -> bool
-        ensures { OnTrue result (IsForm self.now.n self.now.support self.now.coefs) }
+        ensures { OnTrue result (Form self.now.n self.now.support self.now.coefs) }
     {
         let nodes = &self.support[..self.n];
         are_different(nodes) && are_near(nodes) && is_narrow(&self.coefs[..self.n])

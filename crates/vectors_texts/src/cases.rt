@@ -1,6 +1,7 @@
 // A case is a header line, LEN bytes of text and a newline; the header is `A LEN`, `C LEN`, `R LEN BITS COUNT` or
 // `N LEN BITS COUNT`, BITS a digit for each byte handed in as a bit or `-` for none, COUNT the length of the lent buffer, filled with 7.
 use crate::circuits::show_circuit;
+use circuit::Circuit;
 use rules::{RunError, Stats};
 use std::fmt::Display;
 use std::io::Read;
@@ -114,8 +115,9 @@ fn answer_admission(rt: &impl Print, text: &[u8]) -> io::Result<()> {
 }
 
 fn answer_reader(rt: &impl Print, text: &[u8]) -> io::Result<()> {
-    match circuit::read(text) {
-        Ok(c) => show_circuit(rt, &c),
+    let mut circuit = Circuit::new();
+    match circuit::read(text, &mut circuit) {
+        Ok(settings) => show_circuit(rt, settings, &circuit),
         Err(refusal) => println!(rt; "{}", Numbered(refusal)),
     }
 }

@@ -61,9 +61,9 @@ fn show_output(rt: &impl Print, output: Output<'_>) -> io::Result<()> {
     print!(rt; ")")
 }
 
-pub fn show_circuit(rt: &impl Print, c: &Circuit<'_>) -> io::Result<()> {
+pub fn show_circuit(rt: &impl Print, s: Settings, c: &Circuit<'_>) -> io::Result<()> {
     print!(rt; "0 ")?;
-    show_settings(rt, c.settings)?;
+    show_settings(rt, s)?;
     for &input in &c.inputs {
         show_input(rt, input)?;
     }

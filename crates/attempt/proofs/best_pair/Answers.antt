@@ -9,12 +9,12 @@ use Rattle.attempt.proofs.best_pair.Goals.{After-compact_rows-n}
 in_rows : (c : After-compact_rows-n) → InRows c.compact_rows-n.result c.compact_rows-n.new.xs c.compact_rows-n.new.ys c.compact_rows-n.new.counts
 in_rows c =
     let A = c.args in
-    trial_in_rows A.s A.store.now c.requires.0.left c.requires.0.right A.basis.now c.requires.0.trial A.rows A.xs.now A.ys.now A.truth.now c.requires.1.0 c.compact_rows-n.result c.compact_rows-n.new.xs c.compact_rows-n.new.ys c.compact_rows-n.new.truth c.compact_rows-n.new.counts c.compact_rows-n.ensures.same c.compact_rows-n.ensures.moved
+    trial_in_rows A.basis.now A.rows A.xs.now A.ys.now A.truth.now c.requires.1.0 c.compact_rows-n.result c.compact_rows-n.new.xs c.compact_rows-n.new.ys c.compact_rows-n.new.truth c.compact_rows-n.new.counts c.compact_rows-n.ensures.same c.compact_rows-n.ensures.moved
 
 pub compact_rows-n-requires : goal.compact_rows-n-requires
 compact_rows-n-requires c =
     let A = c.args in
-    trial_framed A.s A.store.now c.requires.0.left c.requires.0.right A.basis.now c.requires.0.trial A.rows A.xs.now A.ys.now A.truth.now c.requires.1.0 c.frame_of.result _ c.frame_of.ensures refl
+    trial_framed A.basis.now A.rows A.xs.now A.ys.now A.truth.now c.requires.1.0 c.frame_of.result _ c.frame_of.ensures refl
 
 pub energy_moments-requires : goal.energy_moments-requires
 energy_moments-requires c = in_rows (goal.at.energy_moments-requires c).After-compact_rows-n
@@ -25,18 +25,17 @@ invariant_of-context c =
     let l = c.requires.0 in
     record {
       narrow = trial_small A.s A.store.now l.left l.right A.basis.now l.trial;
-      small = subst Small (sym c.energy_moments.ensures) (trial_moments A.s A.store.now l.left l.right A.basis.now l.trial A.rows A.xs.now A.ys.now A.truth.now c.requires.1.0 c.compact_rows-n.result c.compact_rows-n.new.xs c.compact_rows-n.new.ys c.compact_rows-n.new.truth c.compact_rows-n.new.counts c.compact_rows-n.ensures.same c.compact_rows-n.ensures.moved);
+      small = subst Small (sym c.energy_moments.ensures) (trial_moments A.basis.now A.rows A.xs.now A.ys.now A.truth.now c.requires.1.0 c.compact_rows-n.result c.compact_rows-n.new.xs c.compact_rows-n.new.ys c.compact_rows-n.new.truth c.compact_rows-n.new.counts c.compact_rows-n.ensures.same c.compact_rows-n.ensures.moved);
       stored = trial_stored A.s A.store.now l.left l.right A.basis.now l.trial;
     }
 
 pub find_candidate-requires : goal.find_candidate-requires
 find_candidate-requires c =
     let A = c.args in
-    let l = c.requires.0 in
-    trial_ready A.s A.store.now l.left l.right A.basis.now l.trial A.rows A.xs.now A.ys.now A.truth.now c.requires.1.0 c.compact_rows-n.result c.compact_rows-n.new.xs c.compact_rows-n.new.ys c.compact_rows-n.new.truth c.compact_rows-n.new.counts c.compact_rows-n.ensures.same c.compact_rows-n.ensures.moved _ refl
+    trial_ready A.basis.now A.rows A.xs.now A.ys.now A.truth.now c.requires.1.0 c.compact_rows-n.result c.compact_rows-n.new.xs c.compact_rows-n.new.ys c.compact_rows-n.new.truth c.compact_rows-n.new.counts c.compact_rows-n.ensures.same c.compact_rows-n.ensures.moved _ refl
 
 pub returns : goal.returns
 returns c left right t =
     let A = c.args in
     c.find_candidate.ensures (cone_of left) (cone_of right) (take A.rows A.truth.now) (take c.compact_rows-n.result c.compact_rows-n.new.counts)
-    (trial_attempted A.s A.store.now left right A.basis.now t A.rows A.xs.now A.ys.now A.truth.now c.requires.1.0 c.compact_rows-n.result c.compact_rows-n.new.xs c.compact_rows-n.new.ys c.compact_rows-n.new.truth c.compact_rows-n.new.counts c.compact_rows-n.ensures.same c.compact_rows-n.ensures.moved c.requires.1.1 _ c.energy_moments.ensures)
+    (trial_attempted A.s A.store.now left right A.basis.now t A.rows A.xs.now A.ys.now A.truth.now c.requires.1.0 c.compact_rows-n.result c.compact_rows-n.new.xs c.compact_rows-n.new.ys c.compact_rows-n.new.truth c.compact_rows-n.new.counts c.compact_rows-n.ensures.same c.requires.1.1 _ c.energy_moments.ensures)

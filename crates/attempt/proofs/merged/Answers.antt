@@ -17,11 +17,11 @@ coefs_are c =
 pub invariant_of-simplify_cone : goal.invariant_of-simplify_cone
 invariant_of-simplify_cone c =
     let p = (goal.at.invariant_of-simplify_cone c).After-prepare_coefficients-coefs in
-    let f = made_fits c.args.basis.now c.args.best c.requires c.prepare_coefficients-coefs.result c.requires.long (coefs_are p) in
-    record { support_long = search rules; coefs_long = search rules; entries_long = search rules; few = f.few; different = f.different; near = f.near; narrow = f.narrow; held = f.held }
+    let f = made_fits c.args.basis.now c.args.best c.requires c.prepare_coefficients-coefs.result (coefs_are p) in
+    record { support_long = search rules; coefs_long = search rules; entries_long = search rules; few = f.few; different = f.form.different; near = f.form.near; narrow = f.form.narrow; held = f.held }
 
 pub returns : goal.returns
 unfolding cone_of
 returns c =
     let p = (goal.at.returns c).After-prepare_coefficients-coefs in
-    c.simplify_cone.ensures ∙ ap simplify_cone (made_is c.args.basis.now c.args.best c.requires c.prepare_coefficients-coefs.result c.requires.long (coefs_are p))
+    c.simplify_cone.ensures ∙ ap simplify_cone (made_is c.args.basis.now c.args.best c.requires c.prepare_coefficients-coefs.result (coefs_are p))

@@ -4,7 +4,7 @@ use Rattle.circuit.specs.Reading.{Reads}
 use Rattle.circuit.proofs.read.Given as goal
 
 abbrev pub invariant-loop-rest : goal.invariant-loop-rest
-invariant-loop-rest l = Reads l.text l.line (prefix_of l.prefix) l.rest
+invariant-loop-rest l = Reads l.text l.line (prefix_of l.circuit) l.rest
 
 abbrev pub decreases-loop-rest : goal.decreases-loop-rest
 decreases-loop-rest l = length l.rest

@@ -1,4 +1,4 @@
-use Rattle.std.proofs.Common.{◌≡◌, sym, ap, ap₂, ◌∙◌, List, map, ℕ, ◌≤◌, ℤ, length, take, true, arith}
+use Rattle.std.proofs.Common.{◌≡◌, sym, ap, ap₂, ◌∙◌, List, map, ℕ, ◌≤◌, ℤ, length, take, true, arith, rules}
 use Rattle.rules.specs.Cone as rules
 use Rattle.rules.specs.Store.{coefficient_of}
 use Rattle.rules.specs.Composition.{union_support}
@@ -49,6 +49,8 @@ pub invariant_of-result : goal.invariant_of-result
 invariant_of-result c =
     let p = (goal.at.invariant_of-result c).After-coefficients_over-2 in
     record {
+      left_long = search rules;
+      right_long = search rules;
       few = rw (count p) c.requires;
       narrow_left = narrow_over _ (different p) c.args.left _ (lefts p);
       narrow_right = narrow_over _ (different p) c.args.right _ (rights p);

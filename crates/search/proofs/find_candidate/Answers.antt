@@ -1,4 +1,4 @@
-use Rattle.std.proofs.Common.{◌≡◌, sym, ap, subst, ◌∙◌, List, ℕ, ◌≤◌, ℤ, length}
+use Rattle.std.proofs.Common.{◌≡◌, sym, ap, subst, ◌∙◌, List, ℕ, ◌≤◌, ℤ}
 use Rattle.std.proofs.lemmas.Bool.Decides.{Decides-int_eq}
 use Rattle.std.proofs.lemmas.Slice.Eq.{slice_eq-Decides}
 use Rattle.rules.specs.Cone.{linear_table}
@@ -29,7 +29,7 @@ search-requires c =
     let left = few _ _ (read_span _ _ (lefts b) c.linear_span.ensures c.left-left.ensures.are) (lefts_span b) in
     let right = few _ _ (read_span _ _ (rights b) c.linear_span-2.ensures c.right-right.ensures.are) (rights_span b) in
     let spans = subst InSpans (sym c.ranges_of-ranges.ensures) (ranges_in c.eq-same_form.result c.args.context.settings.policy _ _ left right) in
-    (c.requires, (spans, ap length (sym c.left-left.ensures.are) ∙ c.left-left.ensures.count))
+    (c.requires, spans)
 
 pub returns : goal.returns
 returns c left right all counts h =

@@ -3,10 +3,10 @@ use Rattle.std.specs.Int.Signed.{lt_z}
 use Rattle.laws.specs.Integer.{plus, minus, ints, add_parts, fits_abs, abs_add, read_back-at}
 use Rattle.rotation.specs.Entries.{numbers}
 use Rattle.scale_pair.specs.declared.score.Score.{Score}
-use Rattle.compose.specs.Basis.{lefts, rights}
+use Rattle.compose.specs.Basis.{lefts, rights, lefts_long}
 use Rattle.cone.specs.Sources.{AllBelow}
 use Rattle.nodes.specs.Store.{store_of}
-use Rattle.scale_pair.specs.Pair.{Scaling}
+use Rattle.scale_pair.specs.Pair.{Scaling, basis_rows}
 use Rattle.search.specs.Search.{Context, context_of, Weighs, Levels, Scored, Merges, step_at, step_of, near_in, walk_all}
 use Rattle.search.specs.Steps.{step_is, step_none, step_clashed, step_considered, rows_turn, rows_clash, rows_end, scored, merges, levels}
 use Rattle.search.specs.Walk.{walk_row, walk, count_to, row_turn, row_end, walk_turn, walk_end}
@@ -45,7 +45,7 @@ module _ (c : In-pair) where
   scales : Scaling scale_a scale_b
   scales =
       let r = c.args.ranges in
-      let w = c.requires.1.0 in
+      let w = c.requires.1 in
       record {
         first = near_in r.a.start r.a.end scale_a w.a_start w.a_end c.loop-a.invariant.0 (before scale_a r.a.end w.a_end c.loop-a-test.true);
         second = near_in r.b.start r.b.end scale_b w.b_start w.b_end c.pair.invariant.0 (before scale_b r.b.end w.b_end c.pair-test.true);
@@ -68,7 +68,7 @@ module _ (c : After-evaluate) (s : Scaling (to_z w64 c.loop-a.a-bits) (to_z w64 
 
   -- as many sources as coefficients
   even : length (take c.args.context.basis.now.n c.args.context.basis.now.support) ≡ length (lefts c.args.context.basis.now)
-  even = ap length (sym c.sources.ensures.are) ∙ c.sources.ensures.count ∙ sym c.requires.1.1
+  even = ap length (sym c.sources.ensures.are) ∙ c.sources.ensures.count ∙ sym (lefts_long c.args.context.basis.now)
 
   weighs : Weighs (store_of c.args.context.store.now) (take c.args.context.basis.now.n c.args.context.basis.now.support) c.weights_of-weights.result
   weighs =
@@ -86,8 +86,8 @@ module _ (c : After-evaluate) (s : Scaling (to_z w64 c.loop-a.a-bits) (to_z w64 
       let r = c.args.ranges.b in
       let row : walk_row at_pair a (b +ℤ pos 1) (count_to (b +ℤ pos 1) r.end) best ≡ walk_row at_pair a r.start (count_to r.start r.end) c.loop-a.best =
       ap (walk_row at_pair a (b +ℤ pos 1) (count_to (b +ℤ pos 1) r.end))
-      (e ∙ step_is _ _ _ _ _ _ _ _ _ c.requires.0.rows even weighs c.evaluate.ensures)
-      ∙ row_turn at_pair a b r.end c.pair.best (before b r.end c.requires.1.0.b_end c.pair-test.true)
+      (e ∙ step_is _ _ _ _ _ _ _ _ _ (basis_rows c.args.context.basis.now) even weighs c.evaluate.ensures)
+      ∙ row_turn at_pair a b r.end c.pair.best (before b r.end c.requires.1.b_end c.pair-test.true)
       ∙ c.pair.invariant.1 in
       subst (λ n. (r.start ≤ℤ n) × (walk_row at_pair a n (count_to n r.end) best ≡ walk_row at_pair a r.start (count_to r.start r.end) c.loop-a.best))
       (sym (next_is b s.second)) (next-above r.start b c.pair.invariant.0, row)
@@ -95,13 +95,13 @@ module _ (c : After-evaluate) (s : Scaling (to_z w64 c.loop-a.a-bits) (to_z w64 
 -- ---- a pair within the limits
 module _ (c : In-Some) (scales : Scaling (to_z w64 c.loop-a.a-bits) (to_z w64 c.pair.b-bits)) where
   is_scored : Scored c.in-Some.pair
-  is_scored = scored _ _ _ _ c.requires.0 _ _ _ scales _ _ c.in-Some.is c.evaluate.ensures
+  is_scored = scored c.args.context _ _ _ scales _ _ c.in-Some.is c.evaluate.ensures
 
   is_merged : Merges (lefts c.args.context.basis.now) (rights c.args.context.basis.now) c.in-Some.pair
-  is_merged = merges _ _ _ _ c.requires.0 _ _ _ scales _ _ c.in-Some.is c.evaluate.ensures
+  is_merged = merges c.args.context _ _ _ scales _ _ c.in-Some.is c.evaluate.ensures
 
   is_level : Levels c.in-Some.pair c.args.xs.now c.args.ys.now c.args.truth.now
-  is_level = levels _ _ _ _ c.requires.0 _ _ _ scales _ _ c.in-Some.is c.evaluate.ensures
+  is_level = levels c.args.context _ _ _ scales _ _ c.in-Some.is c.evaluate.ensures _ _ _ c.requires.0
 
 pub pair-preserved-in_default : goal.pair-preserved-in_default
 pair-preserved-in_default c =
@@ -171,7 +171,7 @@ loop-a-preserved c =
     let o = c.loop-a in
     let q = c.pair in
     let r = c.args.ranges in
-    let w = c.requires.1.0 in
+    let w = c.requires.1 in
     let s = step (goal.at.loop-a-preserved c).Start in
     let a = to_z w64 o.a-bits in
     let inside = before a r.a.end w.a_end c.loop-a-test.true in
@@ -189,4 +189,4 @@ returns c =
     let o = c.loop-a in
     let r = c.args.ranges in
     let a = to_z w64 o.a-bits in
-    sym (walk_end (step (goal.at.returns c).Start) r.b.start (count_to r.b.start r.b.end) a r.a.end o.best (behind a r.a.end c.requires.1.0.a_end c.loop-a-test.false)) ∙ o.invariant.1
+    sym (walk_end (step (goal.at.returns c).Start) r.b.start (count_to r.b.start r.b.end) a r.a.end o.best (behind a r.a.end c.requires.1.a_end c.loop-a-test.false)) ∙ o.invariant.1

@@ -108,7 +108,7 @@ pub invariant_of-result : goal.invariant_of-result
 invariant_of-result c =
     let r = c.loop-source in
     let f = rebuilt_fits c.args.cone r.kept (retained (goal.at.invariant_of-result c).In-None) in
-    record { support_long = r.invariant.room.0; coefs_long = r.invariant.room.1; entries_long = c.args.cone.entries_long; few = f.few; different = f.different; near = f.near; narrow = f.narrow; held = f.held }
+    record { support_long = r.invariant.room.0; coefs_long = r.invariant.room.1; entries_long = c.args.cone.entries_long; few = f.few; different = f.form.different; near = f.form.near; narrow = f.form.narrow; held = f.held }
 
 pub returns : goal.returns
 unfolding cone_of

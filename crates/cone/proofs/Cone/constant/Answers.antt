@@ -37,7 +37,7 @@ seen v x h e = ap {B = rules.Cone} (λ (b : ℕ). record { support = []; coeffic
 pub invariant_of-result : goal.invariant_of-result
 invariant_of-result c =
     let f = fine (replicate 32 c.entry_of.result) c.args.value c.requires refl (seen c.args.value c.entry_of.result c.requires c.entry_of.ensures) in
-    record { support_long = refl; coefs_long = refl; entries_long = refl; few = f.few; different = f.different; near = f.near; narrow = f.narrow; held = f.held }
+    record { support_long = refl; coefs_long = refl; entries_long = refl; few = f.few; different = f.form.different; near = f.form.near; narrow = f.form.narrow; held = f.held }
 
 pub returns : goal.returns
 unfolding cone_of

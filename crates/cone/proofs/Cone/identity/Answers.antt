@@ -41,7 +41,7 @@ pub invariant_of-result : goal.invariant_of-result
 unfolding rules.identity rules.linear_table truth_at entry_at least least_from
 invariant_of-result c =
     let f = fine c.args.node c.requires (set (replicate 11 0) 0 c.args.node) (set (replicate 11 (pos 0)) 0 (pos 1)) (set (replicate 32 Zero) 1 One) refl refl in
-    record { support_long = refl; coefs_long = refl; entries_long = refl; few = f.few; different = f.different; near = f.near; narrow = f.narrow; held = f.held }
+    record { support_long = refl; coefs_long = refl; entries_long = refl; few = f.few; different = f.form.different; near = f.form.near; narrow = f.form.narrow; held = f.held }
 
 pub returns : goal.returns
 unfolding cone_of rules.identity rules.linear_table truth_at entry_at least least_from

@@ -15,7 +15,7 @@ made c =
 pub invariant_of-result : goal.invariant_of-result
 invariant_of-result c =
     let f = through_fits c.args.c c.args.answers c.requires c.map-known.result (made (goal.at.invariant_of-result c).After-map-known) in
-    record { support_long = c.args.c.support_long; coefs_long = c.args.c.coefs_long; entries_long = search rules; few = f.few; different = f.different; near = f.near; narrow = f.narrow; held = f.held }
+    record { support_long = c.args.c.support_long; coefs_long = c.args.c.coefs_long; entries_long = search rules; few = f.few; different = f.form.different; near = f.form.near; narrow = f.form.narrow; held = f.held }
 
 pub returns : goal.returns
 unfolding cone_of

@@ -2,6 +2,7 @@ use Rattle.std.proofs.Common.{◌≡◌, sym, ap, ◌∙◌, arith, ℕ, ℤ, po
 use Rattle.rules.specs.Cone as rules
 use Rattle.laws.specs.Integer.{plus, minus, abs_parts, sub_parts, one_part_zero, read_back-at}
 use Rattle.rules.specs.Span.{least}
+use Rattle.cone.specs.declared.Cone.{Cone}
 use Rattle.cone.specs.View.{cone_of, low_below, low_small}
 use Rattle.rotation.specs.Entries.{number_at}
 use Rattle.cone.specs.Unary.{first_row}
@@ -30,14 +31,15 @@ offset-requires c = below _ _ (low-is (goal.at.offset-requires c).After-low_of) 
 place-is : (c : After-offset) → c.offset.result ≡ nat_abs (pos 0 -ℤ least (rules.values (cone_of c.args.c)))
 place-is c = place _ _ _ c.offset.ensures.0 (read_back-at w32 c.low_of.result c.low_of.type_inv ∙ c.low_of.ensures)
 
-inside : (c : After-offset) → c.offset.result < 32
-inside c = omega (arith, place-is c, opposite (least (rules.values (cone_of c.args.c))), low_small c.args.c)
+-- the value 0 has an entry
+inside : (c : Cone) (k : ℕ) → k ≡ nat_abs (pos 0 -ℤ least (rules.values (cone_of c))) → k < 32
+inside c k e = omega (arith, e, opposite (least (rules.values (cone_of c))), low_small c)
 
 pub bounds-c-offset : goal.bounds-c-offset
-bounds-c-offset c = inside (goal.at.bounds-c-offset c).After-offset
+bounds-c-offset c = inside c.args.c c.offset.result (place-is (goal.at.bounds-c-offset c).After-offset)
 
 pub returns : goal.returns
 returns c =
     let at = (goal.at.returns c).After-offset in
-    let l : c.offset.result < length c.args.c.known = omega (arith, inside at, c.args.c.entries_long) in
+    let l : c.offset.result < length c.args.c.known = omega (arith, inside c.args.c c.offset.result (place-is at), c.args.c.entries_long) in
     c.number_of.ensures ∙ sym (number_at c.args.c.known c.offset.result _ l) ∙ sym (first_row c.args.c c.offset.result (place-is at))

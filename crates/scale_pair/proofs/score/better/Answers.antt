@@ -11,7 +11,7 @@ use Rattle.scale_pair.proofs.score.better.Goals as goal
 rank_below : (r s : Rank) → partial_lt partial_cmp-value.it r s ≡ less (rank_list r) (rank_list s)
 unfolding rank_list
 rank_below r s =
-    first_number _ _ _ (first_number _ _ _ (first_number _ _ _ (first_int _ _ _ (first_int _ _ _ (last_int r.b s.b) r.a s.a) r.energy s.energy) r.norm s.norm) r.span s.span) r.reuse s.reuse
+    first_number _ _ _ (first_number _ _ _ (first_number _ _ _ (first_number _ _ _ (first_int _ _ _ (last_int r.b s.b) r.a s.a) r.energy s.energy) r.norm s.norm) r.span s.span) r.reuse s.reuse
 
 module _ (o : Option Score) (best s : Score) (is : o ≡ Some best) (t : Bool) (e : t ≡ partial_lt partial_cmp-value.it s.rank best.rank) where
   lower : t ≡ true → s ≡ better_score o s

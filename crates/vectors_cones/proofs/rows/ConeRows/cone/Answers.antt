@@ -18,7 +18,7 @@ pub invariant_of-result : goal.invariant_of-result
 invariant_of-result c =
     let s = c.args.self.now in
     let f = made s.n s.support s.coefs s.truth c.in_ok-known.known s.few c.if-not-is_form.ensures (search rules) (search rules) (one (goal.at.invariant_of-result c).In_ok-known) in
-    record { support_long = search rules; coefs_long = search rules; entries_long = search rules; few = f.few; different = f.different; near = f.near; narrow = f.narrow; held = f.held }
+    record { support_long = search rules; coefs_long = search rules; entries_long = search rules; few = f.few; different = f.form.different; near = f.form.near; narrow = f.form.narrow; held = f.held }
 
 pub returns : goal.returns
 unfolding cone_of rows_of
