@@ -1,5 +1,4 @@
 -- The node store: what its values stand for, and what stands in it.
-pub mod Number
 pub mod View
 pub mod Terms
 pub mod Store

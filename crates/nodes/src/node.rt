@@ -4,9 +4,9 @@ ghost use Rattle.rules.specs.Network as rules;
 ghost use Rattle.nodes.specs.Terms.{terms_in, GoodTerms};
 ghost use Rattle.nodes.specs.View.{given, lut_node, terms_seen};
 
-use crate::number::Number;
-use crate::short::Short;
 use crate::terms::Terms;
+use packed::number::Number;
+use packed::short::Short;
 
 // One term of a sum: a coefficient and the number of its node.
 #[derive(Clone, Copy, PartialEq, Eq, Default)]

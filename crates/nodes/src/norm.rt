@@ -9,7 +9,7 @@ use crate::node::{LutNode, Term, terms_of};
 use crate::store::Store;
 use crate::terms::Terms;
 
-// Not `scale`'s: a node's coefficients are smaller, and this crate leans on no other code.
+// Not `scale`'s: a node's coefficients are smaller, and this crate does not lean on `scale`.
 fn square(x: i64) -> u64
     requires { nat_abs x ≤ 31 }
     ensures { (result ≡ nat_abs x * nat_abs x) × (result ≤ 961) }

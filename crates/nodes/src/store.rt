@@ -4,8 +4,8 @@ ghost use Rattle.rules.specs.Network.{depths};
 ghost use Rattle.nodes.specs.View.{nodes_of, depths_of, AllFine, AllFine_prop};
 
 use crate::node::LutNode;
-use crate::number::Number;
 use arrayvec::ArrayVec;
+use packed::number::Number;
 
 // A node, how many bootstraps lie one behind another up to it, and the centre of its table. Of a node that has none it is 0, as the definition `node_centre`
 // has it: an Option, which takes a byte more, would be no plainer.

@@ -16,7 +16,7 @@ pub struct Number {
 // Contracts see it as the number.
 impl Model for Number {
     ghost use Rattle.std.specs.Prelude.{ℕ, ◌+◌, ◌*◌, ◌/◌, ◌%◌, ◌<◌};
-    ghost use Rattle.nodes.specs.Number.{low_back, high_back};
+    ghost use Rattle.packed.specs.Number.{low_back, high_back};
 
     ghost Value = { ℕ };
 

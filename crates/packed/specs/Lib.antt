@@ -1,0 +1,2 @@
+-- Numbers in two bytes.
+pub mod Number
