@@ -11,7 +11,7 @@ ghost use Rattle.lut.specs.Forms.{form_terms};
 ghost use Rattle.nodes.specs.Store.{store_of};
 ghost use Rattle.nodes.specs.View.{lut_node};
 ghost use Rattle.cone.specs.Sources.{Stands};
-ghost use Rattle.rotation.specs.Entries.{first_numbers};
+ghost use Rattle.known_rows.specs.Entries.{first_numbers};
 ghost use Rattle.bootstrap.specs.Form.{candidate_in, fitting, reformed, turned};
 
 use cone::Cone;
@@ -33,7 +33,7 @@ fn enter_form(c: Cone, coefs: [i64; 11]) -> Option<[Entry; 32]>
     linear_table(&coefs[..c.n], &mut values);
     let rows = rows_of(c.n);
     let values = &values[..rows];
-    rotation::enter(values, &truth[..rows], rotation::bounds_of(values).low)
+    known_rows::enter(values, &truth[..rows], known_rows::bounds_of(values).low)
 }
 
 // Whether a cone may stand.

@@ -1,4 +1,4 @@
-// The builder of bootstrap tables from rows, a public entry. It leans on `rotation`.
+// The builder of bootstrap tables from rows, a public entry. It leans on `rotation` and `known_rows`.
 #![tactic(auto)]
 
 ghost use Rattle.std.specs.Prelude.{◌≡◌, ◌≤◌, ltb, length};
@@ -7,7 +7,8 @@ ghost use Rattle.laws.specs.Test.{if◌then◌otherwise◌};
 ghost use Rattle.rules.specs.Span.{least, span};
 ghost use Rattle.rules.specs.Builder.{known_entries, with_table, no_table, built, from_known, builder, builder_reply};
 
-use rotation::{bounds_of, centre, complete, enter, span_of, table_limits};
+use known_rows::{bounds_of, enter, span_of};
+use rotation::{centre, complete, table_limits};
 use rules::{Reason, Table};
 
 // A table and its centre c answered: its bits written to `out`, if it reaches.

@@ -1,5 +1,5 @@
 // Cones: sources, a coefficient each, a bit for each assignment (first source the highest bit). A cone alone: its values, its order, a gate of one
-// input behind it, and whether it may be bootstrapped. It leans on `linear`, `scale`, `rotation` and the node store (`nodes`).
+// input behind it, and whether it may be bootstrapped. It leans on `linear`, `scale`, `rotation`, `known_rows` and the node store (`nodes`).
 #![tactic(auto)]
 
 pub mod order;

@@ -25,7 +25,7 @@ fn look_up(known: [Entry; 32], low: i32, values: &[i32], truth: &mut [u8])
 {
     // An index: of a zip over `iter_mut` the proof learns nothing of what was written (docs/proof-notes.md).
     for (i, &value) in values.iter().enumerate() {
-        truth[i] = rotation::number_of(known[rotation::offset(value, low)]);
+        truth[i] = rotation::number_of(known[known_rows::offset(value, low)]);
     }
 }
 

@@ -50,7 +50,7 @@ pub fn first_truth(c: Cone) -> u8
     ensures { result ≡ get_or (cone_of c).truth 0 0 }
 {
     // The first row has the value 0.
-    number_of(c.known[rotation::offset(0, low_of(c))])
+    number_of(c.known[known_rows::offset(0, low_of(c))])
 }
 
 // all_equal: the first row's truth is the truth at every value that a row has.

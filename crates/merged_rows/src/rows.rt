@@ -11,7 +11,7 @@ pub struct Frame {
     pub y_span: usize,
 }
 
-// How far a value lies above the least one. As rotation's `offset`, of the i64 that `linear_least` answers: this crate does not lean on rotation.
+// How far a value lies above the least one. As known_rows' `offset`, of the i64 that `linear_least` answers: this crate does not lean on known_rows.
 fn above(x: i32, low: i64) -> usize
     requires { (low ≤ℤ x) × (nat_abs (x -ℤ low) < 32) }
     ensures { result ≡ nat_abs (x -ℤ low) }

@@ -17,7 +17,7 @@ pub fn is_sum(node: &LutNode) -> bool
     matches!(node, LutNode::Linear { .. })
 }
 
-// The least and the greatest that a node can be. Not rotation's `Bounds`: that has a builder's values, which are `i32`; a network's sums are `i64`.
+// The least and the greatest that a node can be. Not known_rows' `Bounds`: that has a builder's values, which are `i32`; a network's sums are `i64`.
 struct Bounds {
     least: i64,
     greatest: i64,

@@ -1,8 +1,6 @@
 -- Known entries as the definitions speak of them: by their numbers, 2 for unknown.
-use Rattle.std.specs.Prelude as P
-use Rattle.std.specs.Prelude.{◌≡◌, refl, List, [], ◌∷◌, map, ℕ, zero, suc, ◌<◌, ◌≤◌, length, get_or, take, Some, None}
+use Rattle.std.specs.Prelude.{◌≡◌, refl, List, [], ◌∷◌, map, ℕ, zero, suc, ◌<◌, ◌≤◌, length, get_or, take}
 use Rattle.std.proofs.Common.{ap, ap₂, ◌∙◌, arith}
-use Rattle.std.proofs.Math.Option.{Option, none, some}
 use Rattle.std.proofs.lemmas.List.{take-map, length-map}
 use Rattle.laws.specs.Lists.{map_at}
 use Rattle.rules.specs.declared.Entry.{Entry}
@@ -16,16 +14,6 @@ number_of_entry Unknown = 2
 
 abbrev pub numbers : List Entry → List ℕ
 numbers known = map number_of_entry known
-
--- The numbers of the first n of some entries, where there are any.
-abbrev pub first_numbers : ℕ → P.Option (List Entry) → Option (List ℕ)
-first_numbers n None = none
-first_numbers n (Some known) = some (numbers (take n known))
-
--- The number of an entry that a truth made, where it made one.
-abbrev pub number_made : P.Option Entry → Option ℕ
-number_made None = none
-number_made (Some x) = some (number_of_entry x)
 
 -- ---- laws
 

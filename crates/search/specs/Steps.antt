@@ -19,7 +19,7 @@ use Rattle.rules.specs.Cone.{linear_table, within_norm}
 use Rattle.rules.specs.Scale.{gcd_from, divisor, normalised, is_scale_pair}
 use Rattle.rules.specs.Span.{least, span}
 use Rattle.rotation.specs.Entries.{number_of_entry, numbers, number_at}
-use Rattle.rotation.specs.Rows.{Made, was_made, unmade}
+use Rattle.known_rows.specs.Rows.{Made, was_made, unmade}
 use Rattle.scale.specs.Divisor.{divisor_not_zero}
 use Rattle.theorems.specs.Normalised.{divisor_abs}
 use Rattle.scale.specs.Limits.{Within}

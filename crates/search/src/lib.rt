@@ -1,5 +1,5 @@
 // The search for the scale pair under which two cones become one. It leans on `compose`,
-// `scale_pair`, `merged_rows`, `rotation`, `linear`, `cone` and the store (`nodes`, `lut`).
+// `scale_pair`, `merged_rows`, `rotation`, `known_rows`, `linear`, `cone` and the store (`nodes`, `lut`).
 #![tactic(auto)]
 
 pub mod context;
@@ -152,7 +152,7 @@ fn search(context: Context, ranges: Ranges, xs: &[i32], ys: &[i32], truth: &[u8]
             // By the index: `((&x, &y), &bit)` over two zips is no plainer, and a small program with that loop, 256 rows, took 1.35 times as long.
             for i in 0..xs.len() {
                 let at = pair.level(xs[i], ys[i]);
-                let Some(entry) = rotation::with_truth(known[at], truth[i]) else {
+                let Some(entry) = known_rows::with_truth(known[at], truth[i]) else {
                     // A row that conflicts leaves for the next pair.
                     continue 'pair;
                 };

@@ -6,7 +6,7 @@ ghost use Rattle.rules.specs.Cone.{linear_table};
 ghost use Rattle.rules.specs.NetworkText.{all_different};
 ghost use Rattle.rules.specs.Span.{span};
 ghost use Rattle.scale.specs.Limits.{Within};
-ghost use Rattle.rotation.specs.Entries.{first_numbers};
+ghost use Rattle.known_rows.specs.Entries.{first_numbers};
 
 use cone::Cone;
 use linear::linear_span;
@@ -66,7 +66,7 @@ fn enter_rows(coefs: &[i64], truth: &[u8]) -> Option<[Entry; 32]>
     let mut values = [0; 2048];
     linear::linear_table(coefs, &mut values);
     let values = &values[..truth.len()];
-    rotation::enter(values, truth, rotation::bounds_of(values).low)
+    known_rows::enter(values, truth, known_rows::bounds_of(values).low)
 }
 
 impl<'a> FromTokens<'a> for ConeRows {

@@ -5,7 +5,7 @@ use Rattle.rules.specs.declared.Entry.{Entry}
 use Rattle.rules.specs.Builder.{known_entries}
 use Rattle.rules.specs.Cone.{linear_table}
 use Rattle.rules.specs.Span.{span}
-use Rattle.rotation.specs.Entries.{first_numbers}
+use Rattle.known_rows.specs.Entries.{first_numbers}
 use Rattle.cone.specs.declared.Cone.{Cone}
 use Rattle.theorems.specs.ConeValues.{linear_table-length}
 use Rattle.cone.specs.View.{cone_of, rows_fit, view_rows}

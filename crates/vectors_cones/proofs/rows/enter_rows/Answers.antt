@@ -4,7 +4,7 @@ use Rattle.rules.specs.Builder.{known_entries}
 use Rattle.rules.specs.Cone.{linear_table}
 use Rattle.rules.specs.Span.{span}
 use Rattle.compose.specs.Basis.{few_rows}
-use Rattle.rotation.specs.Entries.{first_numbers}
+use Rattle.known_rows.specs.Entries.{first_numbers}
 use Rattle.vectors_cones.specs.Made.{values_first}
 use Rattle.vectors_cones.proofs.rows.enter_rows.Goals as goal
 use Rattle.vectors_cones.proofs.rows.enter_rows.Goals.{After-linear_table}

@@ -6,10 +6,10 @@ use Rattle.rules.specs.Span.{least}
 use Rattle.theorems.specs.Rows.{offset, enter_end}
 use Rattle.theorems.specs.Spans.{least_le, offset_lt}
 use Rattle.rotation.specs.Entries.{numbers}
-use Rattle.rotation.specs.Left.{entered_until, until_end}
-use Rattle.rotation.specs.Rows.{row_entered, row_left, row_refused, refused_left}
-use Rattle.rotation.proofs.rows.enter_into.Goals as goal
-use Rattle.rotation.proofs.rows.enter_into.Goals.{After-offset-k}
+use Rattle.known_rows.specs.Left.{entered_until, until_end}
+use Rattle.known_rows.specs.Rows.{row_entered, row_left, row_refused, refused_left}
+use Rattle.known_rows.proofs.rows.enter_into.Goals as goal
+use Rattle.known_rows.proofs.rows.enter_into.Goals.{After-offset-k}
 
 -- the row that is taken, and its entry
 module _ (c : After-offset-k) where

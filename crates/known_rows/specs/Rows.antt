@@ -16,8 +16,9 @@ use Rattle.rules.specs.Builder.{agrees, enter, known_entries}
 use Rattle.rules.specs.Span.{least, span}
 use Rattle.theorems.specs.Rows.{Within, offset, enter-turn, enter_stop}
 use Rattle.theorems.specs.Spans.{offset_lt}
-use Rattle.rotation.specs.Entries.{number_of_entry, numbers, first_numbers, number_made, numbers_take, number_at}
-use Rattle.rotation.specs.Left.{entered_until, until_turn, until_stop}
+use Rattle.rotation.specs.Entries.{number_of_entry, numbers, numbers_take, number_at}
+use Rattle.known_rows.specs.Entries.{first_numbers, number_made}
+use Rattle.known_rows.specs.Left.{entered_until, until_turn, until_stop}
 
 -- What with_truth makes of an entry, where b says that the truth t fits it.
 abbrev pub Made : Bool → ℕ → P.Option Entry → Type 0

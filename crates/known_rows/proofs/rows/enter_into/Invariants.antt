@@ -2,10 +2,10 @@ use Rattle.std.proofs.Common.{◌≡◌, length, drop}
 use Rattle.rules.specs.Builder.{enter}
 use Rattle.rules.specs.Span.{least}
 use Rattle.rotation.specs.Entries.{numbers}
-use Rattle.rotation.specs.Left.{entered_until}
-use Rattle.rotation.proofs.rows.enter_into.Given as goal
+use Rattle.known_rows.specs.Left.{entered_until}
+use Rattle.known_rows.proofs.rows.enter_into.Given as goal
 
--- `rotation::rows::enter_into` meets its contract. The rows that are left, entered into what is known so far, give what all rows give at the start.
+-- `known_rows::rows::enter_into` meets its contract. The rows that are left, entered into what is known so far, give what all rows give at the start.
 abbrev pub invariant-loop-value : goal.invariant-loop-value
 invariant-loop-value l =
     let low = least l.values in

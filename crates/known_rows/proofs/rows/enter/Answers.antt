@@ -2,11 +2,12 @@ use Rattle.std.proofs.Common.{ap, ◌∙◌, replicate, to_z-of_z}
 use Rattle.rules.specs.declared.Entry.TheVariants.{Unknown}
 use Rattle.rules.specs.Builder.{enter}
 use Rattle.rules.specs.Span.{span}
-use Rattle.rotation.specs.Entries.{numbers, first_numbers}
-use Rattle.rotation.specs.Rows.{rows_known}
-use Rattle.rotation.proofs.rows.enter.Goals as goal
+use Rattle.rotation.specs.Entries.{numbers}
+use Rattle.known_rows.specs.Entries.{first_numbers}
+use Rattle.known_rows.specs.Rows.{rows_known}
+use Rattle.known_rows.proofs.rows.enter.Goals as goal
 
--- `rotation::rows::enter` meets its contract.
+-- `known_rows::rows::enter` meets its contract.
 pub returns : goal.returns
 returns c =
     let values = c.args.values.now in

@@ -7,7 +7,7 @@ use Rattle.laws.specs.Tail.{tail_part}
 use Rattle.laws.specs.Test.{if◌then◌otherwise◌}
 use Rattle.rules.specs.Span.{least_from, greatest_from}
 use Rattle.theorems.specs.Spans.{least_start, greatest_start, least-turn, greatest-turn, least_end, greatest_end}
-use Rattle.rotation.proofs.rows.bounds_of.Goals as goal
+use Rattle.known_rows.proofs.rows.bounds_of.Goals as goal
 
 min_is : (m v : ℤ) → int_min m v ≡ (if lt_z v m then v otherwise m)
 min_is m v = by (lt_z v m) refl

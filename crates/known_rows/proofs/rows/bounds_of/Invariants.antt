@@ -1,8 +1,8 @@
 use Rattle.std.proofs.Common.{◌≡◌, drop}
 use Rattle.rules.specs.Span.{least_from, greatest_from, least, greatest}
-use Rattle.rotation.proofs.rows.bounds_of.Given as goal
+use Rattle.known_rows.proofs.rows.bounds_of.Given as goal
 
--- `rotation::rows::bounds_of` meets its contract. The bounds so far, taken on over the values that are left, are the values' bounds.
+-- `known_rows::rows::bounds_of` meets its contract. The bounds so far, taken on over the values that are left, are the values' bounds.
 abbrev pub invariant-loop-v : goal.invariant-loop-v
 invariant-loop-v l = record {
   low : least_from l.low (drop l.v-index l.v-items) ≡ least l.values;
