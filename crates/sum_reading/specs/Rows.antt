@@ -9,10 +9,10 @@ use Rattle.std.proofs.lemmas.List.Quantifiers.{position-Some}
 use Rattle.std.proofs.Math.Option.{Option, none, some}
 use Prim.Native.Nat.compare
 use Rattle.laws.specs.Digits.{bit, digits}
-use Rattle.laws.specs.Integer.{plus, minus, add_parts, sub_parts, plus_mul, minus_mul, ints, eq_z, eq_z_true, eq_z_of}
+use Rattle.laws.specs.Integer.{plus, minus, add_parts, sub_parts, plus_mul, minus_mul, ints, eq_z, eq_z_true, eq_z_of, eq_z_not}
 use Rattle.laws.specs.Select.{first_of}
 use Rattle.laws.specs.Tabulate.{tabulate-at}
-use Rattle.laws.specs.Test.{if◌then◌otherwise◌, T-is, T-not_is, decide}
+use Rattle.laws.specs.Test.{if◌then◌otherwise◌, decide}
 use Rattle.rules.specs.Cone.{linear_table}
 use Rattle.rules.specs.Composition.{assignments}
 use Rattle.rules.specs.Network.{Term}
@@ -59,9 +59,6 @@ sums_are c (t ∷ ts) =
     one_bit v = omega (arith, ints, add_parts (c +ℤ (k *ℤ pos 1)) v, add_parts c (k *ℤ pos 1), plus_mul k (pos 1), minus_mul k (pos 1), add_parts c (k +ℤ v), add_parts k v)
 
 -- ---- laws: tests
-
-pub eq_z_not : (x z : ℤ) → (x ≡ z → ⊥) → eq_z x z ≡ false
-eq_z_not x z h = T-not_is (eq_z x z) (λ t. h (eq_z_true x z (T-is _ t)))
 
 pub same_or_not : (x z : ℤ) → (x ≡ z) ⊎ (x ≡ z → ⊥)
 same_or_not x z = ⊎_elim (λ e. inl (eq_z_true x z e)) (λ e. inr (λ f. true≢false (sym (eq_z_of x z f) ∙ e))) (decide (eq_z x z))
