@@ -96,7 +96,7 @@ place_of f g h (x ∷ l) e = ap₂ (λ b k. cond (not b) (1 + k) 0) (e x) (place
 position_of : {A B : Type 0} (f : B → Bool) (g : A → B) (h : A → Bool) (l : List A) → ((x : A) → f (g x) ≡ h x) → position f (map g l) ≡ position h l
 position_of f g h l e = ap₂ {C = P.Option ℕ} (λ k n. cond (ltb k n) (P.Some k) P.None) (place_of f g h l e) (length-map l g)
 
-shifted_test : (c z v : ℤ) → eq_z (c +ℤ v) z ≡ eq_z v (z -ℤ c)
+pub shifted_test : (c z v : ℤ) → eq_z (c +ℤ v) z ≡ eq_z v (z -ℤ c)
 unfolding plus minus
 shifted_test c z v =
     ⊎_elim
