@@ -189,6 +189,18 @@ eq_z_pos a b =
     ⊎_elim (λ (e : a ≡ b). eq_z_of (pos a) (pos b) (ap pos e) ∙ sym (eq-eqb a b e))
     (λ (e : a ≡ b → ⊥). eq_z_not (pos a) (pos b) (λ f. e (omega (arith, ints))) ∙ sym (ne_eqb a b e)) (eq-or-ne a b)
 
+-- a number at or above low is low plus how far it is from it, and low plus nothing else
+pub offset_is : (low v : ℤ) → low ≤ℤ v → (i : ℕ) → eq_z v (low +ℤ pos i) ≡ eqb (nat_abs (v -ℤ low)) i
+unfolding plus minus
+offset_is low v h i =
+    ⊎_elim
+    (λ (e : nat_abs (v -ℤ low) ≡ i).
+    eq_z_of v (low +ℤ pos i) (omega (arith, ints, add_parts low (pos i), abs_parts (v -ℤ low), sub_parts v low, one_part_zero (v -ℤ low))) ∙ sym (eq-eqb _ i e))
+    (λ (e : nat_abs (v -ℤ low) ≡ i → ⊥).
+    eq_z_not v (low +ℤ pos i) (λ (q : v ≡ low +ℤ pos i). e (omega (arith, ints, add_parts low (pos i), abs_parts (v -ℤ low), sub_parts v low, one_part_zero (v -ℤ low))))
+    ∙ sym (ne_eqb _ i e))
+    (eq-or-ne (nat_abs (v -ℤ low)) i)
+
 pub le_same : (a b x y : ℤ) → a ≡ x → b ≡ y → x ≤ℤ y → a ≤ℤ b
 le_same a b x y e f h = rw (e, f) h
 

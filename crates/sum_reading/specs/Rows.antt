@@ -2,13 +2,13 @@
 use Rattle.std.specs.Prelude as P
 use Rattle.std.specs.Prelude.{◌≡◌, refl, Bool, true, false, not, cond, IfSome, List, [], ◌∷◌, ◌++◌, map, ◌⊎◌, ℕ, zero, suc, ◌+◌, ◌-◌, ◌<◌, ◌^◌, ltb, ℤ, pos, ◌+ℤ◌, ◌-ℤ◌, ◌*ℤ◌, length, get_or}
 use Rattle.std.specs.List.{position, position_or_len}
-use Rattle.std.proofs.Common.{sym, ap, ap₂, ◌∙◌, true≢false, inl, inr, ⊎_elim, not-suc-le-zero, le_of_suc-le-suc, arith, lt-ltb, suc-add, zero-add}
+use Rattle.std.proofs.Common.{sym, ap, ap₂, ◌∙◌, true≢false, inl, inr, ⊎_elim, arith, lt-ltb, suc-add, zero-add}
 use Rattle.std.proofs.lemmas.Simd.{map-map}
 use Rattle.std.proofs.lemmas.List.{map-append, length-map}
 use Rattle.std.proofs.lemmas.List.Quantifiers.{position-Some}
 use Rattle.std.proofs.Math.Option.{Option, none, some}
 use Prim.Native.Nat.compare
-use Rattle.laws.specs.Digits.{bit, digits}
+use Rattle.laws.specs.Digits.{digits}
 use Rattle.laws.specs.Integer.{plus, minus, add_parts, sub_parts, plus_mul, minus_mul, ints, eq_z, eq_z_true, eq_z_of, eq_z_not}
 use Rattle.laws.specs.Select.{first_of}
 use Rattle.laws.specs.Tabulate.{tabulate-at}
@@ -130,11 +130,3 @@ reading_row c ts value =
 
     table : List ℤ
     table = linear_table (coefs ts)
-
--- ---- laws: the bits of a row
-
-pub digit_at : (n row k : ℕ) → k < n → get_or (digits n row) k 0 ≡ bit (n - 1 - k) row
-unfolding digits
-digit_at zero row k h = absurd (not-suc-le-zero h)
-digit_at (suc n) row zero h = ap (λ j. bit j row) (omega arith)
-digit_at (suc n) row (suc k) h = digit_at n row k (le_of_suc-le-suc h) ∙ ap (λ j. bit j row) (omega arith)

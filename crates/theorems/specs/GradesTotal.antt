@@ -1,10 +1,9 @@
 -- The values' counts of a `lin` stand for the values from the least sum to the greatest, in turn, and add up to 2 to the number of terms (document 02, S-12).
 use Rattle.std.specs.Prelude.{◌≡◌, cond, List, ℕ, ◌+◌, ◌<◌, ◌^◌, eqb, ℤ, pos, nat_abs, ◌+ℤ◌, ◌-ℤ◌, ◌≤ℤ◌, length, get_or, sum, count_by}
-use Rattle.std.proofs.Common.{sym, ap, ◌∙◌, ⊎_elim, arith, eq-eqb, ne_eqb}
-use Rattle.laws.specs.Integer.{plus, minus, add_parts, sub_parts, abs_parts, one_part_zero, eq_z, eq_z_of, eq_z_not, ints}
+use Rattle.std.proofs.Common.{ap, ◌∙◌, arith}
+use Rattle.laws.specs.Integer.{plus, minus, add_parts, eq_z, offset_is, ints}
 use Rattle.laws.specs.Sums.{sum_single, counts_sum}
 use Rattle.laws.specs.Tabulate.{tabulate, tabulate-length, tabulate-at, tabulate_same}
-use Rattle.laws.specs.Test.{eq-or-ne}
 use Rattle.rules.specs.Composition.{assignments}
 use Rattle.rules.specs.Grades.{times_given, sum_span, value_counts_of}
 use Rattle.rules.specs.Network.{Term, least_sum, greatest_sum}
@@ -27,22 +26,10 @@ pub record CountsTotal (c : ℤ) (ts : List Term) : Type 0 where
 
 -- ---- A value between two bounds.
 
-module _ (low high v : ℤ) (h : low ≤ℤ v) (k : v ≤ℤ high) where
-  offset_is : (i : ℕ) → eq_z v (low +ℤ pos i) ≡ eqb (nat_abs (v -ℤ low)) i
-  unfolding plus minus
-  offset_is i =
-      ⊎_elim
-      (λ (e : nat_abs (v -ℤ low) ≡ i).
-      eq_z_of v (low +ℤ pos i) (omega (arith, ints, add_parts low (pos i), abs_parts (v -ℤ low), sub_parts v low, one_part_zero (v -ℤ low))) ∙ sym (eq-eqb _ i e))
-      (λ (e : nat_abs (v -ℤ low) ≡ i → ⊥).
-      eq_z_not v (low +ℤ pos i) (λ (q : v ≡ low +ℤ pos i). e (omega (arith, ints, add_parts low (pos i), abs_parts (v -ℤ low), sub_parts v low, one_part_zero (v -ℤ low))))
-      ∙ sym (ne_eqb _ i e))
-      (eq-or-ne (nat_abs (v -ℤ low)) i)
-
-  one_offset : sum (tabulate (nat_abs (high -ℤ low) + 1) (λ i. cond (eq_z v (low +ℤ pos i)) 1 0)) ≡ 1
-  one_offset =
-      ap sum (tabulate_same (nat_abs (high -ℤ low) + 1) _ (λ i. cond (eqb (nat_abs (v -ℤ low)) i) 1 0) (λ i l. ap {B = ℕ} (λ b. cond b 1 0) (offset_is i)))
-      ∙ sum_single (nat_abs (high -ℤ low) + 1) (nat_abs (v -ℤ low)) (omega (arith, offset_within v low high h k))
+one_offset : (low high v : ℤ) → low ≤ℤ v → v ≤ℤ high → sum (tabulate (nat_abs (high -ℤ low) + 1) (λ i. cond (eq_z v (low +ℤ pos i)) 1 0)) ≡ 1
+one_offset low high v h k =
+    ap sum (tabulate_same (nat_abs (high -ℤ low) + 1) _ (λ i. cond (eqb (nat_abs (v -ℤ low)) i) 1 0) (λ i l. ap {B = ℕ} (λ b. cond b 1 0) (offset_is low v h i)))
+    ∙ sum_single (nat_abs (high -ℤ low) + 1) (nat_abs (v -ℤ low)) (omega (arith, offset_within v low high h k))
 
 -- ---- The theorem.
 
