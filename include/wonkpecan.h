@@ -1,4 +1,5 @@
-/* Wonkpecan for C and C++: the mapper, the admission check, the table builder, the two runs, the reading of a sum and the slot of a phase.
+/* Wonkpecan for C and C++: the mapper, the admission check, the table builder, the two runs, the reading of a sum, the counts of grades and the
+ * slot of a phase.
  *
  *     (cd crates/exports && rt lib)                                proves it and writes crates/exports/out/libexports.a
  *     cc -Iinclude evaluator.c crates/exports/out/libexports.a     x86-64 Linux; asks the C library for memcpy and memset
@@ -31,6 +32,7 @@ enum {
     FBS_INPUTS = 32,          /* bits of a run: no text has more inputs */
     FBS_OUTPUTS = 32,         /* `values` of a run: 101 never comes */
     FBS_TERMS = 11,           /* places for the bits of a sum: no `lin` has more terms */
+    FBS_VALUES = 342,         /* places for the counts of a sum's values: no `lin` has more from its least to its greatest */
     FBS_STACK_BYTES = 262144
 };
 
@@ -49,7 +51,7 @@ enum fbs_number {
     FBS_NORM_LIMIT = 8,       /* limit 0, a NOT */
     FBS_NO_COMPOSITION = 9,   /* P = M = 2, AND */
     FBS_SHORT_ANSWER = 11,    /* buffer of 0 bytes */
-    /* a network's text: fbs_admit, fbs_convert, fbs_sum_reading; fbs_run_network has 21 and 22 alone */
+    /* a network's text: fbs_admit, fbs_convert, fbs_sum_reading, fbs_ones, fbs_value_counts; fbs_run_network has 21 and 22 alone */
     FBS_NET_TEXT = 21,        /* (lin 0 (0 0)); empty text, line 1 */
     FBS_NET_NODE = 22,        /* (boot 9 01) as line 3 */
     FBS_NET_BOUNDS = 23,      /* (boot 0 001) on an input */
@@ -62,7 +64,7 @@ enum fbs_number {
     FBS_BAD_TRUTHS = 32,      /* value 0 with 0 and 1 */
     FBS_NO_COMPLETION = 33,   /* P = 2, values 0..3, truths 0001 */
     FBS_SHORT_TABLE = 34,     /* buffer of 0 bytes */
-    /* a wanted sum: fbs_sum_reading */
+    /* a chosen node: fbs_sum_reading, fbs_value_counts */
     FBS_NO_SUM = 35,          /* node 0, an input */
     /* a value on the 32-bit circle: fbs_find_slot */
     FBS_BAD_PERIOD = 36,      /* P = 32 */
@@ -70,6 +72,8 @@ enum fbs_number {
     /* edition 2 of the network's text: fbs_admit, fbs_convert */
     FBS_OTHER_CENTRE = 38,    /* (many 0 (10 1)) on an input */
     FBS_MANY_AGAIN = 39,      /* (many 0 (10 0)) twice */
+    /* counts over all assignments: fbs_ones, fbs_value_counts */
+    FBS_MANY_INPUTS = 40,     /* 21 inputs */
     /* a run of either kind; document 01 has no number for these */
     FBS_NOT_BITS = 100,       /* two inputs, one bit; a bit that is 2 */
     FBS_SHORT_VALUES = 101,   /* one output, buffer of 0 values */
@@ -79,7 +83,7 @@ enum fbs_number {
 };
 
 /* Accepted: number 0, line 0, and how many places of the buffer were written. Refused: number, line from 1, count 0.
- * Line 0: the refusal belongs to no line (11, 30 to 37, 100 to 103, the builder's 2, and 8 from Basic's last check). */
+ * Line 0: the refusal belongs to no line (11, 30 to 37, 40, 100 to 103, the builder's 2, and 8 from Basic's last check). */
 typedef struct fbs_reply {
     size_t number;
     size_t line;
@@ -121,6 +125,15 @@ typedef struct fbs_sum {
     uint8_t bits[FBS_TERMS];
 } fbs_sum;
 
+/* Counted: number 0, line 0, how many values there are from the least sum to the greatest, and the least. Else: number, line, count 0
+ * and least 0. */
+typedef struct fbs_values {
+    size_t number;
+    size_t line;
+    size_t count;
+    int32_t least;
+} fbs_values;
+
 /* Found: number 0 and the slot, 0 to 2P - 1. Else: the number, and slot 0. The line is 0. */
 typedef struct fbs_slot {
     size_t number;
@@ -159,6 +172,16 @@ fbs_reply fbs_run_network(const uint8_t *text, size_t text_length, const uint8_t
  * then 35; 103 only if no bits give the value. The least and the greatest sum are always found. */
 fbs_sum fbs_sum_reading(const uint8_t *text, size_t text_length, size_t node, int32_t value);
 
+/* A network's text of at most 20 inputs: for each output in turn, at how many assignments of the network's own inputs it is 1, in the first
+ * of FBS_OUTPUTS places; the later ones are kept, and all where it is refused. Doubled once for each input of a circuit that mapping dropped,
+ * the numbers are those over the circuit's inputs. 21 to 26 as fbs_admit, then 40. */
+fbs_reply fbs_ones(const uint8_t *text, size_t text_length, uint32_t *counts);
+
+/* A network's text and a `lin` node of it: how many assignments of its terms give each value from its least sum to its greatest, in turn, in
+ * the first of FBS_VALUES places; the later ones are kept, and all where it is refused. The numbers add up to 2 to the number of terms. 21 to
+ * 26 as fbs_admit, then 40, then 35. */
+fbs_values fbs_value_counts(const uint8_t *text, size_t text_length, size_t node, uint32_t *counts);
+
 /* Trial mode: where a value with an error is found on a circle of 2^32. For P of 2, 4, 8 or 16 the step is 2^31 / P, value v stands at
  * v steps, the error is added, phases wrap at 2^32, and the nearest slot of 2P is answered, exactly between two the even one (between
  * 2P - 1 and 0 it is 0). It is v exactly for errors from minus half a step to plus half, inclusive for an even v, strictly inside for an
@@ -195,6 +218,7 @@ static inline const char *fbs_phrase(size_t number) {
     case FBS_BAD_VALUE: return "the value is below 0 or above 2P - 1";
     case FBS_OTHER_CENTRE: return "a table's centre is another";
     case FBS_MANY_AGAIN: return "the node has a many line already";
+    case FBS_MANY_INPUTS: return "the network has more than 20 inputs";
     case FBS_NOT_BITS: return "not one bit for each input";
     case FBS_SHORT_VALUES: return "fewer places than outputs";
     case FBS_BROKEN_OFF: return "a bootstrap broke off";

@@ -433,6 +433,40 @@ static void check_sums(void) {
     expect("no text is the empty text", r.number == 21 && r.line == 1 && r.count == 0);
 }
 
+/* ---- Counts over all assignments. */
+
+static const char *and_gate = "(net 4 8 none)\n(in a)\n(in b)\n(lin 0 (1 0) (1 1))\n(boot 2 001)\n(out o (n 3))\n(out one (k 1))\n";
+
+static void check_counts(void) {
+    uint32_t ones[FBS_OUTPUTS], values[FBS_VALUES];
+    for (size_t i = 0; i < FBS_OUTPUTS; i++) ones[i] = 7;
+    for (size_t i = 0; i < FBS_VALUES; i++) values[i] = 7;
+    fbs_reply r = fbs_ones(bytes(and_gate), strlen(and_gate), ones);
+    expect("two outputs", r.number == 0 && r.line == 0 && r.count == 2);
+    expect("1 at one of four, and at all", ones[0] == 1 && ones[1] == 4);
+    expect("later places are kept", ones[2] == 7 && ones[FBS_OUTPUTS - 1] == 7);
+    fbs_values v = fbs_value_counts(bytes(and_gate), strlen(and_gate), 2, values);
+    expect("three values from 0 on", v.number == 0 && v.line == 0 && v.count == 3 && v.least == 0);
+    expect("1, 2 and 1 of four", values[0] == 1 && values[1] == 2 && values[2] == 1 && values[3] == 7);
+    v = fbs_value_counts(bytes(summed), strlen(summed), 3, values);
+    expect("a sum of three terms", v.number == 0 && v.count == 6 && v.least == 0 && values[2] == 2 && values[5] == 1);
+    const char *below = "(net 4 8 none)\n(in a)\n(lin 0 (-2 0))\n";
+    v = fbs_value_counts(bytes(below), strlen(below), 1, values);
+    expect("from -2 on, a gap between", v.number == 0 && v.count == 3 && v.least == -2 && values[0] == 1 && values[1] == 0 && values[2] == 1);
+    v = fbs_value_counts(bytes(and_gate), strlen(and_gate), 3, values);
+    expect("35, a boot", v.number == 35 && v.line == 0 && v.count == 0 && v.least == 0);
+    char many[1024] = "(net 4 8 none)\n";
+    for (int i = 0; i < 21; i++) sprintf(many + strlen(many), "(in i%d)\n", i);
+    strcat(many, "(out o (n 20))\n");
+    ones[0] = 7;
+    r = fbs_ones(bytes(many), strlen(many), ones);
+    expect("40, 21 inputs", r.number == 40 && r.line == 0 && r.count == 0 && ones[0] == 7);
+    v = fbs_value_counts(bytes(many), strlen(many), 0, values);
+    expect("40 before 35", v.number == 40 && v.line == 0);
+    r = fbs_ones(NULL, 0, ones);
+    expect("no text is the empty text", r.number == 21 && r.line == 1 && r.count == 0);
+}
+
 /* ---- Slots: the steps of P = 2, 4 and 16 are 2^30, 2^29 and 2^27. */
 
 enum { HALF2 = 536870912, HALF4 = 268435456, HALF16 = 67108864 };
@@ -556,6 +590,7 @@ int main(void) {
     check_circuit_run();
     check_network_run();
     check_sums();
+    check_counts();
     check_slots();
     check_together();
     check_threads();

@@ -48,6 +48,15 @@ mod wonkpecan {
 
     #[repr(C)]
     #[derive(Debug, PartialEq, Clone, Copy)]
+    pub struct Values {
+        pub number: usize,
+        pub line: usize,
+        pub count: usize,
+        pub least: i32,
+    }
+
+    #[repr(C)]
+    #[derive(Debug, PartialEq, Clone, Copy)]
     pub struct Slot {
         pub number: usize,
         pub line: usize,
@@ -55,7 +64,7 @@ mod wonkpecan {
     }
 
     mod c {
-        use super::{Admission, Reply, Slot, Sum, Table};
+        use super::{Admission, Reply, Slot, Sum, Table, Values};
 
         unsafe extern "C" {
             pub fn fbs_map(text: *const u8, text_length: usize, out: *mut u8, out_length: usize) -> Reply;
@@ -88,11 +97,13 @@ mod wonkpecan {
                 values_length: usize,
             ) -> Reply;
             pub fn fbs_sum_reading(text: *const u8, text_length: usize, node: usize, value: i32) -> Sum;
+            pub fn fbs_ones(text: *const u8, text_length: usize, counts: *mut u32) -> Reply;
+            pub fn fbs_value_counts(text: *const u8, text_length: usize, node: usize, counts: *mut u32) -> Values;
             pub fn fbs_find_slot(p: usize, value: i32, error: i32) -> Slot;
         }
     }
 
-    // SAFETY of all eight: a slice's pointer and length are what the header asks for, and a `&mut` shares no place with another.
+    // SAFETY of all ten: a slice's pointer and length are what the header asks for, and a `&mut` shares no place with another.
 
     pub fn map(text: &[u8], out: &mut [u8]) -> Reply {
         unsafe { c::fbs_map(text.as_ptr(), text.len(), out.as_mut_ptr(), out.len()) }
@@ -122,6 +133,14 @@ mod wonkpecan {
         unsafe { c::fbs_sum_reading(text.as_ptr(), text.len(), node, value) }
     }
 
+    pub fn ones(text: &[u8], counts: &mut [u32; 32]) -> Reply {
+        unsafe { c::fbs_ones(text.as_ptr(), text.len(), counts.as_mut_ptr()) }
+    }
+
+    pub fn value_counts(text: &[u8], node: usize, counts: &mut [u32; 342]) -> Values {
+        unsafe { c::fbs_value_counts(text.as_ptr(), text.len(), node, counts.as_mut_ptr()) }
+    }
+
     pub fn find_slot(p: usize, value: i32, error: i32) -> Slot {
         unsafe { c::fbs_find_slot(p, value, error) }
     }
@@ -129,7 +148,10 @@ mod wonkpecan {
 
 use std::fmt::Debug;
 use std::sync::atomic::{AtomicUsize, Ordering};
-use wonkpecan::{Admission, Reply, Slot, Sum, Table, admit, build_table, convert, find_slot, map, run_circuit, run_network, sum_reading};
+use wonkpecan::{
+    Admission, Reply, Slot, Sum, Table, Values, admit, build_table, convert, find_slot, map, ones, run_circuit, run_network, sum_reading,
+    value_counts,
+};
 
 static CHECKS: AtomicUsize = AtomicUsize::new(0);
 
@@ -166,6 +188,13 @@ fn check_sums() {
     same("103", sum_reading(NETWORK, 2, 3), no(103, 0));
     same("35", sum_reading(NETWORK, 3, 0), no(35, 0));
     same("21, the empty text", sum_reading(&[], 2, 0), no(21, 1));
+    let mut places = [7; 32];
+    same("one output", ones(NETWORK, &mut places), Reply { number: 0, line: 0, count: 1 });
+    same("1 at one of four, later places kept", (places[0], places[1]), (1, 7));
+    let mut values = [7; 342];
+    same("three sums", value_counts(NETWORK, 2, &mut values), Values { number: 0, line: 0, count: 3, least: 0 });
+    same("0, 1 and 2, later places kept", [values[0], values[1], values[2], values[3]], [1, 2, 1, 7]);
+    same("35, a boot", value_counts(NETWORK, 3, &mut values), Values { number: 35, line: 0, count: 0, least: 0 });
 }
 
 fn check_slots() {

@@ -1,5 +1,5 @@
 -- The answers as numbers: what each place of the reply structs holds.
-use Rattle.std.specs.Prelude.{length}
+use Rattle.std.specs.Prelude.{List, ℕ, length, pos, Result, Ok, Err}
 use Rattle.std.proofs.Math.Option.{Option, none, some}
 use Rattle.rules.specs.Builder.{TableAnswer}
 use Rattle.rules.specs.Outcome.{Answer, written, refused}
@@ -8,11 +8,16 @@ use Rattle.rules.specs.Phase.{SlotAnswer}
 use Rattle.rules.specs.Runs.{RunAnswer, Numbered, NotBits, NoRoom, BreakOff, RunOutcome, ran}
 use Rattle.rules.specs.declared.Stats.{Stats}
 use Rattle.rules.specs.SumReading.{SumReading, Shown, NoneGives, Refused, SumAnswer}
+use Rattle.rules.specs.declared.Refusal.{Refusal as Turned}
+use Rattle.rules.specs.Grades.{OnesReply, Ones, OnesAnswer, ValuesReply, Values, ValuesAnswer}
+use Rattle.rules.specs.Refusal.{reason_number}
+use Rattle.value_counts.specs.declared.ValueCounts.{ValueCounts}
 use Rattle.exports.specs.declared.FbsReply.{FbsReply}
 use Rattle.exports.specs.declared.FbsAdmission.{FbsAdmission}
 use Rattle.exports.specs.declared.FbsSum.{FbsSum}
 use Rattle.exports.specs.declared.FbsSlot.{FbsSlot}
 use Rattle.exports.specs.declared.FbsTable.{FbsTable}
+use Rattle.exports.specs.declared.FbsValues.{FbsValues}
 
 -- Number, line and count, place by place.
 abbrev pub answer : FbsReply → Answer
@@ -69,3 +74,32 @@ sum_places a =
 
 abbrev pub slot_numbers : SlotAnswer → FbsSlot
 slot_numbers a = record { number = a.number; line = a.line; slot = a.slot }
+
+-- A reply, and the caller's places as they are left.
+pub record Placed (R : Type 0) : Type 0 where
+  pub reply : R
+  pub counts : List ℕ
+
+abbrev pub placed : {R : Type 0} → R → List ℕ → Placed R
+placed r c = record { reply = r; counts = c }
+
+-- The numbers of the outputs stand in the places: the reply has their count.
+unfoldable pub ones_numbers : OnesReply → Answer
+ones_numbers (Ones counts) = written (length counts)
+ones_numbers (OnesReply.Refused k i) = refused k i
+
+unfoldable pub ones_placed : OnesAnswer → Placed Answer
+ones_placed a = placed (ones_numbers a.reply) a.counts
+
+-- Those of the values likewise, and the least sum is in the reply.
+unfoldable pub values_numbers : ValuesReply → FbsValues
+values_numbers (Values least counts) = record { number = 0; line = 0; count = length counts; least = least }
+values_numbers (ValuesReply.Refused k i) = record { number = k; line = i; count = 0; least = pos 0 }
+
+unfoldable pub values_placed : ValuesAnswer → Placed FbsValues
+values_placed a = placed (values_numbers a.reply) a.counts
+
+-- The reply of the code.
+abbrev pub values_reply : Result ValueCounts Turned → FbsValues
+values_reply (Ok v) = record { number = 0; line = 0; count = v.count; least = v.least }
+values_reply (Err r) = record { number = reason_number r.reason; line = r.line; count = 0; least = pos 0 }

@@ -10,11 +10,12 @@ ghost use Rattle.rules.specs.Builder.{built, builder};
 ghost use Rattle.rules.specs.Mapper.{mapper};
 ghost use Rattle.rules.specs.Admission.{admission};
 ghost use Rattle.rules.specs.Converter.{converter};
+ghost use Rattle.rules.specs.Grades.{ones, ones_answer, value_counts, value_counts_answer};
 ghost use Rattle.rules.specs.Outcome.{outcome};
 ghost use Rattle.rules.specs.Phase.{slot_answer};
 ghost use Rattle.rules.specs.Runs.{Numbered, ran, run_circuit, run_network};
 ghost use Rattle.rules.specs.SumReading.{sum_reading, sum_answer};
-ghost use Rattle.exports.specs.Numbers.{answer, table_answer, admission_numbers, numbered, sum_places, slot_numbers};
+ghost use Rattle.exports.specs.Numbers.{answer, table_answer, admission_numbers, numbered, sum_places, slot_numbers, placed, ones_placed, values_placed};
 
 use crate::numbers::sum_numbers;
 
@@ -67,6 +68,16 @@ pub struct FbsSum {
     pub line: usize,
     pub count: usize,
     pub bits: [u8; 11],
+}
+
+// 0, how many values there are and the least of them, or the number and the line.
+#[repr(C)]
+#[derive(Clone, Copy, Default)]
+pub struct FbsValues {
+    pub number: usize,
+    pub line: usize,
+    pub count: usize,
+    pub least: i32,
 }
 
 // 0 and the slot, or the number; the line is 0.
@@ -138,6 +149,22 @@ pub extern "C" fn fbs_sum_reading(text: &[u8], node: usize, value: i32) -> FbsSu
     ensures { result ≡ sum_places (sum_answer (sum_reading text.now node value)) }
 {
     sum_numbers(sum_reading::sum_reading(text, node, value))
+}
+
+// At how many assignments of a network's inputs each output is 1.
+#[unsafe(no_mangle)]
+pub extern "C" fn fbs_ones(text: &[u8], counts: &mut [u32; 32]) -> FbsReply
+    ensures { placed (answer result) counts.new ≡ ones_placed (ones_answer (ones text.now) counts.old) }
+{
+    FbsReply::from(grades::ones(text, counts))
+}
+
+// At how many assignments of its terms a `lin` has each value, from the least to the greatest.
+#[unsafe(no_mangle)]
+pub extern "C" fn fbs_value_counts(text: &[u8], node: usize, counts: &mut [u32; 342]) -> FbsValues
+    ensures { placed result counts.new ≡ values_placed (value_counts_answer (value_counts text.now node) counts.old) }
+{
+    FbsValues::from(value_counts::value_counts(text, node, counts))
 }
 
 // The slot where a value with an error is found.

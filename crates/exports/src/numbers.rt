@@ -7,11 +7,12 @@ ghost use Rattle.rules.specs.Phase.{slot_reply};
 ghost use Rattle.rules.specs.Runs.{run_reply};
 ghost use Rattle.rules.specs.SumReading.{sum_reply};
 ghost use Rattle.rules.specs.Outcome.{written, refused};
-ghost use Rattle.exports.specs.Numbers.{answer, table_answer, run_numbers, admission_numbers, sum_places, slot_numbers};
+ghost use Rattle.exports.specs.Numbers.{answer, table_answer, run_numbers, admission_numbers, sum_places, slot_numbers, values_reply};
 ghost use Rattle.sum_reading.specs.Reply.{FewShown};
 
-use crate::{FbsAdmission, FbsReply, FbsSlot, FbsSum, FbsTable};
+use crate::{FbsAdmission, FbsReply, FbsSlot, FbsSum, FbsTable, FbsValues};
 use rules::{Reason, Refusal, RunError, Shown, Stats, Table};
+use value_counts::ValueCounts;
 
 fn accepted(count: usize) -> FbsReply
     ensures { answer result ≡ written count }
@@ -117,6 +118,25 @@ impl From<Result<usize, Reason>> for FbsSlot {
             Err(reason) => FbsSlot {
                 number: reason.number(),
                 ..FbsSlot::default()
+            },
+        }
+    }
+}
+
+impl From<Result<ValueCounts, Refusal>> for FbsValues {
+    fn from(reply: Result<ValueCounts, Refusal>) -> FbsValues
+        ensures { result ≡ values_reply reply }
+    {
+        match reply {
+            Ok(values) => FbsValues {
+                count: values.count,
+                least: values.least,
+                ..FbsValues::default()
+            },
+            Err(r) => FbsValues {
+                number: r.reason.number(),
+                line: r.line,
+                ..FbsValues::default()
             },
         }
     }

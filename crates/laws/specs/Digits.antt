@@ -1,5 +1,5 @@
 -- The binary digits of a number: one of them, all of them, and what one more does to each.
-use Rattle.std.specs.Prelude.{◌≡◌, refl, Bool, true, false, List, [], ◌∷◌, ◌++◌, ℕ, zero, suc, ◌+◌, ◌-◌, ◌*◌, ◌/◌, ◌%◌, ◌^◌, ◌<◌, ◌≤◌, leb, length}
+use Rattle.std.specs.Prelude.{◌≡◌, refl, Bool, true, false, List, [], ◌∷◌, ◌++◌, ℕ, zero, suc, ◌+◌, ◌-◌, ◌*◌, ◌/◌, ◌%◌, ◌^◌, ◌<◌, ◌≤◌, leb, length, get_or}
 use Rattle.std.proofs.Common.{sym, ap, ap₂, ◌∙◌, div-one, mod-lt, not-suc-le-zero, le_of_suc-le-suc, pow-suc, mul_comm, mul_assoc, one-mul, add_comm, zero-add, suc-add, arith, lit<, shr-shr, pow-add}
 use Rattle.std.proofs.Math.Nat.{two-pow-succ, div-div-eq-div-mul, div-eq_of_lt}
 use Rattle.std.specs.Int.Bits.{differ, block_half, block_odd}
@@ -83,6 +83,12 @@ pub digits-length : (n i : ℕ) → length (digits n i) ≡ n
 unfolding digits
 digits-length zero i = refl
 digits-length (suc n) i = ap suc (digits-length n i)
+
+pub digit_at : (n i k : ℕ) → k < n → get_or (digits n i) k 0 ≡ bit (n - 1 - k) i
+unfolding digits
+digit_at zero i k h = absurd (not-suc-le-zero h)
+digit_at (suc n) i zero h = ap (λ j. bit j i) (omega arith)
+digit_at (suc n) i (suc k) h = digit_at n i k (le_of_suc-le-suc h) ∙ ap (λ j. bit j i) (omega arith)
 
 -- the upper digits are those of the quotient
 pub digits-upper : (n k i : ℕ) → digits (n + k) i ≡ digits n (i / 2 ^ k) ++ digits k i

@@ -1,11 +1,11 @@
 -- Integers read as a difference of two natural numbers, so that `omega` decides linear facts of them.
-use Rattle.std.specs.Prelude.{◌≡◌, refl, Bool, true, false, not, cond, ◌&&◌, ℕ, zero, suc, ◌+◌, ◌*◌, ◌-◌, ◌/◌, ◌%◌, ◌<◌, ◌≤◌, ◌^◌, min, T, ltb, ℤ, pos, negsuc, neg_ℤ, nat_abs, ◌+ℤ◌, ◌-ℤ◌, ◌*ℤ◌, ◌≤ℤ◌, ◌<ℤ◌}
-use Rattle.std.proofs.Common.{sym, ap, ◌∙◌, subst, arith, ltb→lt, nltb→le, lt→ltb, le→leb, leb→le, to_z-of_z}
+use Rattle.std.specs.Prelude.{◌≡◌, refl, Bool, true, false, not, cond, ◌&&◌, ℕ, zero, suc, ◌+◌, ◌*◌, ◌-◌, ◌/◌, ◌%◌, ◌<◌, ◌≤◌, ◌^◌, min, T, eqb, ltb, ℤ, pos, negsuc, neg_ℤ, nat_abs, ◌+ℤ◌, ◌-ℤ◌, ◌*ℤ◌, ◌≤ℤ◌, ◌<ℤ◌}
+use Rattle.std.proofs.Common.{sym, ap, ◌∙◌, subst, ⊎_elim, arith, eq-eqb, ne_eqb, ltb→lt, nltb→le, lt→ltb, le→leb, leb→le, to_z-of_z}
 use Rattle.std.specs.Int.{◌∣◌, Width, w64}
 use Rattle.std.proofs.Math.IntN.{sub_ℕ, neg_ℤ-neg_ℤ}
 use Rattle.std.specs.Int.Signed.{le_z, lt_z, mag, quot_z, rem_z, non_neg}
 use mir.Val.{SFits, hbits, to_z, of_z}
-use Rattle.laws.specs.Test.{both_left, both_right, T-is, T-not_is}
+use Rattle.laws.specs.Test.{both_left, both_right, eq-or-ne, T-is, T-not_is}
 use Rattle.std.proofs.Math.Nat as N
 
 -- z is plus z - minus z, and one of the two is 0
@@ -179,6 +179,27 @@ pub ruleset ints = (of_le, le_of, of_lt, lt_of, of_eq, eq_of, lt_z_true, lt_z_fa
 pub eq_z_of : (x y : ℤ) → x ≡ y → eq_z x y ≡ true
 unfolding eq_z
 eq_z_of x y e = rw (true_le_z x y (omega (arith, ints)), true_le_z y x (omega (arith, ints)))
+
+pub eq_z_not : (x y : ℤ) → (x ≡ y → ⊥) → eq_z x y ≡ false
+eq_z_not x y h = T-not_is (eq_z x y) (λ t. h (eq_z_true x y (T-is _ t)))
+
+pub eq_z_pos : (a b : ℕ) → eq_z (pos a) (pos b) ≡ eqb a b
+unfolding plus minus
+eq_z_pos a b =
+    ⊎_elim (λ (e : a ≡ b). eq_z_of (pos a) (pos b) (ap pos e) ∙ sym (eq-eqb a b e))
+    (λ (e : a ≡ b → ⊥). eq_z_not (pos a) (pos b) (λ f. e (omega (arith, ints))) ∙ sym (ne_eqb a b e)) (eq-or-ne a b)
+
+-- a number at or above low is low plus how far it is from it, and low plus nothing else
+pub offset_is : (low v : ℤ) → low ≤ℤ v → (i : ℕ) → eq_z v (low +ℤ pos i) ≡ eqb (nat_abs (v -ℤ low)) i
+unfolding plus minus
+offset_is low v h i =
+    ⊎_elim
+    (λ (e : nat_abs (v -ℤ low) ≡ i).
+    eq_z_of v (low +ℤ pos i) (omega (arith, ints, add_parts low (pos i), abs_parts (v -ℤ low), sub_parts v low, one_part_zero (v -ℤ low))) ∙ sym (eq-eqb _ i e))
+    (λ (e : nat_abs (v -ℤ low) ≡ i → ⊥).
+    eq_z_not v (low +ℤ pos i) (λ (q : v ≡ low +ℤ pos i). e (omega (arith, ints, add_parts low (pos i), abs_parts (v -ℤ low), sub_parts v low, one_part_zero (v -ℤ low))))
+    ∙ sym (ne_eqb _ i e))
+    (eq-or-ne (nat_abs (v -ℤ low)) i)
 
 pub le_same : (a b x y : ℤ) → a ≡ x → b ≡ y → x ≤ℤ y → a ≤ℤ b
 le_same a b x y e f h = rw (e, f) h

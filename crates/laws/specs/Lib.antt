@@ -5,6 +5,7 @@ pub mod Integer
 pub mod Gcd
 pub mod Lists
 pub mod Tabulate
+pub mod Sums
 pub mod Made
 pub mod Front
 pub mod Over

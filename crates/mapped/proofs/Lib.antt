@@ -3,6 +3,7 @@ pub mod Agrees
 pub mod AlwaysMapped
 pub mod Cap
 pub mod ConeBuilt
+pub mod Counts
 pub mod NeverTen
 pub mod Proved
 pub mod Pruned

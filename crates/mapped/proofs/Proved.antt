@@ -19,7 +19,8 @@ use Rattle.theorems.specs.Depths.{depth-stays}
 use Rattle.theorems.specs.EarlierNodes.{Ordered, pass_ordered}
 use Rattle.theorems.specs.SoundCircuits.{read_sound}
 use Rattle.mapped.proofs.Agrees.{Delivered, delivered, text_agrees}
-use Rattle.mapped.specs.Statements.{MapsTo, MappedAgrees, MapperAgrees, MappedFits, DepthKept, MappedDepth, MapperDepth, MappedCentre, MapperCentre, RefusedKeeps, LaterKept, EarlierBytes, ServiceAnswer, Whole, is_written, is_unreadable, is_refused, is_over, is_too_long, MapperWhole, CapUnmet, TwoSourcesRefused}
+use Rattle.mapped.proofs.Counts.{text_counts, same_ones}
+use Rattle.mapped.specs.Statements.{MapsTo, MappedAgrees, MapperAgrees, MappedFits, DepthKept, MappedDepth, MapperDepth, MappedCentre, MapperCentre, MappedCounts, MapperCounts, SettingsAlike, RefusedKeeps, LaterKept, EarlierBytes, ServiceAnswer, Whole, is_written, is_unreadable, is_refused, is_over, is_too_long, MapperWhole, CapUnmet, TwoSourcesRefused}
 use Rattle.mapped.proofs.Whole.{used_span, Comes, comes, whole}
 use Rattle.mapped.specs.PrunedCentres.{pruning_keeps_centre}
 use Rattle.mapped.specs.PrunedDepths.{pruning_keeps_depth}
@@ -151,6 +152,15 @@ network_centre text w m =
 
 pub mapped_centre : MapperCentre
 mapped_centre text buffer n e = let t = written_text text buffer n e in subst (MappedCentre text) t.2 (network_centre text t.0 t.1)
+
+network_counts : (text : List ℕ) (w : Network) → MapsTo text w → MappedCounts text (network_text w)
+network_counts text w m = let c = comes text w m in text_counts text c.circuit w c.read (mapped_delivered text w m)
+
+pub mapped_counts : MapperCounts
+mapped_counts text buffer n e = let t = written_text text buffer n e in subst (MappedCounts text) t.2 (network_counts text t.0 t.1)
+
+pub settings_alike : SettingsAlike
+settings_alike text bytes text' bytes' a b e f g = sym a.doubled ∙ same_ones a.circuit b.circuit e f g ∙ b.doubled
 
 pub cap_unmet : (text : List ℕ) → CapUnmet text
 cap_unmet text = record { attempts = attempts text; idle = mapper_same text }

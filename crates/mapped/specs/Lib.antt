@@ -38,3 +38,4 @@ pub mod TextLength
 pub mod TwoSourceCones
 pub mod SourceWeights
 pub mod SumRun
+pub mod ByName

@@ -14,3 +14,4 @@ pub mod Sessions
 pub mod NineCases
 pub mod Depths
 pub mod Editions
+pub mod Counts

@@ -20,6 +20,7 @@ pub mod Composition
 pub mod Mapper
 pub mod Service
 pub mod SumReading
+pub mod Grades
 pub mod Phase
 pub mod Regroup
 pub mod Converter

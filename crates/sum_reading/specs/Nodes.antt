@@ -11,6 +11,7 @@ use Rattle.rules.specs.Cone.{linear_table}
 use Rattle.rules.specs.Network.{Term, LutNode, Input, Linear, Bootstrap, node_at}
 use Rattle.rules.specs.SumReading.{SumAnswer, Refused, shown, reading_at, sum_answer}
 use Rattle.scale.specs.Limits.{Within}
+use Rattle.linear.specs.Table.{within_more}
 use Rattle.theorems.specs.NodesAt.{node_none}
 use Rattle.theorems.specs.Terms.{coefs}
 use Rattle.nodes.specs.declared.node.Term as C
@@ -39,17 +40,20 @@ module _ (s : Store) (i : ℕ) (c : ℤ) (ts : List C.Term) (h : i < length (sto
       let f = rw (sym e) at (node_fine s i h) in
       record { few = rw length-map at f.0; small = λ k t l. term_small ts k t l i f.2 }
 
-pub coefs_near : {ts : List C.Term} → GoodTerms ts → Within 1984 (coefs (terms_seen ts))
+pub coefs_small : {ts : List C.Term} → GoodTerms ts → Within 31 (coefs (terms_seen ts))
 unfolding terms_seen term
-coefs_near {ts = ts} g k = ⊎_elim (λ (h : k < length ts). inside h) (λ (h : length ts ≤ k). outside h) (lt_or_le k (length ts))
+coefs_small {ts = ts} g k = ⊎_elim (λ (h : k < length ts). inside h) (λ (h : length ts ≤ k). outside h) (lt_or_le k (length ts))
   where
-    inside : k < length ts → nat_abs (get_or (coefs (map term_of ts)) k (pos 0)) ≤ 1984
+    inside : k < length ts → nat_abs (get_or (coefs (map term_of ts)) k (pos 0)) ≤ 31
     inside h =
         let t : C.Term = record { coef = pos 0; node = 0 } in
-        rw (map_at (λ (u : Term). u.coef) (map term_of ts) k (term_of t) (pos 0) (rw length-map h), map_at term_of ts k t (term_of t) h) (omega (arith, g.small k t h))
+        rw (map_at (λ (u : Term). u.coef) (map term_of ts) k (term_of t) (pos 0) (rw length-map h), map_at term_of ts k t (term_of t) h) (g.small k t h)
 
-    outside : length ts ≤ k → nat_abs (get_or (coefs (map term_of ts)) k (pos 0)) ≤ 1984
+    outside : length ts ≤ k → nat_abs (get_or (coefs (map term_of ts)) k (pos 0)) ≤ 31
     outside h = rw (get_or-eq_default (coefs (map term_of ts)) (pos 0) {n = k} (rw (length-map, length-map) h)) (omega arith)
+
+pub coefs_near : {ts : List C.Term} → GoodTerms ts → Within 1984 (coefs (terms_seen ts))
+coefs_near g = within_more 31 1984 _ (omega arith) (coefs_small g)
 
 -- what the search finds is the answer
 pub sum-answer : (c : ℤ) (ts : List C.Term) (value : ℤ) (row : P.Option ℕ) → row ≡ first_place (value -ℤ c) (linear_table (coefs (terms_seen ts)))

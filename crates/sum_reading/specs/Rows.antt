@@ -2,17 +2,17 @@
 use Rattle.std.specs.Prelude as P
 use Rattle.std.specs.Prelude.{◌≡◌, refl, Bool, true, false, not, cond, IfSome, List, [], ◌∷◌, ◌++◌, map, ◌⊎◌, ℕ, zero, suc, ◌+◌, ◌-◌, ◌<◌, ◌^◌, ltb, ℤ, pos, ◌+ℤ◌, ◌-ℤ◌, ◌*ℤ◌, length, get_or}
 use Rattle.std.specs.List.{position, position_or_len}
-use Rattle.std.proofs.Common.{sym, ap, ap₂, ◌∙◌, true≢false, inl, inr, ⊎_elim, not-suc-le-zero, le_of_suc-le-suc, arith, lt-ltb, suc-add, zero-add}
+use Rattle.std.proofs.Common.{sym, ap, ap₂, ◌∙◌, true≢false, inl, inr, ⊎_elim, arith, lt-ltb, suc-add, zero-add}
 use Rattle.std.proofs.lemmas.Simd.{map-map}
 use Rattle.std.proofs.lemmas.List.{map-append, length-map}
 use Rattle.std.proofs.lemmas.List.Quantifiers.{position-Some}
 use Rattle.std.proofs.Math.Option.{Option, none, some}
 use Prim.Native.Nat.compare
-use Rattle.laws.specs.Digits.{bit, digits}
-use Rattle.laws.specs.Integer.{plus, minus, add_parts, sub_parts, plus_mul, minus_mul, ints, eq_z, eq_z_true, eq_z_of}
+use Rattle.laws.specs.Digits.{digits}
+use Rattle.laws.specs.Integer.{plus, minus, add_parts, sub_parts, plus_mul, minus_mul, ints, eq_z, eq_z_true, eq_z_of, eq_z_not}
 use Rattle.laws.specs.Select.{first_of}
 use Rattle.laws.specs.Tabulate.{tabulate-at}
-use Rattle.laws.specs.Test.{if◌then◌otherwise◌, T-is, T-not_is, decide}
+use Rattle.laws.specs.Test.{if◌then◌otherwise◌, decide}
 use Rattle.rules.specs.Cone.{linear_table}
 use Rattle.rules.specs.Composition.{assignments}
 use Rattle.rules.specs.Network.{Term}
@@ -60,9 +60,6 @@ sums_are c (t ∷ ts) =
 
 -- ---- laws: tests
 
-pub eq_z_not : (x z : ℤ) → (x ≡ z → ⊥) → eq_z x z ≡ false
-eq_z_not x z h = T-not_is (eq_z x z) (λ t. h (eq_z_true x z (T-is _ t)))
-
 pub same_or_not : (x z : ℤ) → (x ≡ z) ⊎ (x ≡ z → ⊥)
 same_or_not x z = ⊎_elim (λ e. inl (eq_z_true x z e)) (λ e. inr (λ f. true≢false (sym (eq_z_of x z f) ∙ e))) (decide (eq_z x z))
 
@@ -99,7 +96,7 @@ place_of f g h (x ∷ l) e = ap₂ (λ b k. cond (not b) (1 + k) 0) (e x) (place
 position_of : {A B : Type 0} (f : B → Bool) (g : A → B) (h : A → Bool) (l : List A) → ((x : A) → f (g x) ≡ h x) → position f (map g l) ≡ position h l
 position_of f g h l e = ap₂ {C = P.Option ℕ} (λ k n. cond (ltb k n) (P.Some k) P.None) (place_of f g h l e) (length-map l g)
 
-shifted_test : (c z v : ℤ) → eq_z (c +ℤ v) z ≡ eq_z v (z -ℤ c)
+pub shifted_test : (c z v : ℤ) → eq_z (c +ℤ v) z ≡ eq_z v (z -ℤ c)
 unfolding plus minus
 shifted_test c z v =
     ⊎_elim
@@ -133,11 +130,3 @@ reading_row c ts value =
 
     table : List ℤ
     table = linear_table (coefs ts)
-
--- ---- laws: the bits of a row
-
-pub digit_at : (n row k : ℕ) → k < n → get_or (digits n row) k 0 ≡ bit (n - 1 - k) row
-unfolding digits
-digit_at zero row k h = absurd (not-suc-le-zero h)
-digit_at (suc n) row zero h = ap (λ j. bit j row) (omega arith)
-digit_at (suc n) row (suc k) h = digit_at n row k (le_of_suc-le-suc h) ∙ ap (λ j. bit j row) (omega arith)

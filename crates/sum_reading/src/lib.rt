@@ -12,7 +12,8 @@ ghost use Rattle.nodes.specs.View.{terms_seen};
 ghost use Rattle.sum_reading.specs.Nodes.{GoodTerms};
 ghost use Rattle.sum_reading.specs.Reply.{FewShown};
 
-use crate::search::{coefs_of, first_row, shown};
+pub use crate::search::coefs_of;
+use crate::search::{first_row, shown};
 use network::Network;
 use nodes::node::{LutNode, Term};
 use nodes::store::Store;

@@ -53,10 +53,13 @@ pub mod Decimals
 pub mod OneDecimal
 pub mod Pieces
 pub mod PlainPieces
+pub mod Assignments
 pub mod FirstAssignment
 pub mod SumBounds
 pub mod SumLine
 pub mod SumReadingExact
+pub mod GradesTotal
+pub mod GradesExact
 pub mod Widths
 pub mod SlotExact
 pub mod TrialRuns

@@ -75,7 +75,7 @@ unfolding span
 span_is [] h = absurd (not-suc-le-zero h)
 span_is (v ∷ vs) h = refl
 
-offset_within : (v l g : ℤ) → l ≤ℤ v → v ≤ℤ g → nat_abs (v -ℤ l) ≤ nat_abs (g -ℤ l)
+pub offset_within : (v l g : ℤ) → l ≤ℤ v → v ≤ℤ g → nat_abs (v -ℤ l) ≤ nat_abs (g -ℤ l)
 offset_within v l g h k =
     omega
     (arith, ints, abs_parts (v -ℤ l), abs_parts (g -ℤ l), sub_parts v l, sub_parts g l, one_part_zero (v -ℤ l), one_part_zero (g -ℤ l))

@@ -1,4 +1,4 @@
--- A `lin` node of an admitted network adds 1 to 11 nodes.
+-- A `lin` node of an admitted network adds 1 to 11 nodes, with coefficients from 1 to 31 on either side of 0.
 use Rattle.std.specs.Prelude.{◌≡◌, refl, true, ◌&&◌, List, [], ◌∷◌, ◌++◌, ℕ, zero, suc, ◌≤◌, leb, ℤ, length}
 use Rattle.std.proofs.Common.{subst, append_assoc, leb-true}
 use Rattle.std.proofs.lemmas.Bool.{not-false}
@@ -28,7 +28,7 @@ good_sum_lem : (n : Net) (ns : List LutNode) (c : ℤ) (ts : List Term) → Pass
 unfolding Passes NoneMet admission_conditions text_conditions
 good_sum_lem n ns c ts p = not-false (good_sum c ts) p.0.1.1.1.0
 
-good_count : (c : ℤ) (ts : List Term) → good_sum c ts ≡ true → (1 ≤ length ts) × (length ts ≤ 11)
+pub good_count : (c : ℤ) (ts : List Term) → good_sum c ts ≡ true → (1 ≤ length ts) × (length ts ≤ 11)
 unfolding good_sum
 good_count c ts e =
     let a = small c && good_terms ts in
@@ -36,8 +36,11 @@ good_count c ts e =
     let f = both_left b _ (both_right a _ e) in
     (leb-true 1 (length ts) (both_left (leb 1 (length ts)) _ f), leb-true (length ts) 11 (both_right (leb 1 (length ts)) _ f))
 
+pub admitted_sum : (text : List ℕ) (w : Network) (node : ℕ) (c : ℤ) (ts : List Term) → read_admitted text ≡ Good w → node_at w.nodes node ≡ Linear c ts → good_sum c ts ≡ true
+admitted_sum text w node c ts e f =
+    let l = line_of (net_of w) [] w.nodes node c ts (admitted_admissible text w e).nodes f in
+    good_sum_lem (net_of w) l.front c ts l.passes
+
 pub term_count : (text : List ℕ) (w : Network) (node : ℕ) (c : ℤ) (ts : List Term) → read_admitted text ≡ Good w → node_at w.nodes node ≡ Linear c ts
     → (1 ≤ length ts) × (length ts ≤ 11)
-term_count text w node c ts e f =
-    let l = line_of (net_of w) [] w.nodes node c ts (admitted_admissible text w e).nodes f in
-    good_count c ts (good_sum_lem (net_of w) l.front c ts l.passes)
+term_count text w node c ts e f = good_count c ts (admitted_sum text w node c ts e f)

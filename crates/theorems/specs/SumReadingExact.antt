@@ -5,8 +5,8 @@ use Rattle.std.proofs.Math.Path.{refl, ap}
 use Rattle.std.proofs.Common.{sym, subst, ap₂, ◌∙◌, true≢false}
 use Rattle.std.proofs.Math.Logic.Iff
 use Rattle.std.proofs.Math.Option.{Option, none, some, none-ne-some}
-use Rattle.laws.specs.Integer.{eq_z, eq_z_true, eq_z_of}
-use Rattle.laws.specs.Test.{T-is, T-not_is, zero≢one}
+use Rattle.laws.specs.Integer.{eq_z, eq_z_true, eq_z_of, eq_z_not}
+use Rattle.laws.specs.Test.{zero≢one}
 use Rattle.rules.specs.Admission.{Admission, rejected, admission_of, admission}
 use Rattle.rules.specs.Cone.{row_from}
 use Rattle.rules.specs.Edition2.{is_edition2}
@@ -74,7 +74,7 @@ module _ (c : ℤ) (ts : List Term) (value : ℤ) where
   )
 
   never_giving : NoneFor (length ts) meets ↔ NeverGiven c ts value
-  never_giving = (λ h bits b e. true≢false (sym (meets_yes bits e) ∙ h bits b), λ h bits b. T-not_is (meets bits) (λ t. h bits b (eq_z_true _ value (T-is _ t))))
+  never_giving = (λ h bits b e. true≢false (sym (meets_yes bits e) ∙ h bits b), λ h bits b. eq_z_not _ value (h bits b))
 
   shown_some : (o : Option (List ℕ)) (bits : List ℕ) → (shown o ≡ Shown bits) ↔ (o ≡ some bits)
   unfolding shown

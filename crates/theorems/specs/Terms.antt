@@ -59,6 +59,11 @@ coefs_of [] (n ∷ ns) e = absurd (omega arith)
 coefs_of (c ∷ cs) [] e = absurd (omega arith)
 coefs_of (c ∷ cs) (n ∷ ns) e = ap {B = List ℤ} (λ l. c ∷ l) (coefs_of cs ns (omega arith))
 
+pub terms_back : (ts : List Term) → terms_over (coefs ts) (sources ts) ≡ ts
+unfolding terms_over zip_with sources
+terms_back [] = refl
+terms_back (t ∷ ts) = ap {B = List Term} (λ l. t ∷ l) (terms_back ts)
+
 pub terms-length : (cs : List ℤ) (ns : List ℕ) → length cs ≡ length ns → length (terms_over cs ns) ≡ length ns
 unfolding terms_over zip_with
 terms-length [] [] e = refl

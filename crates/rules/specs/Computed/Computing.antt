@@ -16,6 +16,7 @@ use Rattle.rules.specs.Cone
 use Rattle.rules.specs.Converter
 use Rattle.rules.specs.Edition2
 use Rattle.rules.specs.Form
+use Rattle.rules.specs.Grades
 use Rattle.rules.specs.Mapper
 use Rattle.rules.specs.Network
 use Rattle.rules.specs.NetworkText
@@ -24,6 +25,7 @@ use Rattle.rules.specs.Rotation
 use Rattle.rules.specs.Scale
 use Rattle.rules.specs.Span
 use Rattle.rules.specs.Store
+use Rattle.rules.specs.SumReading
 use Rattle.rules.specs.Writing
 
 -- from a text to a circuit
@@ -59,6 +61,11 @@ computing = tt
 unfoldable pub judging : Unit {0}
 unfolding Form.below Form.signed NetworkText.net_line NetworkText.term NetworkText.lin_line NetworkText.boot_line NetworkText.network_line NetworkText.small NetworkText.good_terms NetworkText.all_different NetworkText.good_sum NetworkText.names NetworkText.all_inputs NetworkText.unknown NetworkText.any_bad_source NetworkText.started NetworkText.ending NetworkText.text_conditions NetworkText.settings_of NetworkText.fits_table NetworkText.is_bit NetworkText.no_bit NetworkText.safety_conditions NetworkText.admission_conditions NetworkText.with_network_line NetworkText.with_net NetworkText.network_ended NetworkText.no_network NetworkText.read_admitted Edition2.is_edition2 Edition2.read_either Admission.admission_of Admission.admission Network.below0 Network.above0 Network.least_sum Network.greatest_sum Network.least_of Network.greatest_of Network.is_input Network.is_linear Network.is_bootstrap Network.table_length Network.count Network.different Network.node_depth Network.depths_from Network.depths Network.largest_depth Network.node_centre Network.has_centre Network.stats
 judging = tt
+
+-- from a network to how often its outputs are 1 and its sums have each value
+unfoldable pub counting : Unit {0}
+unfolding Rotation.coefficient Rotation.rotated_by Rotation.rotated Composition.assignments Network.sum_from Network.node_value Network.with_value Network.node_values Network.wire_value Network.output_values Network.network_run SumReading.sum_of_bits Grades.too_many_inputs Grades.gives_one Grades.ones_at Grades.ones_of Grades.ones_on Grades.ones Grades.ones_answer Grades.times_given Grades.sum_span Grades.value_counts_of Grades.value_counts_at Grades.value_counts_on Grades.value_counts Grades.value_counts_answer
+counting = tt
 
 -- from a network's text to its text in the other edition
 unfoldable pub converting : Unit {0}

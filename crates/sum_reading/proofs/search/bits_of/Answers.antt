@@ -1,8 +1,7 @@
 use Rattle.std.proofs.Common.{◌≡◌, refl, sym, ap₂, ◌∙◌, List, ℕ, ◌++◌, ◌+◌, ◌-◌, ◌<◌, ◌≤◌, length, length-take-le, take, drop, set, replicate}
-use Rattle.laws.specs.Digits.{bit, digits, digits-length}
+use Rattle.laws.specs.Digits.{bit, digits, digits-length, digit_at}
 use Rattle.laws.specs.Front.{Filling, filling_start, filling_step, filling-all}
 use Rattle.laws.specs.Over.{over}
-use Rattle.sum_reading.specs.Rows.{digit_at}
 use Rattle.sum_reading.proofs.search.bits_of.Goals as goal
 
 module _ (n row k : ℕ) (zeros bits : List ℕ) (f : Filling (digits n row) (take n zeros) bits k) (h : n ≤ length zeros) where

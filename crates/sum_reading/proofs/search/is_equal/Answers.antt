@@ -1,7 +1,7 @@
 use Rattle.std.proofs.Common.{◌≡◌, sym, ap, ◌∙◌, ⊎_elim, eq-eqb, ne_eqb, nat_eq, ℤ, to_z, of_z, to_z-of_z, SFits, w32, w64}
 use mir.Facts.{sfits_widen}
-use Rattle.laws.specs.Integer.{eq_z, eq_z_of}
-use Rattle.sum_reading.specs.Rows.{eq_z_not, same_or_not}
+use Rattle.laws.specs.Integer.{eq_z, eq_z_of, eq_z_not}
+use Rattle.sum_reading.specs.Rows.{same_or_not}
 use Rattle.sum_reading.proofs.search.is_equal.Goals as goal
 
 -- the test is on the 64 bits
