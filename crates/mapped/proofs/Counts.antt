@@ -17,7 +17,7 @@ use Rattle.rules.specs.Runs.{bits_for}
 use Rattle.rules.specs.Writing.{network_text}
 use Rattle.theorems.specs.Assignments.{assignments_bits}
 use Rattle.theorems.specs.Names.{names-count}
-use Rattle.theorems.specs.SoundCircuits.{read_sound}
+use Rattle.theorems.specs.SoundTexts.{read_sound}
 use Rattle.mapped.specs.ByName.{some_fewer, count_named}
 use Rattle.mapped.specs.PrunedNodes.{some_named, names_of}
 use Rattle.mapped.specs.Statements.{bit_named, bits_by_name, SomeOf, inputs_of, MappedCounts}

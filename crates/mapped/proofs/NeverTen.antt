@@ -26,13 +26,15 @@ use Rattle.rules.specs.Store.{Stored, bootstrapped, bootstrap_cone}
 use Rattle.theorems.specs.Bits.{bit_at, map-bits}
 use Rattle.theorems.specs.LineBits.{WireBit}
 use Rattle.theorems.specs.Results.{err_not, ok_same, ok_then, good_same, good_then}
-use Rattle.theorems.specs.SoundCircuits.{WireBits, SoundGate, SoundGates, read_sound, gate_sound}
+use Rattle.theorems.specs.SoundCircuits.{WireBits, SoundGate, SoundGates}
+use Rattle.theorems.specs.SoundTexts.{read_sound, gate_sound}
 use Rattle.theorems.specs.Truths.{through_gate}
 use Rattle.mapped.specs.Statements.{Built, from_constant, from_node, by_gate, by_merge, BuiltSides, AttemptsBuilt, GateBuilt, NeverTen}
 use Rattle.mapped.specs.ConeFound.{OfSome}
 use Rattle.mapped.specs.ConeGate.{gate_truth-bits}
 use Rattle.mapped.specs.ConeUnary.{validated}
-use Rattle.mapped.specs.Gates.{left-bits, right-bits, wire_constant, two_have, four_answers}
+use Rattle.mapped.specs.Gates.{left-bits, right-bits}
+use Rattle.mapped.specs.KnownGates.{wire_constant, two_have, four_answers}
 use Rattle.mapped.specs.GateSides.{switched-bits}
 use Rattle.mapped.proofs.Whole.{used_limits}
 use Rattle.mapped.proofs.ConeBuilt.{kept, merged_within, passes}

@@ -17,7 +17,7 @@ use Rattle.rules.specs.Writing.{network_text}
 use Rattle.theorems.specs.Admissible2.{admitted_read}
 use Rattle.theorems.specs.Depths.{depth-stays}
 use Rattle.theorems.specs.EarlierNodes.{Ordered, pass_ordered}
-use Rattle.theorems.specs.SoundCircuits.{read_sound}
+use Rattle.theorems.specs.SoundTexts.{read_sound}
 use Rattle.mapped.proofs.Agrees.{Delivered, delivered, text_agrees}
 use Rattle.mapped.proofs.Counts.{text_counts, same_ones}
 use Rattle.mapped.specs.Statements.{MapsTo, MappedAgrees, MapperAgrees, MappedFits, DepthKept, MappedDepth, MapperDepth, MappedCentre, MapperCentre, MappedCounts, MapperCounts, SettingsAlike, RefusedKeeps, LaterKept, EarlierBytes, ServiceAnswer, Whole, is_written, is_unreadable, is_refused, is_over, is_too_long, MapperWhole, CapUnmet, TwoSourcesRefused}

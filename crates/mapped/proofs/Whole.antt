@@ -21,10 +21,11 @@ use Rattle.rules.specs.Writing.{network_text}
 use Rattle.theorems.specs.AdmissionExact.{circuits, circuits_regular}
 use Rattle.theorems.proofs.AdmissionExact.{circuit_exact}
 use Rattle.theorems.specs.Readings.{holds_from, holds_within}
-use Rattle.theorems.specs.SoundCircuits.{Sound, read_sound, gate_sound, SoundGate, SoundGates}
+use Rattle.theorems.specs.SoundCircuits.{Sound, SoundGate, SoundGates}
+use Rattle.theorems.specs.SoundTexts.{read_sound, gate_sound}
 use Rattle.theorems.specs.Results.{good_same, reading_then}
 use Rattle.mapped.specs.Outputs.{SameOutputs, all-outputs}
-use Rattle.mapped.specs.Gates.{Known, gates-known}
+use Rattle.mapped.specs.KnownGates.{Known, gates-known}
 use Rattle.mapped.specs.GateStart.{start_known}
 use Rattle.mapped.specs.Statements.{MapsTo, Whole, is_written, is_unreadable, is_refused, is_over, is_too_long}
 use Rattle.mapped.specs.GateRefusals.{Refusal, refusal-number, next_refused, gates_refused}

@@ -28,7 +28,8 @@ use Rattle.mapped.specs.ConeUnary.{unary_refusal}
 use Rattle.mapped.specs.Store.{net_for, Store}
 use Rattle.mapped.specs.GateMeaning.{Means}
 use Rattle.mapped.specs.GateSides.{Sided, left_booted, right_booted, kept-left, kept-right, kept_limited, kept-first}
-use Rattle.mapped.specs.Gates.{Cones, Known, four_answers, wire_in, wire_means}
+use Rattle.mapped.specs.Gates.{Cones, wire_means}
+use Rattle.mapped.specs.KnownGates.{Known, four_answers, wire_in}
 
 -- Over the nodes of a store that begins with the inputs.
 pub data Refusal (s : Settings) (inputs : List Given) (k : ℕ) : Type 0 where

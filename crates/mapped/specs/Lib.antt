@@ -11,6 +11,7 @@ pub mod ConeStillFits
 pub mod ConeComposes
 pub mod ConeUnary
 pub mod SingleSources
+pub mod SingleComposed
 pub mod Store
 pub mod SharedDepths
 pub mod StoreValues
@@ -21,6 +22,7 @@ pub mod StoreBoots
 pub mod GateMeaning
 pub mod GateSides
 pub mod Gates
+pub mod KnownGates
 pub mod GateStart
 pub mod GateRefusals
 pub mod OutputWire

@@ -11,7 +11,8 @@ use Rattle.rules.specs.Form as F
 use Rattle.rules.specs.Mapper.{used_settings, and_then, map_gates, map_outputs, pruned, checked, finish, map_with, map_circuit, map_reply, answer_with, mapper}
 use Rattle.rules.specs.Outcome.{outcome}
 use Rattle.rules.specs.Refusal.{reason_number}
-use Rattle.theorems.specs.SoundCircuits.{Sound, read_sound}
+use Rattle.theorems.specs.SoundCircuits.{Sound}
+use Rattle.theorems.specs.SoundTexts.{read_sound}
 use Rattle.mapped.proofs.Proved.{mapped_fits}
 use Rattle.mapped.proofs.Whole.{used_limits}
 use Rattle.circuit.specs.declared.Circuit.{Circuit}

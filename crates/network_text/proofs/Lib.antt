@@ -4,3 +4,4 @@ pub mod Boot
 pub mod LineForms
 pub mod GoodSums
 pub mod Gather
+pub mod Gathered

@@ -3,6 +3,7 @@ pub mod RotationRule
 pub mod Centres
 pub mod NineCases
 pub mod Completions
+pub mod CompletionTests
 pub mod Spans
 pub mod Rows
 pub mod KnownRows
@@ -38,6 +39,7 @@ pub mod AdmittedSafe
 pub mod LongestChains
 pub mod CentreCounts
 pub mod SoundCircuits
+pub mod SoundTexts
 pub mod Normalised
 pub mod Unions
 pub mod ConeRows

@@ -1,6 +1,6 @@
 use borrow.Author.Tests.{eqb-true, eqb-false}
 use Rattle.std.proofs.Common.{◌∙◌, refl, sym, true≢false}
-use Rattle.network_text.proofs.Gather.{kept_start, kept_none, kept_end, kept_shorter, kept_next, kept_spoilt}
+use Rattle.network_text.proofs.Gathered.{kept_start, kept_none, kept_end, kept_shorter, kept_next, kept_spoilt}
 use Rattle.network_text.proofs.sum.read_terms.Goals as goal
 
 pub loop-coef-init : goal.loop-coef-init

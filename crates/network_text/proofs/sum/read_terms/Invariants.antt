@@ -1,5 +1,5 @@
 use Rattle.std.proofs.Common.{length}
-use Rattle.network_text.proofs.Gather.{Kept}
+use Rattle.network_text.proofs.Gathered.{Kept}
 use Rattle.network_text.proofs.sum.read_terms.Given as goal
 
 abbrev pub invariant-loop-coef : goal.invariant-loop-coef

@@ -3,7 +3,8 @@ use Rattle.rules.specs.declared.Entry.{Entry}
 use Rattle.rules.specs.Builder.{filled}
 use Rattle.rules.specs.Rotation.{rotatable}
 use Rattle.rules.specs.Runs.{all_bits}
-use Rattle.theorems.specs.Completions.{filled_completes, opposed_completes, completes_bits, completion_zero, completion-one, completion-opposed}
+use Rattle.theorems.specs.Completions.{filled_completes, opposed_completes, completes_bits}
+use Rattle.theorems.specs.CompletionTests.{completion_zero, completion-one, completion-opposed}
 use Rattle.rotation.specs.Entries.{numbers, entries_of}
 use Rattle.rotation.specs.Left.{tried_zero, tried-one, tried-opposed}
 use Rattle.rotation.proofs.completions.complete.Goals as goal

@@ -1,6 +1,6 @@
 use Rattle.std.proofs.Common.{sym, ◌∙◌, arith, le-leb}
 use Rattle.std.proofs.lemmas.Bool.{lt-leb}
-use Rattle.theorems.specs.Completions.{completable-small, completable_long, completable-left}
+use Rattle.theorems.specs.CompletionTests.{completable-small, completable_long, completable-left}
 use Rattle.rotation.specs.Entries.{entries_of, numbers-length}
 use Rattle.rotation.proofs.pairs.is_known_lut_valid.Goals as goal
 
