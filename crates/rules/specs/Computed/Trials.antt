@@ -20,6 +20,10 @@ diamond = "(net 2 3 none)\n(in a)\n(in b)\n(lin 0 (1 0) (1 1))\n(boot 2 001)\n(b
 uneven : String
 uneven = "(net 2 3 none)\n(in a)\n(boot 0 10)\n(boot 1 10)\n(boot 2 10)\n(boot 0 10)\n(boot 0 01)\n(out y (n 3))\n"
 
+-- Boots 1 and 2 on the input, 3 on 2.
+forked : String
+forked = "(net 2 3 none)\n(in a)\n(boot 0 10)\n(boot 0 01)\n(boot 2 10)\n(out y (n 1))\n(out z (n 3))\n"
+
 -- No boot.
 wire : String
 wire = "(net 2 3 none)\n(in a)\n(out y (n 0))\n"
@@ -65,6 +69,8 @@ cases =
     ∷ shown diamond 3 3 (0 ∷ 0 ∷ 3 ∷ 0 ∷ []) 6
     -- two: 1 and 4, then 2 and 5, then 3
     ∷ shown uneven 2 4 (0 ∷ 4 ∷ 8 ∷ 0 ∷ 4 ∷ []) 12
+    -- one: 1, 2 and 3 in turn, though boot 3 waits for 2 and none for 1
+    ∷ shown forked 1 5 (0 ∷ 5 ∷ 10 ∷ []) 15
     -- no boot: the run is over at tick 0
     ∷ shown wire 1 1 [] 0
     -- W and D at their limits and outside, after admission
@@ -78,5 +84,5 @@ cases =
     ∷ []
 
 pub trials_computed : map (λ c. trial_answer (trial (bytes c.text) c.workers c.ticks) array) cases ≡ map (λ c. c.gives) cases
-unfolding cases chain diamond uneven wire unknown second array reading tables cones judging trying over
+unfolding cases chain diamond uneven forked wire unknown second array reading tables cones judging trying over
 trials_computed = refl
