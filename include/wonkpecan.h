@@ -1,5 +1,5 @@
-/* Wonkpecan for C and C++: the mapper, the admission check, the table builder, the two runs, the reading of a sum, the counts of grades and the
- * slot of a phase.
+/* Wonkpecan for C and C++: the mapper, the admission check, the table builder, the two runs, the reading of a sum, the counts of grades,
+ * a run with workers and the slot of a phase.
  *
  *     (cd crates/exports && rt lib)                                proves it and writes crates/exports/out/libexports.a
  *     cc -Iinclude evaluator.c crates/exports/out/libexports.a     x86-64 Linux; asks the C library for memcpy and memset
@@ -32,6 +32,7 @@ enum {
     FBS_INPUTS = 32,          /* bits of a run: no text has more inputs */
     FBS_OUTPUTS = 32,         /* `values` of a run: 101 never comes */
     FBS_TERMS = 11,           /* places for the bits of a sum: no `lin` has more terms */
+    FBS_BOOTS = 671,          /* places for the ticks of a run with workers: no network has more boots */
     FBS_VALUES = 342,         /* places for the counts of a sum's values: no `lin` has more from its least to its greatest */
     FBS_STACK_BYTES = 262144
 };
@@ -51,7 +52,7 @@ enum fbs_number {
     FBS_NORM_LIMIT = 8,       /* limit 0, a NOT */
     FBS_NO_COMPOSITION = 9,   /* P = M = 2, AND */
     FBS_SHORT_ANSWER = 11,    /* buffer of 0 bytes */
-    /* a network's text: fbs_admit, fbs_convert, fbs_sum_reading, fbs_ones, fbs_value_counts; fbs_run_network has 21 and 22 alone */
+    /* a network's text: fbs_admit, fbs_convert, fbs_sum_reading, fbs_ones, fbs_value_counts, fbs_trial; fbs_run_network has 21 and 22 alone */
     FBS_NET_TEXT = 21,        /* (lin 0 (0 0)); empty text, line 1 */
     FBS_NET_NODE = 22,        /* (boot 9 01) as line 3 */
     FBS_NET_BOUNDS = 23,      /* (boot 0 001) on an input */
@@ -74,6 +75,8 @@ enum fbs_number {
     FBS_MANY_AGAIN = 39,      /* (many 0 (10 0)) twice */
     /* counts over all assignments: fbs_ones, fbs_value_counts */
     FBS_MANY_INPUTS = 40,     /* 21 inputs */
+    /* a run with workers: fbs_trial */
+    FBS_BAD_TRIAL = 41,       /* 33 workers */
     /* a run of either kind; document 01 has no number for these */
     FBS_NOT_BITS = 100,       /* two inputs, one bit; a bit that is 2 */
     FBS_SHORT_VALUES = 101,   /* one output, buffer of 0 values */
@@ -83,7 +86,7 @@ enum fbs_number {
 };
 
 /* Accepted: number 0, line 0, and how many places of the buffer were written. Refused: number, line from 1, count 0.
- * Line 0: the refusal belongs to no line (11, 30 to 37, 40, 100 to 103, the builder's 2, and 8 from Basic's last check). */
+ * Line 0: the refusal belongs to no line (11, 30 to 37, 40, 41, 100 to 103, the builder's 2, and 8 from Basic's last check). */
 typedef struct fbs_reply {
     size_t number;
     size_t line;
@@ -134,6 +137,15 @@ typedef struct fbs_values {
     int32_t least;
 } fbs_values;
 
+/* Simulated: number 0, line 0, how many boots there are and the length of the run in ticks, 0 if there are none. Else: number, line, and 0
+ * for both. */
+typedef struct fbs_run {
+    size_t number;
+    size_t line;
+    size_t count;
+    size_t ticks;
+} fbs_run;
+
 /* Found: number 0 and the slot, 0 to 2P - 1. Else: the number, and slot 0. The line is 0. */
 typedef struct fbs_slot {
     size_t number;
@@ -182,6 +194,12 @@ fbs_reply fbs_ones(const uint8_t *text, size_t text_length, uint32_t *counts);
  * 26 as fbs_admit, then 40, then 35. */
 fbs_values fbs_value_counts(const uint8_t *text, size_t text_length, size_t node, uint32_t *counts);
 
+/* A network's text run with `workers` workers, 1 to 32, each bootstrap lasting `ticks` ticks, 1 to 1,000: at each tick free workers take the
+ * ready boots of lowest number; a boot is ready when all boots that its node is or needs are finished. The start tick of each boot, in the
+ * order of their numbers, in the first of FBS_BOOTS places; the later ones are kept, and all where it is refused. 21 to 26 as fbs_admit,
+ * then 41. More workers may take longer. */
+fbs_run fbs_trial(const uint8_t *text, size_t text_length, size_t workers, size_t ticks, uint32_t *starts);
+
 /* Trial mode: where a value with an error is found on a circle of 2^32. For P of 2, 4, 8 or 16 the step is 2^31 / P, value v stands at
  * v steps, the error is added, phases wrap at 2^32, and the nearest slot of 2P is answered, exactly between two the even one (between
  * 2P - 1 and 0 it is 0). It is v exactly for errors from minus half a step to plus half, inclusive for an even v, strictly inside for an
@@ -219,6 +237,7 @@ static inline const char *fbs_phrase(size_t number) {
     case FBS_OTHER_CENTRE: return "a table's centre is another";
     case FBS_MANY_AGAIN: return "the node has a many line already";
     case FBS_MANY_INPUTS: return "the network has more than 20 inputs";
+    case FBS_BAD_TRIAL: return "workers or ticks are outside their limits";
     case FBS_NOT_BITS: return "not one bit for each input";
     case FBS_SHORT_VALUES: return "fewer places than outputs";
     case FBS_BROKEN_OFF: return "a bootstrap broke off";

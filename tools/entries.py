@@ -10,7 +10,7 @@ ARCHIVE = TOP / "crates" / "exports" / "out" / "libexports.a"
 SHARED = TOP / "target" / "entries" / "libexports.so"
 HEADER = TOP / "include" / "wonkpecan.h"
 ANSWER_BYTES = 65536
-OUTPUTS, VALUES = 32, 342
+OUTPUTS, VALUES, BOOTS = 32, 342, 671
 
 
 class Refused(Exception):
@@ -30,6 +30,7 @@ def numbers(*names, **others):
 
 Reply = numbers("number", "line", "count")
 Values = numbers("number", "line", "count", least=ctypes.c_int64)
+Trial = numbers("number", "line", "count", "ticks")
 
 
 def phrases():
@@ -78,3 +79,10 @@ def value_counts(text, node):
     counts = (ctypes.c_uint32 * VALUES)()
     reply = call("fbs_value_counts", Values, text, ctypes.c_size_t(node), counts)
     return reply.least, list(counts[: reply.count])
+
+
+def trial(text, workers, ticks):
+    """The tick at which each boot of a network is begun, in the order of their numbers, and the length of the run."""
+    starts = (ctypes.c_uint32 * BOOTS)()
+    reply = call("fbs_trial", Trial, text, ctypes.c_size_t(workers), ctypes.c_size_t(ticks), starts)
+    return list(starts[: reply.count]), reply.ticks

@@ -467,6 +467,25 @@ static void check_counts(void) {
     expect("no text is the empty text", r.number == 21 && r.line == 1 && r.count == 0);
 }
 
+/* ---- Runs with workers. */
+
+static void check_trials(void) {
+    const char *chain = "(net 4 8 none)\n(in a)\n(boot 0 01)\n(boot 0 10)\n(boot 1 01)\n";
+    uint32_t starts[FBS_BOOTS];
+    for (size_t i = 0; i < FBS_BOOTS; i++) starts[i] = 7;
+    fbs_run r = fbs_trial(bytes(chain), strlen(chain), 2, 10, starts);
+    expect("three boots, two rounds", r.number == 0 && r.line == 0 && r.count == 3 && r.ticks == 20);
+    expect("the third waits for the first", starts[0] == 0 && starts[1] == 0 && starts[2] == 10 && starts[3] == 7);
+    r = fbs_trial(bytes(chain), strlen(chain), 1, 1, starts);
+    expect("one worker, by their numbers", r.ticks == 3 && starts[0] == 0 && starts[1] == 1 && starts[2] == 2);
+    r = fbs_trial(bytes(chain), strlen(chain), 0, 1, starts);
+    expect("41, no worker", r.number == 41 && r.line == 0 && r.count == 0 && r.ticks == 0 && starts[1] == 1);
+    r = fbs_trial(bytes(chain), strlen(chain), 1, 1001, starts);
+    expect("41, 1,001 ticks", r.number == 41);
+    r = fbs_trial(NULL, 0, 0, 0, starts);
+    expect("no text is the empty text", r.number == 21 && r.line == 1 && r.count == 0);
+}
+
 /* ---- Slots: the steps of P = 2, 4 and 16 are 2^30, 2^29 and 2^27. */
 
 enum { HALF2 = 536870912, HALF4 = 268435456, HALF16 = 67108864 };
@@ -591,6 +610,7 @@ int main(void) {
     check_network_run();
     check_sums();
     check_counts();
+    check_trials();
     check_slots();
     check_together();
     check_threads();

@@ -57,6 +57,15 @@ mod wonkpecan {
 
     #[repr(C)]
     #[derive(Debug, PartialEq, Clone, Copy)]
+    pub struct Run {
+        pub number: usize,
+        pub line: usize,
+        pub count: usize,
+        pub ticks: usize,
+    }
+
+    #[repr(C)]
+    #[derive(Debug, PartialEq, Clone, Copy)]
     pub struct Slot {
         pub number: usize,
         pub line: usize,
@@ -64,7 +73,7 @@ mod wonkpecan {
     }
 
     mod c {
-        use super::{Admission, Reply, Slot, Sum, Table, Values};
+        use super::{Admission, Reply, Run, Slot, Sum, Table, Values};
 
         unsafe extern "C" {
             pub fn fbs_map(text: *const u8, text_length: usize, out: *mut u8, out_length: usize) -> Reply;
@@ -99,11 +108,12 @@ mod wonkpecan {
             pub fn fbs_sum_reading(text: *const u8, text_length: usize, node: usize, value: i32) -> Sum;
             pub fn fbs_ones(text: *const u8, text_length: usize, counts: *mut u32) -> Reply;
             pub fn fbs_value_counts(text: *const u8, text_length: usize, node: usize, counts: *mut u32) -> Values;
+            pub fn fbs_trial(text: *const u8, text_length: usize, workers: usize, ticks: usize, starts: *mut u32) -> Run;
             pub fn fbs_find_slot(p: usize, value: i32, error: i32) -> Slot;
         }
     }
 
-    // SAFETY of all ten: a slice's pointer and length are what the header asks for, and a `&mut` shares no place with another.
+    // SAFETY of all eleven: a slice's pointer and length are what the header asks for, and a `&mut` shares no place with another.
 
     pub fn map(text: &[u8], out: &mut [u8]) -> Reply {
         unsafe { c::fbs_map(text.as_ptr(), text.len(), out.as_mut_ptr(), out.len()) }
@@ -141,6 +151,10 @@ mod wonkpecan {
         unsafe { c::fbs_value_counts(text.as_ptr(), text.len(), node, counts.as_mut_ptr()) }
     }
 
+    pub fn trial(text: &[u8], workers: usize, ticks: usize, starts: &mut [u32; 671]) -> Run {
+        unsafe { c::fbs_trial(text.as_ptr(), text.len(), workers, ticks, starts.as_mut_ptr()) }
+    }
+
     pub fn find_slot(p: usize, value: i32, error: i32) -> Slot {
         unsafe { c::fbs_find_slot(p, value, error) }
     }
@@ -149,8 +163,8 @@ mod wonkpecan {
 use std::fmt::Debug;
 use std::sync::atomic::{AtomicUsize, Ordering};
 use wonkpecan::{
-    Admission, Reply, Slot, Sum, Table, Values, admit, build_table, convert, find_slot, map, ones, run_circuit, run_network, sum_reading,
-    value_counts,
+    Admission, Reply, Run, Slot, Sum, Table, Values, admit, build_table, convert, find_slot, map, ones, run_circuit, run_network, sum_reading,
+    trial, value_counts,
 };
 
 static CHECKS: AtomicUsize = AtomicUsize::new(0);
@@ -194,6 +208,10 @@ fn check_sums() {
     let mut values = [7; 342];
     same("three sums", value_counts(NETWORK, 2, &mut values), Values { number: 0, line: 0, count: 3, least: 0 });
     same("0, 1 and 2, later places kept", [values[0], values[1], values[2], values[3]], [1, 2, 1, 7]);
+    let mut starts = [7; 671];
+    same("one boot", trial(NETWORK, 1, 20, &mut starts), Run { number: 0, line: 0, count: 1, ticks: 20 });
+    same("from tick 0, later places kept", (starts[0], starts[1]), (0, 7));
+    same("41", trial(NETWORK, 33, 1, &mut starts), Run { number: 41, line: 0, count: 0, ticks: 0 });
     same("35, a boot", value_counts(NETWORK, 3, &mut values), Values { number: 35, line: 0, count: 0, least: 0 });
 }
 

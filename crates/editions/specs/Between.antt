@@ -8,9 +8,9 @@ use Rattle.laws.specs.Select.{any, any_at, any_found}
 use Rattle.laws.specs.Test.{lt_or_le}
 use Rattle.rules.specs.Network.{LutNode, node_at}
 use Rattle.rules.specs.Regroup.{same_group}
-use Rattle.theorems.specs.NodesAt.{no_input, node-before, node_next}
+use Rattle.theorems.specs.NodesAt.{no_input, node-before, node_next, taken-node}
 use Rattle.editions.specs.Statements.{shares, Together}
-use Rattle.editions.specs.NewOrder.{taken-length, taken-node}
+use Rattle.editions.specs.NewOrder.{taken-length}
 use Rattle.editions.specs.Joined.{Joined, joined_at}
 use Rattle.editions.specs.Together.{Grouped, group_other, group_through}
 

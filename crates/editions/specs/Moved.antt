@@ -5,13 +5,12 @@ use Rattle.std.proofs.Common.{◌∙◌, arith}
 use Rattle.std.proofs.Math.Bool.{not}
 use mathlib.Core.List.{List, [], ◌∷◌, map}
 use Rattle.std.proofs.Math.IntN.{nat_abs}
-use Rattle.laws.specs.Tabulate.{tabulate, map-tabulate}
+use Rattle.laws.specs.Tabulate.{tabulate, map-tabulate, numbers}
 use Rattle.rules.specs.Circuit.{Name}
 use Rattle.rules.specs.Network.{Term, LutNode, Input, Linear, Bootstrap, below0, above0, least_sum, greatest_sum, least_of, greatest_of, is_input, is_linear, count, node_at, weight_of, norm, member}
 use Rattle.rules.specs.NetworkText.{small, good_terms, sources, names, all_inputs, is_bit, fits_table}
 use Rattle.rules.specs.Regroup.{moved_term, moved_node}
 use Rattle.theorems.specs.Members.{member_head, member-tail}
-use Rattle.editions.specs.Places.{numbers}
 
 module _ (to : ℕ → ℕ) where
   -- ---- Terms.

@@ -1,5 +1,5 @@
 -- The nodes and outputs in a new order pass admission.
-use Rattle.std.specs.Prelude.{◌≡◌, false, ◌&&◌, ◌||◌, not, ℕ, ◌<◌, ◌≤◌, ℤ, take}
+use Rattle.std.specs.Prelude.{◌≡◌, false, ◌&&◌, ◌||◌, not, ℕ, ◌<◌, ℤ, take}
 use Rattle.std.proofs.Math.Path.{refl, ap, subst}
 use Rattle.std.proofs.Common.{sym, ◌∙◌, ⊎_elim, arith}
 use Rattle.std.proofs.Math.Bool.{true}
@@ -16,29 +16,15 @@ use Rattle.rules.specs.Network.{Term, LutNode, Input, Linear, Bootstrap, is_inpu
 use Rattle.rules.specs.NetworkText.{Net, NodeLine, OutLine, small, good_terms, good_sum, sources, names, all_different, all_inputs, unknown, any_bad_source, started, ending, settings_of, fits_table, no_bit, text_conditions, safety_conditions, admission_conditions}
 use Rattle.rules.specs.Regroup.{place_in, moved_term, moved_node, moved_wire, moved_output}
 use Rattle.rules.specs.Store.{needs}
-use Rattle.theorems.specs.Admissible.{Passes, NodesPass, OutputsPass}
+use Rattle.theorems.specs.Admissible.{Passes, NodesPass, OutputsPass, pass_at, few_nodes}
 use Rattle.theorems.specs.LineBits.{WireBit, NodeBits, LineBits}
-use Rattle.theorems.specs.Members.{member_head, member-tail, member_cons}
-use Rattle.theorems.specs.NodesAt.{no_input}
+use Rattle.theorems.specs.Members.{member_head, member-tail, member_cons, no_member}
+use Rattle.theorems.specs.NodesAt.{no_input, taken-node}
 use Rattle.theorems.specs.Readings.{NoneMet}
 use Rattle.theorems.specs.Weights.{sources_within}
-use Rattle.editions.specs.Places.{no_member, not_member, place_within, place_at, place_front, place_same}
-use Rattle.editions.specs.NewOrder.{pass_at, taken-length, taken-node, Ordered, Sorted}
+use Rattle.editions.specs.Places.{not_member, place_within, place_at, place_front, place_same}
+use Rattle.editions.specs.NewOrder.{taken-length, Ordered, Sorted}
 use Rattle.editions.specs.Moved.{same_good_terms, new-sources, same_linear, same_is_bit, same_fits, same_norm, same_all_inputs, same_names_lem, numbered_nodes, same_weight}
-
--- ---- At most 672 nodes.
-
-few : (n : Net) (before : List LutNode) (x : LutNode) → Passes n before [] (NodeLine x) → length before < 672
-unfolding Passes NoneMet admission_conditions text_conditions
-few n before (Input a) p = let r = leb-false 32 (length before) p.0.1.1.0 in omega arith
-few n before (Linear c ts) p = leb-false 672 (length before) p.0.1.1.0
-few n before (Bootstrap i t) p = leb-false 672 (length before) p.0.1.1.0
-
-most_nodes : (n : Net) (ns : List LutNode) → NodesPass n [] ns → length ns ≤ 672
-most_nodes n [] p = omega arith
-most_nodes n (x ∷ xs) p =
-    let r = few n (take (length xs) (x ∷ xs)) (node_at (x ∷ xs) (length xs)) (pass_at n [] (x ∷ xs) p (length xs) (omega arith)) in
-    omega (arith, taken-length (length xs) (x ∷ xs) (omega arith))
 
 -- ---- A node that is moved behind others.
 
@@ -194,7 +180,7 @@ module _ (n : Net) (ns : List LutNode) (p : NodesPass n [] ns) (o : List ℕ) wh
   )
     where
       room : length (map new done) < 672
-      room = rw length-map (omega (arith, most_nodes n ns p, l, ap length e, length-append done (i ∷ todo)))
+      room = rw length-map (omega (arith, few_nodes n ns p, l, ap length e, length-append done (i ∷ todo)))
 
       inputs : is_input (node_at ns i) ≡ true → map new done ≡ map (moved_node (place_in o)) (take i ns)
       inputs h =

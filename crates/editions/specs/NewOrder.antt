@@ -10,38 +10,25 @@ use native.Mathlib.Omega.{arith}
 use Rattle.std.proofs.lemmas.Bool.{not-false}
 use Rattle.std.proofs.Math.ListN.{length-append}
 use Rattle.laws.specs.Select.{any}
-use Rattle.laws.specs.Tabulate.{tabulate}
+use Rattle.laws.specs.Tabulate.{tabulate, numbers, numbers_snoc}
 use Rattle.laws.specs.Test.{if◌then◌otherwise◌, decide, lt_or_le, not_both}
 use Rattle.rules.specs.Network.{LutNode, Input, Linear, Bootstrap, is_input, count, member, node_at}
 use Rattle.rules.specs.NetworkText.{Net, NodeLine, all_inputs, ending, text_conditions, admission_conditions}
 use Rattle.rules.specs.Regroup.{same_group, behind, order_up_to, order}
 use Rattle.rules.specs.Store.{needs}
-use Rattle.theorems.specs.Admissible.{Passes, NodesPass}
+use Rattle.theorems.specs.Admissible.{Passes, NodesPass, pass_at}
 use Rattle.theorems.specs.Counts.{count_most}
 use Rattle.theorems.specs.EarlierNodes.{pass_ordered}
-use Rattle.theorems.specs.Members.{member_head, member-tail, member_cons, member-left, member_right, member-either, member-one}
+use Rattle.theorems.specs.Members.{member_head, member-tail, member_cons, member-left, member_right, member-either, member-one, no_member, numbers_below}
+use Rattle.theorems.specs.NodesAt.{taken-node}
 use Rattle.theorems.specs.Readings.{NoneMet}
-use Rattle.editions.specs.Places.{no_member, not_member, numbers, numbers_snoc, numbers_below, Put, behind_none, behind_some}
+use Rattle.editions.specs.Places.{not_member, Put, behind_none, behind_some}
 use Rattle.editions.specs.Statements.{shares}
 
--- ---- A node of an admissible list, by its number.
-
-pub pass_at : (n : Net) (before xs : List LutNode) → NodesPass n before xs → (k : ℕ) → k < length xs
-    → Passes n (before ++ take k xs) [] (NodeLine (node_at xs k))
-unfolding NodesPass node_at
-pass_at n before [] p k l = absurd (omega arith)
-pass_at n before (x ∷ xs) p zero l = rw append-nil p.0
-pass_at n before (x ∷ xs) p (suc k) l = rw (← append_assoc before (x ∷ []) (take k xs)) (pass_at n (before ++ (x ∷ [])) xs p.1 k (omega arith))
+-- ---- The first of a list.
 
 pub taken-length : {A : Type 0} (k : ℕ) (l : List A) → k ≤ length l → length (take k l) ≡ k
 taken-length k l h = length-take k l ∙ omega arith
-
-pub taken-node : (k j : ℕ) (ns : List LutNode) → j < k → node_at (take k ns) j ≡ node_at ns j
-unfolding node_at
-taken-node zero j ns h = absurd (omega arith)
-taken-node (suc k) j [] h = refl
-taken-node (suc k) zero (x ∷ ns) h = refl
-taken-node (suc k) (suc j) (x ∷ ns) h = taken-node k j ns (omega arith)
 
 -- ---- The inputs come first.
 

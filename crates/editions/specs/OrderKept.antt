@@ -7,8 +7,8 @@ use Rattle.rules.specs.Network.{LutNode, member}
 use Rattle.rules.specs.NetworkText.{Net}
 use Rattle.rules.specs.Regroup.{behind, order_up_to, order, place_in}
 use Rattle.theorems.specs.Admissible.{NodesPass}
-use Rattle.theorems.specs.Members.{member_head, member-tail, member_cons, member-left, member_right, member-either}
-use Rattle.editions.specs.Places.{no_member, not_member, place_here, place_later, place_within, place_front, Put, behind_none, behind_some}
+use Rattle.theorems.specs.Members.{member_head, member-tail, member_cons, member-left, member_right, member-either, no_member}
+use Rattle.editions.specs.Places.{not_member, place_here, place_later, place_within, place_front, Put, behind_none, behind_some}
 use Rattle.editions.specs.NewOrder.{Sorted, sorted_up_to}
 use Rattle.editions.specs.Statements.{shares}
 

@@ -1,21 +1,17 @@
 -- Lists of numbers: members, places, the numbers below n, and one put behind others.
-use Rattle.std.specs.Prelude.{◌≡◌, Bool, ◌&&◌, ◌||◌, ℕ, zero, suc, ◌<◌, ◌≤◌, length, get_or}
+use Rattle.std.specs.Prelude.{◌≡◌, Bool, ◌&&◌, ◌||◌, ℕ, suc, ◌<◌, length, get_or}
 use Rattle.std.proofs.Math.Path.{refl, ap}
-use Rattle.std.proofs.Common.{sym, subst, ◌∙◌, true≢false, ⊎_elim, arith, eq-eqb, ne_eqb}
+use Rattle.std.proofs.Common.{sym, ◌∙◌, true≢false, ⊎_elim, arith, eq-eqb, ne_eqb}
 use Rattle.std.proofs.Math.Bool.{true, false}
 use mathlib.Core.List.{List, [], ◌∷◌, ◌++◌}
 use Rattle.laws.specs.Select.{any, any-right}
-use Rattle.laws.specs.Tabulate.{tabulate, tabulate-length, tabulate-at, tabulate_snoc}
-use Rattle.laws.specs.Test.{if◌then◌otherwise◌, decide, neither_left, neither_right, eq-or-ne, lt_or_le}
+use Rattle.laws.specs.Tabulate.{tabulate-length, tabulate-at, numbers}
+use Rattle.laws.specs.Test.{if◌then◌otherwise◌, decide, neither_left, neither_right, eq-or-ne}
 use Rattle.rules.specs.Network.{member}
 use Rattle.rules.specs.Regroup.{behind, place_in}
-use Rattle.theorems.specs.Members.{member_head, member_cons, member-left, member_right, member-either, member-one}
+use Rattle.theorems.specs.Members.{member_cons, no_member, below_numbers}
 
 -- ---- Members.
-
-pub no_member : (j : ℕ) → member j [] ≡ true → ⊥
-unfolding member
-no_member j h = true≢false (sym h)
 
 -- not a member, by what a member would give
 pub not_member : (j : ℕ) (l : List ℕ) → (member j l ≡ true → ⊥) → member j l ≡ false
@@ -62,28 +58,6 @@ pub place_same : (l : List ℕ) (i j : ℕ) → member i l ≡ true → member j
 place_same l i j h k e = sym (place_at l i 0 h) ∙ ap (λ p. get_or l p 0) e ∙ place_at l j 0 k
 
 -- ---- The numbers below n.
-
-abbrev pub numbers : ℕ → List ℕ
-numbers n = tabulate n (λ k. k)
-
-pub numbers_snoc : (n : ℕ) → numbers (suc n) ≡ numbers n ++ (n ∷ [])
-numbers_snoc n = tabulate_snoc n (λ k. k)
-
-pub numbers_below : (n j : ℕ) → member j (numbers n) ≡ true → j < n
-unfolding tabulate
-numbers_below zero j h = absurd (no_member j h)
-numbers_below (suc n) j h =
-    ⊎_elim (λ (e : member j (numbers n) ≡ true). let r = numbers_below n j e in omega arith)
-    (λ (e : member j (n ∷ []) ≡ true). let r = member-one j n e in omega arith)
-    (member-either j (numbers n) (n ∷ []) (rw numbers_snoc at h))
-
-below_numbers : (n j : ℕ) → j < n → member j (numbers n) ≡ true
-below_numbers zero j h = absurd (omega arith)
-below_numbers (suc n) j h =
-    subst (λ l. member j l ≡ true) (sym (numbers_snoc n))
-    (⊎_elim (λ (l : j < n). member-left j (numbers n) (n ∷ []) (below_numbers n j l))
-    (λ (l : n ≤ j). let e : n ≡ j = omega arith in member_right j (numbers n) (n ∷ []) (subst (λ k. member k (n ∷ []) ≡ true) e (member_head n [])))
-    (lt_or_le j n))
 
 pub place_number : (n j : ℕ) → j < n → place_in (numbers n) j ≡ j
 place_number n j h =

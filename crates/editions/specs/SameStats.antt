@@ -9,7 +9,7 @@ use Prim.Native.Nat.{ℕ, zero, suc, ◌+◌, ◌<◌, max}
 use Rattle.std.proofs.lemmas.List.{length-map}
 use Rattle.std.proofs.Math.Seq.{take-length}
 use Rattle.laws.specs.Select.{any}
-use Rattle.laws.specs.Tabulate.{tabulate, map-tabulate}
+use Rattle.laws.specs.Tabulate.{tabulate, map-tabulate, numbers, numbers_snoc}
 use Rattle.laws.specs.Test.{if◌then◌otherwise◌, decide, eq-or-ne, or_swap}
 use Rattle.laws.specs.Permuted.{Perm, same, one, two, then_perm, perm_put, perm_back, perm_map}
 use Rattle.rules.specs.Network.{LutNode, Input, Linear, Bootstrap, Network, is_input, is_linear, is_bootstrap, table_length, node_norm, count, largest, boot_sources, member, different, stats, node_at, weight_of, depths, depth, largest_depth, node_centre, has_centre}
@@ -18,8 +18,8 @@ use Rattle.rules.specs.Store.{needs}
 use Rattle.theorems.specs.Admissible.{net_of, Admissible}
 use Rattle.theorems.specs.Depths.{depths-length}
 use Rattle.theorems.specs.EarlierNodes.{Ordered, pass_ordered}
-use Rattle.theorems.specs.Members.{member_head, member-tail, member_cons}
-use Rattle.editions.specs.Places.{no_member, place_same, numbers, numbers_snoc, Put, behind_none, behind_some}
+use Rattle.theorems.specs.Members.{member_head, member-tail, member_cons, no_member}
+use Rattle.editions.specs.Places.{place_same, Put, behind_none, behind_some}
 use Rattle.editions.specs.NewOrder.{Sorted, order-sorted}
 use Rattle.editions.specs.Moved.{same_input, same_linear, same_norm, same_weight}
 use Rattle.editions.specs.Together.{taken-numbers}

@@ -6,7 +6,7 @@ use Rattle.std.proofs.Math.Bool.{true}
 use mathlib.Core.List.{List, [], ◌∷◌, ◌++◌, map, append_assoc, map-append, map-id}
 use Rattle.std.proofs.Math.Seq.{take-length}
 use Rattle.laws.specs.Select.{any, any_none}
-use Rattle.laws.specs.Tabulate.{tabulate}
+use Rattle.laws.specs.Tabulate.{tabulate, numbers, numbers_snoc}
 use Rattle.laws.specs.Test.{decide, eq-or-ne}
 use Rattle.rules.specs.declared.Wire.{Wire}
 use Rattle.rules.specs.declared.Wire.TheVariants.{Const, Node}
@@ -20,7 +20,7 @@ use Rattle.theorems.specs.Admissible.{OutputsPass, net_of, Admissible, out_passe
 use Rattle.theorems.specs.Members.{member_head, member-tail, member-left, member_right}
 use Rattle.theorems.specs.NodesAt.{no_input}
 use Rattle.theorems.specs.EarlierNodes.{pass_ordered}
-use Rattle.editions.specs.Places.{place_same, numbers, numbers_snoc, place_number, Put, behind_none, behind_some, behind-last}
+use Rattle.editions.specs.Places.{place_same, place_number, Put, behind_none, behind_some, behind-last}
 use Rattle.editions.specs.NewOrder.{Sorted, order-sorted}
 use Rattle.editions.specs.Moved.{numbered_nodes}
 use Rattle.editions.specs.Joined.{Joined, joined_end, joined_put, joined_at}

@@ -7,6 +7,7 @@ use Rattle.rules.specs.Admission.{Admission}
 use Rattle.rules.specs.Phase.{SlotAnswer}
 use Rattle.rules.specs.Runs.{RunAnswer, Numbered, NotBits, NoRoom, BreakOff, RunOutcome, ran}
 use Rattle.rules.specs.declared.Stats.{Stats}
+use Rattle.rules.specs.Workers.{TrialReply}
 use Rattle.rules.specs.SumReading.{SumReading, Shown, NoneGives, Refused, SumAnswer}
 use Rattle.rules.specs.declared.Refusal.{Refusal as Turned}
 use Rattle.rules.specs.Grades.{OnesReply, Ones, OnesAnswer, ValuesReply, Values, ValuesAnswer}
@@ -17,6 +18,7 @@ use Rattle.exports.specs.declared.FbsAdmission.{FbsAdmission}
 use Rattle.exports.specs.declared.FbsSum.{FbsSum}
 use Rattle.exports.specs.declared.FbsSlot.{FbsSlot}
 use Rattle.exports.specs.declared.FbsTable.{FbsTable}
+use Rattle.exports.specs.declared.FbsTrial.{FbsTrial}
 use Rattle.exports.specs.declared.FbsValues.{FbsValues}
 
 -- Number, line and count, place by place.
@@ -25,6 +27,9 @@ answer r = record { number = r.number; line = r.line; count = r.count }
 
 abbrev pub table_answer : FbsTable → TableAnswer
 table_answer r = record { number = r.number; line = r.line; count = r.count; centre = r.centre }
+
+abbrev pub trial_numbers : FbsTrial → TrialReply
+trial_numbers r = record { number = r.number; line = r.line; count = r.count; ticks = r.ticks }
 
 -- The three ends of a run that document 01 has no number for, numbered from 100 on; line 0.
 unfoldable pub run_numbers : RunAnswer → Answer

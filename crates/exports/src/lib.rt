@@ -15,7 +15,8 @@ ghost use Rattle.rules.specs.Outcome.{outcome};
 ghost use Rattle.rules.specs.Phase.{slot_answer};
 ghost use Rattle.rules.specs.Runs.{Numbered, ran, run_circuit, run_network};
 ghost use Rattle.rules.specs.SumReading.{sum_reading, sum_answer};
-ghost use Rattle.exports.specs.Numbers.{answer, table_answer, admission_numbers, numbered, sum_places, slot_numbers, placed, ones_placed, values_placed};
+ghost use Rattle.rules.specs.Workers.{trial, trial_answer, tried};
+ghost use Rattle.exports.specs.Numbers.{answer, table_answer, admission_numbers, numbered, sum_places, slot_numbers, placed, ones_placed, values_placed, trial_numbers};
 
 use crate::numbers::sum_numbers;
 
@@ -78,6 +79,16 @@ pub struct FbsValues {
     pub line: usize,
     pub count: usize,
     pub least: i32,
+}
+
+// 0, the count of boots and the length of the run, or the number and the line.
+#[repr(C)]
+#[derive(Clone, Copy, Default)]
+pub struct FbsTrial {
+    pub number: usize,
+    pub line: usize,
+    pub count: usize,
+    pub ticks: usize,
 }
 
 // 0 and the slot, or the number; the line is 0.
@@ -165,6 +176,19 @@ pub extern "C" fn fbs_value_counts(text: &[u8], node: usize, counts: &mut [u32; 
     ensures { placed result counts.new ≡ values_placed (value_counts_answer (value_counts text.now node) counts.old) }
 {
     FbsValues::from(value_counts::value_counts(text, node, counts))
+}
+
+// A network's boots run with so many workers, each lasting so many ticks: the tick at which each begins.
+#[unsafe(no_mangle)]
+pub extern "C" fn fbs_trial(
+    text: &[u8],
+    workers: usize,
+    ticks: usize,
+    starts: &mut [u32; 671],
+) -> FbsTrial
+    ensures { tried (trial_numbers result) starts.new ≡ trial_answer (trial text.now workers ticks) starts.old }
+{
+    FbsTrial::from(workers::trial(text, workers, ticks, starts))
 }
 
 // The slot where a value with an error is found.

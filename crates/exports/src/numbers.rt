@@ -7,11 +7,12 @@ ghost use Rattle.rules.specs.Phase.{slot_reply};
 ghost use Rattle.rules.specs.Runs.{run_reply};
 ghost use Rattle.rules.specs.SumReading.{sum_reply};
 ghost use Rattle.rules.specs.Outcome.{written, refused};
-ghost use Rattle.exports.specs.Numbers.{answer, table_answer, run_numbers, admission_numbers, sum_places, slot_numbers, values_reply};
+ghost use Rattle.exports.specs.Numbers.{answer, table_answer, run_numbers, admission_numbers, sum_places, slot_numbers, values_reply, trial_numbers};
+ghost use Rattle.rules.specs.Workers.{trial_reply};
 ghost use Rattle.sum_reading.specs.Reply.{FewShown};
 
-use crate::{FbsAdmission, FbsReply, FbsSlot, FbsSum, FbsTable, FbsValues};
-use rules::{Reason, Refusal, RunError, Shown, Stats, Table};
+use crate::{FbsAdmission, FbsReply, FbsSlot, FbsSum, FbsTable, FbsTrial, FbsValues};
+use rules::{Reason, Refusal, RunError, Shown, Stats, Table, WorkerRun};
 use value_counts::ValueCounts;
 
 fn accepted(count: usize) -> FbsReply
@@ -137,6 +138,25 @@ impl From<Result<ValueCounts, Refusal>> for FbsValues {
                 number: r.reason.number(),
                 line: r.line,
                 ..FbsValues::default()
+            },
+        }
+    }
+}
+
+impl From<Result<WorkerRun, Refusal>> for FbsTrial {
+    fn from(reply: Result<WorkerRun, Refusal>) -> FbsTrial
+        ensures { trial_numbers result ≡ trial_reply reply }
+    {
+        match reply {
+            Ok(run) => FbsTrial {
+                count: run.count,
+                ticks: run.ticks,
+                ..FbsTrial::default()
+            },
+            Err(r) => FbsTrial {
+                number: r.reason.number(),
+                line: r.line,
+                ..FbsTrial::default()
             },
         }
     }

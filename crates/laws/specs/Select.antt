@@ -1,6 +1,6 @@
 -- The elements of a list at which a test holds.
-use Rattle.std.specs.Prelude.{◌≡◌, Bool, ◌&&◌, ◌||◌, ◌⊎◌, get_or}
-use Rattle.std.proofs.Math.Path.{refl}
+use Rattle.std.specs.Prelude.{◌≡◌, Bool, ◌&&◌, ◌||◌, ◌⊎◌, get_or, All}
+use Rattle.std.proofs.Math.Path.{refl, ap}
 use Rattle.std.proofs.Common.{sym, not-suc-le-zero, le_of_suc-le-suc}
 use Rattle.std.proofs.Math.Bool.{true, false, not, true≢false}
 use mathlib.Core.List.{List, [], ◌∷◌, ◌++◌, map}
@@ -10,6 +10,7 @@ use Rattle.std.proofs.Math.Option.{Option, none, some}
 use Prim.Native.Nat.{ℕ, zero, suc, ◌+◌, ◌≤◌, ◌<◌, zero-le}
 use native.Mathlib.Omega.{arith}
 use Rattle.std.proofs.Math.ListN.{length}
+use Rattle.std.proofs.lemmas.List.Elements.{All-head, All-tail}
 use Rattle.laws.specs.Test.{if◌then◌otherwise◌, both, both_left, both_right, or_by_right, or_cases}
 
 module _ {ℓ} {A : Type ℓ} where
@@ -73,6 +74,27 @@ module _ {A : Type 0} where
           → suc (length l) ≡ length (if a then x ∷ select f l otherwise select f l) + length (if not a then x ∷ select (λ x. not (f x)) l otherwise select (λ x. not (f x)) l)
       by true r = omega arith
       by false r = omega arith
+
+  pub select-append : (f : A → Bool) (s t : List A) → select f (s ++ t) ≡ select f s ++ select f t
+  unfolding select
+  select-append f [] t = refl
+  select-append f (x ∷ s) t = by (f x) (select-append f s t)
+    where
+      by : (b : Bool) → select f (s ++ t) ≡ select f s ++ select f t
+          → (if b then x ∷ select f (s ++ t) otherwise select f (s ++ t)) ≡ (if b then x ∷ select f s otherwise select f s) ++ select f t
+      by true r = ap {B = List A} (λ l. x ∷ l) r
+      by false r = r
+
+  pub select_whole : (f : A → Bool) (l : List A) → All (λ x. f x ≡ true) l → select f l ≡ l
+  unfolding select
+  select_whole f [] h = refl
+  select_whole f (x ∷ l) h =
+      rw (All-head (λ x. f x ≡ true) x l h) (ap {B = List A} (λ r. x ∷ r) (select_whole f l (All-tail (λ x. f x ≡ true) x l h)))
+
+  pub select_nil : (f : A → Bool) (l : List A) → All (λ x. f x ≡ false) l → select f l ≡ []
+  unfolding select
+  select_nil f [] h = refl
+  select_nil f (x ∷ l) h = rw (All-head (λ x. f x ≡ false) x l h) (select_nil f l (All-tail (λ x. f x ≡ false) x l h))
 
 module _ {A : Type 0} (f g : A → Bool) where
   pub select_or : (l : List A) → length (select (λ x. f x || g x) l) ≤ length (select f l) + length (select g l)
@@ -147,6 +169,20 @@ module _ {A : Type 0} (f : A → Bool) where
       by : (c : Bool) → (any f (a ++ b) ≡ true → (any f a ≡ true) ⊎ (any f b ≡ true)) → (c || any f (a ++ b)) ≡ true → ((c || any f a) ≡ true) ⊎ (any f b ≡ true)
       by true r e = inl refl
       by false r e = r e
+
+  pub any_append : (a b : List A) → any f (a ++ b) ≡ (any f a || any f b)
+  unfolding any
+  any_append [] b = refl
+  any_append (x ∷ a) b = by (f x) (any_append a b)
+    where
+      by : (c : Bool) → any f (a ++ b) ≡ (any f a || any f b) → (c || any f (a ++ b)) ≡ ((c || any f a) || any f b)
+      by true r = refl
+      by false r = r
+
+  pub any_false : (l : List A) → All (λ x. f x ≡ false) l → any f l ≡ false
+  unfolding any
+  any_false [] h = refl
+  any_false (x ∷ l) h = rw (All-head (λ x. f x ≡ false) x l h) (any_false l (All-tail (λ x. f x ≡ false) x l h))
 
   -- by its number
   pub any_at : (l : List A) (d : A) (i : ℕ) → i < length l → f (get_or l i d) ≡ true → any f l ≡ true

@@ -42,3 +42,11 @@ pub map-tabulate {ℓ ℓ'} : {A : Type ℓ} {B : Type ℓ'} (g : A → B) (n : 
 unfolding tabulate
 map-tabulate g zero f = refl
 map-tabulate {B} g (suc n) f = ap {B = List B} (λ r. g (f 0) ∷ r) (map-tabulate g n (λ k. f (suc k)))
+
+-- ---- The numbers below n.
+
+abbrev pub numbers : ℕ → List ℕ
+numbers n = tabulate n (λ k. k)
+
+pub numbers_snoc : (n : ℕ) → numbers (suc n) ≡ numbers n ++ (n ∷ [])
+numbers_snoc n = tabulate_snoc n (λ k. k)

@@ -13,5 +13,6 @@ pub mod Buffers
 pub mod Sessions
 pub mod NineCases
 pub mod Depths
+pub mod Trials
 pub mod Editions
 pub mod Counts

@@ -21,6 +21,7 @@ pub mod Mapper
 pub mod Service
 pub mod SumReading
 pub mod Grades
+pub mod Workers
 pub mod Phase
 pub mod Regroup
 pub mod Converter

@@ -2,7 +2,7 @@
 use Rattle.std.specs.Prelude.{ℕ, ◌<◌, Result, Ok, Err}
 use Rattle.std.proofs.Common.{arith}
 use Rattle.rules.specs.declared.Reason.{Reason}
-use Rattle.rules.specs.declared.Reason.TheVariants.{NoForm, BadSettings, TooMany, OutOfOrder, RepeatedName, NoEarlierNode, BadGate, OverNorm, NoComposition, ShortBuffer, BadLine, BadSource, BadLength, NoRotation, SumOverNorm, NoBit, BadLengths, SpanOverM, Conflict, NoCompletion, ShortTable, NoSum, BadPeriod, BadValue, OtherCentre, SecondLine, TooManyInputs}
+use Rattle.rules.specs.declared.Reason.TheVariants.{NoForm, BadSettings, TooMany, OutOfOrder, RepeatedName, NoEarlierNode, BadGate, OverNorm, NoComposition, ShortBuffer, BadLine, BadSource, BadLength, NoRotation, SumOverNorm, NoBit, BadLengths, SpanOverM, Conflict, NoCompletion, ShortTable, NoSum, BadPeriod, BadValue, OtherCentre, SecondLine, TooManyInputs, BadTrial}
 
 abbrev pub reason_number : Reason → ℕ
 reason_number NoForm = 1
@@ -32,6 +32,7 @@ reason_number BadValue = 37
 reason_number OtherCentre = 38
 reason_number SecondLine = 39
 reason_number TooManyInputs = 40
+reason_number BadTrial = 41
 
 pub reason_positive : (r : Reason) → 0 < reason_number r
 reason_positive r = grind arith

@@ -1,6 +1,6 @@
 -- What admission knows of a network: no node of it meets a condition against the nodes before it, and no output against all of them.
-use Rattle.std.specs.Prelude.{◌≡◌, refl, Bool, true, false, ◌&&◌, List, [], ◌∷◌, ◌++◌, ℕ, ◌<◌, T, leb, ℤ, pos, ◌+ℤ◌, length}
-use Rattle.std.proofs.Common.{subst, true≢false, append_assoc, append-nil, arith, leb-false}
+use Rattle.std.specs.Prelude.{◌≡◌, refl, Bool, true, false, ◌&&◌, List, [], ◌∷◌, ◌++◌, ℕ, zero, suc, ◌<◌, ◌≤◌, T, leb, ℤ, pos, ◌+ℤ◌, length, take}
+use Rattle.std.proofs.Common.{subst, true≢false, append_assoc, append-nil, arith, leb-false, length-take}
 use Rattle.std.proofs.Math.Option.{Option, none, some}
 use Rattle.std.proofs.lemmas.Bool.{not-false}
 use Rattle.laws.specs.Integer.{eq_z, eq_z_true}
@@ -118,6 +118,28 @@ admitted_admissible text w e =
     kept_so : (i : ℕ) (c : NetPrefix) (s : List ℕ) (l : NetworkLine) → network_line s ≡ some l → NoneMet (admission_conditions c l) → PassedSoFar c
         → PassedSoFar (with_network_line i c l)
     kept_so i c s l f m h = with_line c.net c.nodes c.outputs i l m (line-bits s l f) h
+
+-- ---- A node by its number.
+
+pub pass_at : (n : Net) (before xs : List LutNode) → NodesPass n before xs → (k : ℕ) → k < length xs
+    → Passes n (before ++ take k xs) [] (NodeLine (node_at xs k))
+unfolding NodesPass node_at
+pass_at n before [] p k l = absurd (omega arith)
+pass_at n before (x ∷ xs) p zero l = rw append-nil p.0
+pass_at n before (x ∷ xs) p (suc k) l = rw (← append_assoc before (x ∷ []) (take k xs)) (pass_at n (before ++ (x ∷ [])) xs p.1 k (omega arith))
+
+-- a node comes after at most 671 others
+few_before : (n : Net) (before : List LutNode) (x : LutNode) → Passes n before [] (NodeLine x) → length before < 672
+unfolding Passes NoneMet admission_conditions text_conditions
+few_before n before (Input a) p = let r = leb-false 32 (length before) p.0.1.1.0 in omega arith
+few_before n before (Linear c ts) p = leb-false 672 (length before) p.0.1.1.0
+few_before n before (Bootstrap i table) p = leb-false 672 (length before) p.0.1.1.0
+
+pub few_nodes : (n : Net) (ns : List LutNode) → NodesPass n [] ns → length ns ≤ 672
+few_nodes n [] p = omega arith
+few_nodes n (x ∷ xs) p =
+    let r = few_before n (take (length xs) (x ∷ xs)) (node_at (x ∷ xs) (length xs)) (pass_at n [] (x ∷ xs) p (length xs) (omega arith)) in
+    omega (arith, length-take (length xs) (x ∷ xs))
 
 -- ---- What a line that passes is known by.
 

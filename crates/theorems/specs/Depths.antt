@@ -1,8 +1,9 @@
 -- The depth of a node is given by those of its sources, which are earlier nodes, and stays as nodes come after it (document 02, S-7).
-use Rattle.std.specs.Prelude.{◌≡◌, refl, true, List, [], ◌∷◌, ◌++◌, ℕ, zero, suc, ◌+◌, ◌≤◌, ◌<◌, max, length, get_or}
+use Rattle.std.specs.Prelude.{◌≡◌, refl, true, List, [], ◌∷◌, ◌++◌, ℕ, zero, suc, ◌+◌, ◌≤◌, ◌<◌, max, length, get_or, All}
 use Rattle.std.proofs.Common.{sym, ap, ap₂, ◌∙◌, arith, length-append}
 use Rattle.std.proofs.Math.ListN.{get_or-append}
 use Rattle.std.proofs.lemmas.List.{get_or_at}
+use Rattle.std.proofs.lemmas.List.Elements.{All-head, All-tail}
 use Rattle.rules.specs.Network.{Term, LutNode, Input, Linear, Bootstrap, member, node_at, largest, node_depth, depths_from, depths, depth, largest_depth}
 use Rattle.rules.specs.NetworkText.{sources}
 use Rattle.rules.specs.Store.{needs}
@@ -98,6 +99,17 @@ most_at (n ∷ l) (suc i) = let r = most_at l i in omega arith
 pub depth_most : (nodes : List LutNode) (i : ℕ) → depth nodes i ≤ largest_depth nodes
 unfolding depth largest_depth
 depth_most nodes i = most_at (depths nodes) i
+
+pub largest-append : {A : Type 0} (f : A → ℕ) (a b : List A) → largest f (a ++ b) ≡ max (largest f a) (largest f b)
+unfolding largest
+largest-append f [] b = omega arith
+largest-append f (x ∷ a) b = let r = largest-append f a b in omega arith
+
+-- the largest is within what each is within
+pub largest_within : {A : Type 0} (f : A → ℕ) (n : ℕ) (l : List A) → All (λ x. f x ≤ n) l → largest f l ≤ n
+unfolding largest
+largest_within f n [] h = omega arith
+largest_within f n (x ∷ l) h = omega (arith, All-head (λ x. f x ≤ n) x l h, largest_within f n l (All-tail (λ x. f x ≤ n) x l h))
 
 pub largest_more : {A : Type 0} (f : A → ℕ) (l : List A) (x : A) → largest f (l ++ (x ∷ [])) ≡ max (largest f l) (f x)
 unfolding largest

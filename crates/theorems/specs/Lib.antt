@@ -37,6 +37,11 @@ pub mod Admissible2
 pub mod OldReaders
 pub mod AdmittedSafe
 pub mod LongestChains
+pub mod BootDepths
+pub mod StartLogs
+pub mod WorkerRounds
+pub mod WorkerSchedules
+pub mod WorkerTrials
 pub mod CentreCounts
 pub mod SoundCircuits
 pub mod SoundTexts

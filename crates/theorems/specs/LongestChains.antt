@@ -62,7 +62,7 @@ deepest_least f (t ∷ ts) j h =
     ⊎_elim (λ (e : j ≡ t.node). omega (arith, ap f e)) (λ (m : member j (sources ts) ≡ true). let r = deepest_least f ts j m in omega arith) (member_cons j t.node (sources ts) h)
 
 -- it is one of theirs, or 0
-deepest_one : (f : ℕ → ℕ) (ts : List Term)
+pub deepest_one : (f : ℕ → ℕ) (ts : List Term)
     → (largest (λ (t : Term). f t.node) ts ≡ 0) ⊎ ((j : ℕ) × (member j (sources ts) ≡ true) × (f j ≡ largest (λ (t : Term). f t.node) ts))
 unfolding largest sources
 deepest_one f [] = inl refl
@@ -79,7 +79,7 @@ deepest_one f (t ∷ ts) = ⊎_elim (λ (l : rest < f t.node). inr (t.node, memb
 -- ---- One link.
 
 -- 1 for a `boot` node
-abbrev boot_at : List LutNode → ℕ → ℕ
+abbrev pub boot_at : List LutNode → ℕ → ℕ
 boot_at nodes i = if is_bootstrap (node_at nodes i) then 1 otherwise 0
 
 module _ (nodes : List LutNode) (o : Ordered nodes) where
@@ -91,10 +91,10 @@ module _ (nodes : List LutNode) (o : Ordered nodes) where
   link j (Bootstrap i table) h =
       ⊎_elim (λ (e : j ≡ i). omega (arith, ap (depth nodes) e)) (λ (m : member j [] ≡ true). absurd (true≢false (sym m))) (member_cons j i [] h)
 
-  source_depth : (j k : ℕ) → k < length nodes → member j (needs (node_at nodes k)) ≡ true → depth nodes j + boot_at nodes k ≤ depth nodes k
+  pub source_depth : (j k : ℕ) → k < length nodes → member j (needs (node_at nodes k)) ≡ true → depth nodes j + boot_at nodes k ≤ depth nodes k
   source_depth j k l h = omega (arith, depth_is nodes o k l, link j (node_at nodes k) h)
 
-  boot_deep : (i : ℕ) → i < length nodes → boot_at nodes i ≤ depth nodes i
+  pub boot_deep : (i : ℕ) → i < length nodes → boot_at nodes i ≤ depth nodes i
   boot_deep i l = omega (arith, depth_is nodes o i l, own (node_at nodes i))
     where
       own : (x : LutNode) → (if is_bootstrap x then 1 otherwise 0) ≤ node_depth (depth nodes) x
@@ -182,7 +182,7 @@ largest_found (n ∷ m ∷ l) h =
     (lt_or_le (largest (λ d. d) (m ∷ l)) n)
 
 -- some node has the largest depth
-deepest : (nodes : List LutNode) → 0 < length nodes → (i : ℕ) × (i < length nodes) × (depth nodes i ≡ largest_depth nodes)
+pub deepest : (nodes : List LutNode) → 0 < length nodes → (i : ℕ) × (i < length nodes) × (depth nodes i ≡ largest_depth nodes)
 unfolding depth largest_depth
 deepest nodes h =
     let r = largest_found (depths nodes) (omega (arith, depths-length nodes)) in

@@ -1,7 +1,7 @@
--- The node with a number, among nodes that have grown.
-use Rattle.std.specs.Prelude.{◌≡◌, List, [], ◌∷◌, ◌++◌, ℕ, suc, ◌<◌, ◌≤◌, length, drop}
+-- The node with a number, among nodes that have grown, and among the first of them.
+use Rattle.std.specs.Prelude.{◌≡◌, List, [], ◌∷◌, ◌++◌, ℕ, suc, ◌<◌, ◌≤◌, length, take, drop}
 use Rattle.std.proofs.Math.ListN.{get_or-append, get_or-eq_default}
-use Rattle.std.proofs.Math.Seq.{get_or_at, drop-cons}
+use Rattle.std.proofs.Math.Seq.{get_or_at, get_or-take, drop-cons}
 use Rattle.rules.specs.Network.{LutNode, Input, node_at}
 
 -- What `node_at` gives where there is no node.
@@ -24,3 +24,7 @@ module _ (ns : List LutNode) where
   pub drop-node : (i : ℕ) → i < length ns → drop i ns ≡ node_at ns i ∷ drop (suc i) ns
   unfolding node_at
   drop-node i h = drop-cons ns i no_input h
+
+pub taken-node : (k j : ℕ) (ns : List LutNode) → j < k → node_at (take k ns) j ≡ node_at ns j
+unfolding node_at
+taken-node k j ns h = get_or-take k ns j no_input h

@@ -1,13 +1,13 @@
 -- The sources of two cones together: which they are, that they differ, and how many they are.
 use Rattle.std.specs.Prelude.{◌≡◌, refl, true, false, not, List, [], ◌∷◌, ◌++◌, ℕ, ◌≤◌, ◌+◌, eqb, length}
-use Rattle.std.proofs.Common.{sym, ap, ◌∙◌, true≢false, map-id, ⊎_elim, zero-le, arith, eq-eqb, ne_eqb, length-append}
+use Rattle.std.proofs.Common.{sym, ap, ◌∙◌, true≢false, ⊎_elim, zero-le, arith, eq-eqb, ne_eqb, length-append}
 use Rattle.std.proofs.lemmas.Bool.{not-true}
 use Rattle.laws.specs.Select.{select, select_or, select_split}
 use Rattle.laws.specs.Test.{eq-or-ne, decide, both_left, both_right}
 use Rattle.rules.specs.Composition.{union_support}
 use Rattle.rules.specs.Network.{member}
 use Rattle.rules.specs.NetworkText.{all_different}
-use Rattle.theorems.specs.Members.{Among, member-either, member-left, member_right, among_of, select-member, selected_member, select_none, different-select, append-different}
+use Rattle.theorems.specs.Members.{Among, member-either, member-left, member_right, among_of, select-member, selected, selected_different, select_none, append-different}
 
 -- ---- The union.
 
@@ -30,14 +30,14 @@ union_among left right =
     among_of (left ++ select (λ m. not (member m left)) right) (left ++ right)
     (λ n h. ⊎_elim
     (λ (e : member n left ≡ true). member-left n left right e)
-    (λ (e : member n (select (λ m. not (member m left)) right) ≡ true). member_right n left right (rw map-id at (selected_member (λ (m : ℕ). m) (λ m. not (member m left)) n right (rw map-id e))))
+    (λ (e : member n (select (λ m. not (member m left)) right) ≡ true). member_right n left right (selected (λ m. not (member m left)) n right e).0)
     (member-either n left (select (λ m. not (member m left)) right) h))
 
 pub union_different : (left right : List ℕ) → all_different left ≡ true → all_different right ≡ true → all_different (union_support left right) ≡ true
 unfolding union_support
 union_different left right d e =
     append-different left (select (λ m. not (member m left)) right) d
-    (rw map-id at (different-select (λ (n : ℕ). n) (λ m. not (member m left)) right (rw map-id e)))
+    (selected_different (λ m. not (member m left)) right e)
     (λ m k. select_none (λ m. not (member m left)) m right (ap not k))
 
 -- ---- How many.

@@ -3,13 +3,13 @@ use Rattle.std.specs.Prelude.{◌≡◌, Bool, ◌||◌, ℕ, zero, suc, ◌<◌
 use Rattle.std.proofs.Math.Path.{refl, sym, ap}
 use Rattle.std.proofs.Common.{◌∙◌, add-zero, le_refl, mod-eq_of_lt, arith}
 use Rattle.std.proofs.Math.Bool.{true, false}
-use mathlib.Core.List.{List, [], ◌∷◌, ◌++◌, map, append-nil}
+use mathlib.Core.List.{List, [], ◌∷◌, map, append-nil}
 use Rattle.std.proofs.Math.ListN.{get_or}
 use Rattle.std.proofs.lemmas.List.{length-map}
 use Rattle.std.proofs.Math.Seq.{take_all}
 use Rattle.laws.specs.Digits.{digits, digits-length}
 use Rattle.laws.specs.Integer.{ints, abs_parts, add_parts}
-use Rattle.laws.specs.Select.{select, any}
+use Rattle.laws.specs.Select.{select, any, any_append}
 use Rattle.laws.specs.Test.{if◌then◌otherwise◌}
 use Rattle.rules.specs.Composition.{assigned}
 use Rattle.rules.specs.Cone.{row_from, linear_table}
@@ -41,15 +41,6 @@ weigh_selected f (t ∷ ts) = by (is_used t) refl (weigh_selected f ts)
     by false e r = r ∙ sym (weigh_unused t.coef (coefs ts) (f t.node) (map f (sources ts)) (unused_zero t e))
 
 -- and the same values, whatever is asked of one
-any_append : {A : Type 0} (p : A → Bool) (s t : List A) → any p (s ++ t) ≡ (any p s || any p t)
-unfolding any
-any_append p [] t = refl
-any_append p (x ∷ s) t = by (p x) (any_append p s t)
-  where
-    by : (a : Bool) → any p (s ++ t) ≡ (any p s || any p t) → (a || any p (s ++ t)) ≡ ((a || any p s) || any p t)
-    by true r = refl
-    by false r = r
-
 any-map : {A B : Type 0} (p : B → Bool) (f : A → B) (l : List A) → any p (map f l) ≡ any (λ x. p (f x)) l
 unfolding any
 any-map p f [] = refl

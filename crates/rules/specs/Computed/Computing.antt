@@ -26,6 +26,7 @@ use Rattle.rules.specs.Scale
 use Rattle.rules.specs.Span
 use Rattle.rules.specs.Store
 use Rattle.rules.specs.SumReading
+use Rattle.rules.specs.Workers
 use Rattle.rules.specs.Writing
 
 -- from a text to a circuit
@@ -71,3 +72,8 @@ counting = tt
 unfoldable pub converting : Unit {0}
 unfolding Rotation.centre_of Edition2.net2_line Edition2.centre_digit Edition2.table Edition2.many_line Edition2.line2 Edition2.too_long Edition2.not_fitting Edition2.not_turning Edition2.other_centre Edition2.text_conditions2 Edition2.safety_conditions2 Edition2.conditions2 Edition2.with_line2 Edition2.read_admitted2 Regroup.same_group Regroup.behind Regroup.order_up_to Regroup.order Regroup.place_in Regroup.moved_term Regroup.moved_node Regroup.moved_wire Regroup.moved_output Regroup.reordered Regroup.regrouped Converter.join_table Converter.node_lines Converter.lines_of Converter.tables_text Converter.line2_text Converter.lines2_text Converter.network_text2 Converter.other_edition Converter.convert Converter.answer_text Converter.converter
 converting = tt
+
+-- from a network to a run with workers
+unfoldable pub trying : Unit {0}
+unfolding Workers.is_boot Workers.boots Workers.is_or_needs Workers.waits_for Workers.boots_in Workers.begun Workers.finished Workers.running Workers.ready Workers.taken Workers.starts_at Workers.log_before Workers.whole_log Workers.start_of Workers.simulated Workers.trial_limits Workers.trial_on Workers.trial Workers.trial_answer
+trying = tt
