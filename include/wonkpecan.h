@@ -1,5 +1,5 @@
-/* Wonkpecan for C and C++: the mapper, the admission check, the table builder, the two runs, the reading of a sum, the counts of grades,
- * a run with workers and the slot of a phase.
+/* Wonkpecan for C and C++: the mapper, one gate retuned, the admission check, the table builder, the two runs, the reading of a sum, the
+ * counts of grades, a run with workers and the slot of a phase.
  *
  *     (cd crates/exports && rt lib)                                proves it and writes crates/exports/out/libexports.a
  *     cc -Iinclude evaluator.c crates/exports/out/libexports.a     x86-64 Linux; asks the C library for memcpy and memset
@@ -7,13 +7,14 @@
  * The texts are document 01's: bytes, of any content and length, no closing 0. docs/EVALUATOR.md explains the numbers.
  *
  * Promised, and proved for every input: each call returns, and the reply and every place of the buffer are the definition's
- * (crates/rules/specs). A refusal keeps the whole buffer; an answer keeps what is behind it. Only the reply and the buffer are
- * written. There is no state between calls, so any number of threads may call at once.
+ * (crates/rules/specs; of fbs_retune, unless somebody altered the bytes of a state). A refusal keeps the whole buffer; an answer keeps what
+ * is behind it. Only the reply and the buffer are written, and fbs_retune's `state`. There is no other state between calls, so any number of
+ * threads may call at once, each with a `state` of its own.
  * Not promised: anything about noise or about the ciphertext library that runs an admitted network; time; stack (a call takes
  * less than FBS_STACK_BYTES, which is measured and not proved); the compiler behind the proof.
  *
  * The caller sees to it that a pointer leads to as many places as the length beside it says, for the whole call, that nothing
- * else writes there meanwhile, and that `out` or `values` shares no place with another argument. With length 0 a pointer may
+ * else writes there meanwhile, and that `out`, `state` or `values` shares no place with another argument. With length 0 a pointer may
  * be NULL: nothing is read or written through it, an empty text is refused by its number and an empty buffer is a short one. */
 #ifndef WONKPECAN_H
 #define WONKPECAN_H
@@ -33,6 +34,7 @@ enum {
     FBS_OUTPUTS = 32,         /* `values` of a run: 101 never comes */
     FBS_TERMS = 11,           /* places for the bits of a sum: no `lin` has more terms */
     FBS_BOOTS = 671,          /* places for the ticks of a run with workers: no network has more boots */
+    FBS_STATE_BYTES = 34704,  /* fbs_retune's `state`: what it keeps; in fewer bytes it keeps nothing */
     FBS_VALUES = 342,         /* places for the counts of a sum's values: no `lin` has more from its least to its greatest */
     FBS_STACK_BYTES = 262144
 };
@@ -40,7 +42,7 @@ enum {
 /* What a reply's `number` says, with document 01's example; fbs_phrase has the words. */
 enum fbs_number {
     FBS_OK = 0,
-    /* a circuit's text: fbs_map, fbs_run_circuit (2 from fbs_build_table too) */
+    /* a circuit's text: fbs_map, fbs_retune, fbs_run_circuit (2 from fbs_build_table too) */
     FBS_NO_FORM = 1,          /* (gate g 02 (n 0)) */
     FBS_BAD_SETTINGS = 2,     /* (fbs 4 9 8 none span one) */
     FBS_TOO_MANY = 3,         /* a 33rd `in` */
@@ -48,7 +50,7 @@ enum fbs_number {
     FBS_NAME_REPEATED = 5,    /* (in a) twice */
     FBS_NO_EARLIER_NODE = 6,  /* (gate g 10 (n 0)) as line 2 */
     FBS_WIRES_OR_BITS = 7,    /* (gate g 10 (n 0) (n 1)) */
-    /* mapping it: fbs_map; 11 from fbs_convert too */
+    /* mapping it: fbs_map, fbs_retune; 11 from fbs_convert too */
     FBS_NORM_LIMIT = 8,       /* limit 0, a NOT */
     FBS_NO_COMPOSITION = 9,   /* P = M = 2, AND */
     FBS_SHORT_ANSWER = 11,    /* buffer of 0 bytes */
@@ -92,6 +94,15 @@ typedef struct fbs_reply {
     size_t line;
     size_t count;
 } fbs_reply;
+
+/* Accepted: number 0, line 0, and how many bytes were written. Refused: number, line from 1 or 0, count 0. Either way how many gates' mapping
+ * the call began, one that was refused among them. */
+typedef struct fbs_retuned {
+    size_t number;
+    size_t line;
+    size_t count;
+    size_t begun;
+} fbs_retuned;
 
 /* Built: number 0, how many bits were written, and the table's centre, the constant c that an evaluator adds after the rotation: 0 for a
  * table of at most P bits, else the sum, 0 to 2, that every pair of bits P apart has. Refused: the number, count 0 and centre 0. The line is 0. */
@@ -156,6 +167,15 @@ typedef struct fbs_slot {
 /* A circuit's text mapped to a network's, written over the front of `out`. fbs_admit answers 0 to the bytes written, and on
  * all bits the network's outputs are the circuit's. Inputs that nothing needs are gone, so take bits by name. */
 fbs_reply fbs_map(const uint8_t *text, size_t text_length, uint8_t *out, size_t out_length);
+
+/* A circuit's text mapped as by fbs_map, for who edits one gate and maps again: `line` is the line of the chosen gate, from 1. What the
+ * gates before it gave is kept in the first FBS_STATE_BYTES bytes of `state`, later bytes stay. Where that stands there already, for the same
+ * settings, inputs with their weights, BITS and wires of the gates before, and outputs, none of those gates is mapped again, and no byte of
+ * `state` changes. The answer is fbs_map's to the whole text. Begin with zeros, and let nobody else write there. The bytes stay where the text
+ * is refused by 1 to 7, or by 8 or 9 at an earlier gate, where the line is no gate's, or the buffer is too short: then all is mapped. If somebody
+ * altered bytes of a state, the answer may be another circuit's; still the call returns, and what it writes is admitted. */
+fbs_retuned fbs_retune(const uint8_t *text, size_t text_length, size_t line, uint8_t *state, size_t state_length, uint8_t *out,
+                       size_t out_length);
 
 /* A network's text of either edition judged: 0 only if on all bits no sum leaves its table, a rotation gives every table, every output is 0 or 1
  * and no sum's norm is over NORM. */

@@ -10,6 +10,7 @@ ARCHIVE = TOP / "crates" / "exports" / "out" / "libexports.a"
 SHARED = TOP / "target" / "entries" / "libexports.so"
 HEADER = TOP / "include" / "wonkpecan.h"
 ANSWER_BYTES = 65536
+STATE_BYTES = 34704
 OUTPUTS, VALUES, BOOTS = 32, 342, 671
 
 
@@ -31,6 +32,7 @@ def numbers(*names, **others):
 Reply = numbers("number", "line", "count")
 Values = numbers("number", "line", "count", least=ctypes.c_int64)
 Trial = numbers("number", "line", "count", "ticks")
+Retuned = numbers("number", "line", "count", "begun")
 
 
 def phrases():
@@ -65,6 +67,18 @@ def mapped(text):
     out = ctypes.create_string_buffer(ANSWER_BYTES)
     reply = call("fbs_map", Reply, text, out, ctypes.c_size_t(ANSWER_BYTES))
     return out.raw[: reply.count]
+
+
+def state_buffer():
+    """For the state that `retuned` keeps; there is none in it."""
+    return ctypes.create_string_buffer(STATE_BYTES)
+
+
+def retuned(text, line, state):
+    """The same network, mapped from the gate of that line on where the state kept before it stands in the buffer, and how many gates were begun."""
+    out = ctypes.create_string_buffer(ANSWER_BYTES)
+    reply = call("fbs_retune", Retuned, text, ctypes.c_size_t(line), state, ctypes.c_size_t(len(state)), out, ctypes.c_size_t(ANSWER_BYTES))
+    return out.raw[: reply.count], reply.begun
 
 
 def ones(text):

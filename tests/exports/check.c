@@ -132,6 +132,84 @@ static void check_answer_buffer(void) {
     expect("4 keeps the buffer", kept(0));
 }
 
+/* ---- One gate retuned. */
+
+/* As many bytes as are never too short. */
+enum { STATE = 1 << 20 };
+static uint8_t state[STATE], before[STATE];
+
+#define TWO(f, g, h) f "(in a)\n(in b)\n(gate g " g " (n 0) (n 1))\n(gate h " h " (n 2) (n 1))\n(out y (n 3))\n"
+
+static const struct {
+    const char *what, *text;
+    size_t line, length, room, number, at, begun;
+    int changed;
+} retuned[] = {
+    {"a buffer of zeros: all gates, and the state is kept", TWO(SPAN, "0001", "0110"), 5, STATE, FBS_ANSWER_BYTES, 0, 0, 2, 1},
+    {"its BITS edited", TWO(SPAN, "0001", "0111"), 5, STATE, FBS_ANSWER_BYTES, 0, 0, 1, 0},
+    {"again, the state as long as need be", TWO(SPAN, "0001", "1001"), 5, FBS_STATE_BYTES, FBS_ANSWER_BYTES, 0, 0, 1, 0},
+    {"a byte shorter: afresh", TWO(SPAN, "0001", "1001"), 5, FBS_STATE_BYTES - 1, FBS_ANSWER_BYTES, 0, 0, 2, 0},
+    {"no buffer", TWO(SPAN, "0001", "1001"), 5, 0, FBS_ANSWER_BYTES, 0, 0, 2, 0},
+    {"no line", TWO(SPAN, "0001", "1001"), 0, STATE, FBS_ANSWER_BYTES, 0, 0, 2, 0},
+    {"an input's line", TWO(SPAN, "0001", "1001"), 3, STATE, FBS_ANSWER_BYTES, 0, 0, 2, 0},
+    {"an output's line", TWO(SPAN, "0001", "1001"), 6, STATE, FBS_ANSWER_BYTES, 0, 0, 2, 0},
+    {"the largest line", TWO(SPAN, "0001", "1001"), SIZE_MAX, STATE, FBS_ANSWER_BYTES, 0, 0, 2, 0},
+    {"11", TWO(SPAN, "0001", "0110"), 5, STATE, 9, 11, 0, 1, 0},
+    {"4, the empty text", "", 5, STATE, FBS_ANSWER_BYTES, 4, 1, 0, 0},
+    {"the gate before it edited: afresh", TWO(SPAN, "0111", "0110"), 5, STATE, FBS_ANSWER_BYTES, 0, 0, 2, 1},
+    {"other settings", TWO("(fbs 4 8 10 none span many)\n", "0111", "0110"), 5, STATE, FBS_ANSWER_BYTES, 0, 0, 2, 1},
+    {"another gate", TWO("(fbs 4 8 10 none span many)\n", "0111", "0110"), 4, STATE, FBS_ANSWER_BYTES, 0, 0, 2, 1},
+    {"that gate edited", TWO("(fbs 4 8 10 none span many)\n", "1110", "0110"), 4, STATE, FBS_ANSWER_BYTES, 0, 0, 2, 0},
+    {"9 before the chosen gate", TWO("(fbs 2 2 10 none span one)\n", "0001", "0110"), 5, STATE, FBS_ANSWER_BYTES, 9, 4, 1, 0},
+    {"9 at the chosen gate, and the state is kept", TWO("(fbs 2 2 10 none span one)\n", "0001", "0110"), 4, STATE, FBS_ANSWER_BYTES, 9, 4, 1, 1},
+    {"that gate constant", TWO("(fbs 2 2 10 none span one)\n", "1111", "0110"), 4, STATE, FBS_ANSWER_BYTES, 0, 0, 2, 0},
+};
+
+static void is_retuned(const char *what, fbs_retuned r, size_t number, size_t line, size_t count, size_t begun) {
+    int good = r.number == number && r.line == line && r.count == count && r.begun == begun;
+    if (!good) printf("(%zu %zu %zu %zu), not (%zu %zu %zu %zu):\n", r.number, r.line, r.count, r.begun, number, line, count, begun);
+    expect(what, good);
+}
+
+static void check_retunes(void) {
+    static uint8_t network[FBS_ANSWER_BYTES];
+    memset(state, 0, sizeof state);
+    for (size_t i = 0; i < sizeof retuned / sizeof *retuned; i++) {
+        const char *text = retuned[i].text;
+        size_t count = fbs_map(bytes(text), strlen(text), network, sizeof network).count;
+        if (retuned[i].number) count = 0;
+        memcpy(before, state, sizeof state);
+        uint8_t *out = fresh();
+        fbs_retuned r = fbs_retune(bytes(text), strlen(text), retuned[i].line, retuned[i].length ? state : NULL, retuned[i].length, out, retuned[i].room);
+        is_retuned(retuned[i].what, r, retuned[i].number, retuned[i].at, count, retuned[i].begun);
+        expect("fbs_map's answer", kept(count) && memcmp(out, network, count) == 0);
+        expect("whether the state changes", (memcmp(state, before, sizeof state) != 0) == retuned[i].changed);
+        expect("bytes behind a state are kept", memcmp(state + FBS_STATE_BYTES, before + FBS_STATE_BYTES, STATE - FBS_STATE_BYTES) == 0);
+    }
+    is_retuned("no text, no buffers", fbs_retune(NULL, 0, 4, NULL, 0, NULL, 0), 4, 1, 0, 0);
+    is_retuned("11, no answer buffer", fbs_retune(bytes(retuned[0].text), strlen(retuned[0].text), 5, NULL, 0, NULL, 0), 11, 0, 0, 2);
+}
+
+/* Somebody altered a byte of a state: what is written is admitted, and a refusal keeps the buffer. */
+static void check_altered(void) {
+    const char *text = retuned[0].text, *edited = retuned[1].text;
+    int good = 1;
+    memset(state, 0, sizeof state);
+    fbs_retune(bytes(text), strlen(text), 5, state, FBS_STATE_BYTES, fresh(), FBS_ANSWER_BYTES);
+    memcpy(before, state, FBS_STATE_BYTES);
+    for (size_t at = 0; at < FBS_STATE_BYTES; at += at < 2600 || (26200 < at && at < 26800) ? 1 : 13) {
+        memcpy(state, before, FBS_STATE_BYTES);
+        state[at] ^= (uint8_t)(at % 3 + 1);
+        uint8_t *out = fresh();
+        fbs_retuned r = fbs_retune(bytes(edited), strlen(edited), 5, state, FBS_STATE_BYTES, out, FBS_ANSWER_BYTES);
+        good = good && kept(r.number ? 0 : r.count) && (r.number || fbs_admit(out, r.count).number == 0);
+    }
+    expect("each byte of a state altered in turn", good);
+    memset(state, 7, FBS_STATE_BYTES);
+    fbs_retuned r = fbs_retune(bytes(edited), strlen(edited), 5, state, FBS_STATE_BYTES, fresh(), FBS_ANSWER_BYTES);
+    expect("a buffer that was never a state", r.number == 0 && fbs_admit(room + EDGE, r.count).number == 0);
+}
+
 /* ---- Admission. */
 
 #define NET "(net 4 8 none)\n(in a)\n"
@@ -553,6 +631,7 @@ static void check_together(void) {
 
 typedef struct {
     int turns, wrong;
+    uint8_t state[FBS_STATE_BYTES];
 } Job;
 
 static void *job(void *given) {
@@ -584,6 +663,8 @@ static void *job(void *given) {
         j->wrong += sum.number != 0 || sum.count != 3 || sum.bits[2] != 1;
         fbs_slot slot = fbs_find_slot(4, 5, -HALF4);
         j->wrong += slot.number != 0 || slot.slot != 4;
+        fbs_retuned again = fbs_retune(bytes(retuned[k & 1].text), strlen(retuned[k & 1].text), 5, j->state, FBS_STATE_BYTES, other, sizeof other);
+        j->wrong += again.number != 0 || again.begun != (k == 0 ? 2 : 1);
     }
     return NULL;
 }
@@ -591,7 +672,8 @@ static void *job(void *given) {
 static void check_threads(void) {
     pthread_t threads[2];
     pthread_attr_t small;
-    Job jobs[2] = {{200, 0}, {200, 0}};
+    static Job jobs[2];
+    jobs[0].turns = jobs[1].turns = 200;
     pthread_attr_init(&small);
     expect("a small stack", pthread_attr_setstacksize(&small, FBS_STACK_BYTES) == 0);
     for (int i = 0; i < 2; i++) expect("a thread", pthread_create(&threads[i], &small, job, &jobs[i]) == 0);
@@ -603,6 +685,8 @@ static void check_threads(void) {
 int main(void) {
     check_mapper();
     check_answer_buffer();
+    check_retunes();
+    check_altered();
     check_admission();
     check_editions();
     check_builder();

@@ -66,6 +66,15 @@ mod wonkpecan {
 
     #[repr(C)]
     #[derive(Debug, PartialEq, Clone, Copy)]
+    pub struct Retuned {
+        pub number: usize,
+        pub line: usize,
+        pub count: usize,
+        pub begun: usize,
+    }
+
+    #[repr(C)]
+    #[derive(Debug, PartialEq, Clone, Copy)]
     pub struct Slot {
         pub number: usize,
         pub line: usize,
@@ -73,10 +82,19 @@ mod wonkpecan {
     }
 
     mod c {
-        use super::{Admission, Reply, Run, Slot, Sum, Table, Values};
+        use super::{Admission, Reply, Retuned, Run, Slot, Sum, Table, Values};
 
         unsafe extern "C" {
             pub fn fbs_map(text: *const u8, text_length: usize, out: *mut u8, out_length: usize) -> Reply;
+            pub fn fbs_retune(
+                text: *const u8,
+                text_length: usize,
+                line: usize,
+                state: *mut u8,
+                state_length: usize,
+                out: *mut u8,
+                out_length: usize,
+            ) -> Retuned;
             pub fn fbs_admit(text: *const u8, text_length: usize) -> Admission;
             pub fn fbs_convert(text: *const u8, text_length: usize, out: *mut u8, out_length: usize) -> Reply;
             pub fn fbs_build_table(
@@ -113,10 +131,14 @@ mod wonkpecan {
         }
     }
 
-    // SAFETY of all eleven: a slice's pointer and length are what the header asks for, and a `&mut` shares no place with another.
+    // SAFETY of all twelve: a slice's pointer and length are what the header asks for, and a `&mut` shares no place with another.
 
     pub fn map(text: &[u8], out: &mut [u8]) -> Reply {
         unsafe { c::fbs_map(text.as_ptr(), text.len(), out.as_mut_ptr(), out.len()) }
+    }
+
+    pub fn retune(text: &[u8], line: usize, state: &mut [u8], out: &mut [u8]) -> Retuned {
+        unsafe { c::fbs_retune(text.as_ptr(), text.len(), line, state.as_mut_ptr(), state.len(), out.as_mut_ptr(), out.len()) }
     }
 
     pub fn admit(text: &[u8]) -> Admission {
@@ -163,8 +185,8 @@ mod wonkpecan {
 use std::fmt::Debug;
 use std::sync::atomic::{AtomicUsize, Ordering};
 use wonkpecan::{
-    Admission, Reply, Run, Slot, Sum, Table, Values, admit, build_table, convert, find_slot, map, ones, run_circuit, run_network, sum_reading,
-    trial, value_counts,
+    Admission, Reply, Retuned, Run, Slot, Sum, Table, Values, admit, build_table, convert, find_slot, map, ones, retune, run_circuit, run_network,
+    sum_reading, trial, value_counts,
 };
 
 static CHECKS: AtomicUsize = AtomicUsize::new(0);
@@ -253,6 +275,32 @@ fn check_map() {
     same("refusals keep the buffer", out, [0xa5; 200]);
 }
 
+fn check_retune() {
+    let text = |g: &str, h: &str| {
+        format!("(fbs 4 8 10 none span one)\n(in a)\n(in b)\n(gate g {g} (n 0) (n 1))\n(gate h {h} (n 2) (n 1))\n(out y (n 3))\n").into_bytes()
+    };
+    let (mut state, mut out, mut fresh) = (vec![0; 34_704], vec![0xa5; 65_536], vec![0xa5; 65_536]);
+    let mut mapped = |text: &[u8], line, state: &mut [u8], begun| {
+        let count = map(text, &mut fresh).count;
+        same("mapped as afresh", retune(text, line, state, &mut out), Retuned { number: 0, line: 0, count, begun });
+        same("the same network", &out[..count], &fresh[..count]);
+    };
+    mapped(&text("0001", "0110"), 5, &mut state, 2);
+    let kept = state.clone();
+    same("a state was kept", kept[0] != 0, true);
+    mapped(&text("0001", "0111"), 5, &mut state, 1);
+    mapped(&text("0001", "1110"), 5, &mut state, 1);
+    mapped(&text("0001", "1110"), 0, &mut state, 2);
+    mapped(&text("0001", "1110"), 5, &mut [], 2);
+    same("it serves again unchanged", state == kept, true);
+    mapped(&text("0111", "1110"), 5, &mut state, 2);
+    same("another prefix, another state", state == kept, false);
+    let mut short = [0xa5; 9];
+    same("11", retune(&text("0111", "0110"), 5, &mut state, &mut short), Retuned { number: 11, line: 0, count: 0, begun: 1 });
+    same("4, the empty text", retune(&[], 5, &mut state, &mut short), Retuned { number: 4, line: 1, count: 0, begun: 0 });
+    same("refusals keep the answer buffer", short, [0xa5; 9]);
+}
+
 fn check_admit() {
     let stats = Admission { number: 0, line: 0, inputs: 2, sums: 1, boots: 1, sources: 1, longest: 3, norm: 2, outputs: 1, depth: 1, centre0: 1, centre1: 0, centre2: 0 };
     same("document 01's network", admit(NETWORK), stats);
@@ -324,6 +372,7 @@ fn check_runs() {
 
 fn check_all() {
     check_map();
+    check_retune();
     check_sums();
     check_slots();
     check_admit();

@@ -18,8 +18,10 @@ use Rattle.rules.specs.NetworkText as limit
 use Rattle.rules.specs.Outcome.{Outcome, outcome}
 use Rattle.rules.specs.Store.{wire_needs, output_needs, live, kept_from}
 use Rattle.rules.specs.Writing.{network_text}
+use Rattle.theorems.specs.SoundCircuits.{SoundSettings}
 use Rattle.theorems.specs.Members.{member_head, member-left, member_right, among_at}
 use Rattle.mapped.specs.PrunedLive.{live-outputs}
+use Rattle.mapped.specs.Statements.{output_names}
 use Rattle.nodes.specs.declared.store.Store.{Store}
 use Rattle.nodes.specs.Store.{store_of, Centred, store_few}
 use Rattle.writer.specs.Kept.{Numbered, Closed, closed, kept_sourced}
@@ -30,16 +32,18 @@ use Rattle.writer.specs.Whole.{network_of, kept_network}
 use Rattle.gates.specs.Wired.{WireIn}
 use Rattle.outputs.specs.Outputs.{AllIn}
 use Rattle.conclude.specs.Norm.{largest_norm}
+use Rattle.conclude.specs.Short.{ShortNames, text_short}
 
 -- The network that the nodes and the outputs say, pruned and checked.
 unfoldable pub concluded : Settings → List Output → Store → Reading Network
 concluded s os store = checked s (pruned s (record { nodes = store_of store; outputs = os }))
 
--- What is asked for that: each table's centre beside it, outputs of nodes that there are, and a text that is short.
+-- What is asked for that, of whatever nodes: settings within their limits, each table's centre beside it, and few outputs of nodes that there are, with short names.
 pub record Finishable (s : Settings) (os : List Output) (store : Store) : Type 0 where
+  pub settings : SoundSettings s
   pub centred : Centred s.p store
   pub wires : AllIn (length (store_of store)) os
-  pub short : (w : Network) → concluded s os store ≡ Good w → length (network_text w) < 65536
+  pub names : ShortNames (output_names os)
 
 -- ---- laws: Basic's last check
 
@@ -77,6 +81,25 @@ module _ (os : List Output) (store : Store) where
   unfolding live
   kept_closed = closed store (output_needs os)
 
+-- ---- laws: what a text asks
+
+module _ (s : Settings) (os : List Output) (store : Store) (numbers : NewNumbers) (f : Finishable s os store) (k : Numbered (live (store_of store) os) numbers (length (store_of store))) where
+  pub text_sourced : Sourced numbers store
+  text_sourced = kept_sourced (kept os store) numbers store k (kept_closed os store)
+
+  pub text_live : AllLive numbers os
+  text_live = all_live (kept os store) numbers (length (store_of store)) k (store_few store) os (outputs_kept os store f.wires)
+
+  abbrev whole : Net
+  whole = record { p = s.p; m = s.m; norm = s.norm }
+
+  written_is : network_of whole os store numbers ≡ pruned s (record { nodes = store_of store; outputs = os })
+  unfolding pruned
+  written_is = kept_network whole os store numbers (kept os store) k (kept_closed os store) (outputs_kept os store f.wires)
+
+  pub has_room : Room 0 (network_text (network_of whole os store numbers))
+  has_room = record { fits = omega (arith, ap (λ w. length (network_text w)) written_is, text_short s os store f.settings f.wires f.names) }
+
 -- ---- laws: the whole
 
 module _ (s : Settings) (os : List Output) (store : Store) (r : Bool)
@@ -87,30 +110,12 @@ module _ (s : Settings) (os : List Output) (store : Store) (r : Bool)
   over_refused t f q out = rw (q, sym e ∙ t) refl
 
   module _ (t : r ≡ false) (numbers : NewNumbers) (f : Finishable s os store) (k : Numbered (live (store_of store) os) numbers (length (store_of store))) where
-    abbrev whole : Net
-    whole = record { p = s.p; m = s.m; norm = s.norm }
-
-    written_is : network_of whole os store numbers ≡ pruned s (record { nodes = store_of store; outputs = os })
-    unfolding pruned
-    written_is = kept_network whole os store numbers (kept os store) k (kept_closed os store) (outputs_kept os store f.wires)
-
-    is_good : concluded s os store ≡ Good (network_of whole os store numbers)
+    is_good : concluded s os store ≡ Good (network_of (whole s os store numbers f k) os store numbers)
     unfolding concluded checked pruned largest_norm
-    is_good = rw (sym e ∙ t) (ap Good (sym written_is))
+    is_good = rw (sym e ∙ t) (ap Good (sym (written_is s os store numbers f k)))
 
-    pub answer_is : (o : Outcome) (out : List ℕ) → o ≡ answer_text out (Good (network_text (network_of whole os store numbers))) → o ≡ answer_with out (concluded s os store)
+    pub answer_is : (o : Outcome) (out : List ℕ) → o ≡ answer_text out (Good (network_text (network_of (whole s os store numbers f k) os store numbers))) → o ≡ answer_with out (concluded s os store)
     unfolding answer_with answer_text
     answer_is o out q = q ∙ ap (answer_with out) (sym is_good)
-
-    pub has_room : Room 0 (network_text (network_of whole os store numbers))
-    has_room = record { fits = omega (arith, f.short (network_of whole os store numbers) is_good) }
-
--- what a text asks
-module _ (s : Settings) (os : List Output) (store : Store) (numbers : NewNumbers) (f : Finishable s os store) (k : Numbered (live (store_of store) os) numbers (length (store_of store))) where
-  pub text_sourced : Sourced numbers store
-  text_sourced = kept_sourced (kept os store) numbers store k (kept_closed os store)
-
-  pub text_live : AllLive numbers os
-  text_live = all_live (kept os store) numbers (length (store_of store)) k (store_few store) os (outputs_kept os store f.wires)
 
 pub ruleset concludes = (kept_closed, over_refused, answer_is)

@@ -2,7 +2,7 @@
 use Rattle.std.specs.Prelude.{List, ℕ, length, pos, Result, Ok, Err}
 use Rattle.std.proofs.Math.Option.{Option, none, some}
 use Rattle.rules.specs.Builder.{TableAnswer}
-use Rattle.rules.specs.Outcome.{Answer, written, refused}
+use Rattle.rules.specs.Outcome.{Answer, written, refused, outcome}
 use Rattle.rules.specs.Admission.{Admission}
 use Rattle.rules.specs.Phase.{SlotAnswer}
 use Rattle.rules.specs.Runs.{RunAnswer, Numbered, NotBits, NoRoom, BreakOff, RunOutcome, ran}
@@ -12,8 +12,10 @@ use Rattle.rules.specs.SumReading.{SumReading, Shown, NoneGives, Refused, SumAns
 use Rattle.rules.specs.declared.Refusal.{Refusal as Turned}
 use Rattle.rules.specs.Grades.{OnesReply, Ones, OnesAnswer, ValuesReply, Values, ValuesAnswer}
 use Rattle.rules.specs.Refusal.{reason_number}
+use Rattle.retuning.specs.Retune.{Retuned, made}
 use Rattle.value_counts.specs.declared.ValueCounts.{ValueCounts}
 use Rattle.exports.specs.declared.FbsReply.{FbsReply}
+use Rattle.exports.specs.declared.FbsRetuned.{FbsRetuned}
 use Rattle.exports.specs.declared.FbsAdmission.{FbsAdmission}
 use Rattle.exports.specs.declared.FbsSum.{FbsSum}
 use Rattle.exports.specs.declared.FbsSlot.{FbsSlot}
@@ -27,6 +29,13 @@ answer r = record { number = r.number; line = r.line; count = r.count }
 
 abbrev pub table_answer : FbsTable → TableAnswer
 table_answer r = record { number = r.number; line = r.line; count = r.count; centre = r.centre }
+
+abbrev pub mapping_answer : FbsRetuned → Answer
+mapping_answer r = record { number = r.number; line = r.line; count = r.count }
+
+-- The reply with both buffers as they are left.
+abbrev pub retuned_numbers : FbsRetuned → List ℕ → List ℕ → Retuned
+retuned_numbers r out state = made (outcome (mapping_answer r) out) r.begun state
 
 abbrev pub trial_numbers : FbsTrial → TrialReply
 trial_numbers r = record { number = r.number; line = r.line; count = r.count; ticks = r.ticks }

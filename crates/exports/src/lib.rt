@@ -5,7 +5,7 @@
 
 mod numbers;
 
-ghost use Rattle.std.specs.Prelude.{◌≡◌};
+ghost use Rattle.std.specs.Prelude.{◌≡◌, drop};
 ghost use Rattle.rules.specs.Builder.{built, builder};
 ghost use Rattle.rules.specs.Mapper.{mapper};
 ghost use Rattle.rules.specs.Admission.{admission};
@@ -16,6 +16,10 @@ ghost use Rattle.rules.specs.Phase.{slot_answer};
 ghost use Rattle.rules.specs.Runs.{Numbered, ran, run_circuit, run_network};
 ghost use Rattle.rules.specs.SumReading.{sum_reading, sum_answer};
 ghost use Rattle.rules.specs.Workers.{trial, trial_answer, tried};
+ghost use Rattle.retuning.specs.Kept.{kept_length};
+ghost use Rattle.retuning.specs.Retune.{retuned, Decided};
+ghost use Rattle.retuning.specs.Safe.{Safe};
+ghost use Rattle.exports.specs.Numbers.{mapping_answer, retuned_numbers};
 ghost use Rattle.exports.specs.Numbers.{answer, table_answer, admission_numbers, numbered, sum_places, slot_numbers, placed, ones_placed, values_placed, trial_numbers};
 
 use crate::numbers::sum_numbers;
@@ -37,6 +41,16 @@ pub struct FbsTable {
     pub line: usize,
     pub count: usize,
     pub centre: usize,
+}
+
+// 0 and the count of bytes written, or the number and the line of the refusal; either way how many gates' mapping the call began.
+#[repr(C)]
+#[derive(Clone, Copy, Default)]
+pub struct FbsRetuned {
+    pub number: usize,
+    pub line: usize,
+    pub count: usize,
+    pub begun: usize,
 }
 
 // 0 and the statistics, or the number and the line of the refusal.
@@ -106,6 +120,21 @@ pub extern "C" fn fbs_map(text: &[u8], out: &mut [u8]) -> FbsReply
     ensures { outcome (answer result) out.new ≡ mapper text.now out.old }
 {
     FbsReply::from(mapper::map(text, out))
+}
+
+// A circuit's text mapped from the chosen gate on, where the state that was kept before it stands in the buffer, else from the first; then it is kept there.
+#[unsafe(no_mangle)]
+pub extern "C" fn fbs_retune(
+    text: &[u8],
+    line: usize,
+    state: &mut [u8],
+    out: &mut [u8],
+) -> FbsRetuned
+    ensures decided { Decided text.now line state.old → retuned_numbers result out.new state.new ≡ retuned text.now line out.old state.old }
+    ensures safe { Safe (mapping_answer result) out.old out.new }
+    ensures behind { drop kept_length state.new ≡ drop kept_length state.old }
+{
+    FbsRetuned::from(retune::retune(text, line, state, out))
 }
 
 // A network's text of either edition judged.

@@ -7,11 +7,12 @@ ghost use Rattle.rules.specs.Phase.{slot_reply};
 ghost use Rattle.rules.specs.Runs.{run_reply};
 ghost use Rattle.rules.specs.SumReading.{sum_reply};
 ghost use Rattle.rules.specs.Outcome.{written, refused};
-ghost use Rattle.exports.specs.Numbers.{answer, table_answer, run_numbers, admission_numbers, sum_places, slot_numbers, values_reply, trial_numbers};
+ghost use Rattle.exports.specs.Numbers.{answer, table_answer, mapping_answer, run_numbers, admission_numbers, sum_places, slot_numbers, values_reply, trial_numbers};
 ghost use Rattle.rules.specs.Workers.{trial_reply};
 ghost use Rattle.sum_reading.specs.Reply.{FewShown};
 
-use crate::{FbsAdmission, FbsReply, FbsSlot, FbsSum, FbsTable, FbsTrial, FbsValues};
+use crate::{FbsAdmission, FbsReply, FbsRetuned, FbsSlot, FbsSum, FbsTable, FbsTrial, FbsValues};
+use retune::Retuned;
 use rules::{Reason, Refusal, RunError, Shown, Stats, Table, WorkerRun};
 use value_counts::ValueCounts;
 
@@ -41,6 +42,27 @@ impl From<Result<usize, Refusal>> for FbsReply {
         match reply {
             Ok(written) => accepted(written),
             Err(r) => turned_away(r.reason.number(), r.line),
+        }
+    }
+}
+
+impl From<Retuned> for FbsRetuned {
+    fn from(reply: Retuned) -> FbsRetuned
+        ensures is { mapping_answer result ≡ map_reply reply.result }
+        ensures begun { result.begun ≡ reply.begun }
+    {
+        match reply.result {
+            Ok(written) => FbsRetuned {
+                count: written,
+                begun: reply.begun,
+                ..FbsRetuned::default()
+            },
+            Err(r) => FbsRetuned {
+                number: r.reason.number(),
+                line: r.line,
+                begun: reply.begun,
+                ..FbsRetuned::default()
+            },
         }
     }
 }

@@ -54,10 +54,10 @@ pub record GoodFunction (n : ℕ) (f : Function) : Type 0 where
   pub reads : Reads n f
   pub bits : all_bits (answers_of f) ≡ true
 
-pub record GoodGates (inputs : ℕ) (gates : List G.Gate) : Type 0 where
-  pub inputs_few : inputs ≤ 32
-  pub few : length gates ≤ 96
-  pub each : (i : ℕ) (d : G.Gate) → i < length gates → GoodFunction (inputs + i) (get_or gates i d).function
+-- Behind n nodes, with which they are no more than there are wires.
+pub record GoodGates (n : ℕ) (gates : List G.Gate) : Type 0 where
+  pub few : n + length gates ≤ 128
+  pub each : (i : ℕ) (d : G.Gate) → i < length gates → GoodFunction (n + i) (get_or gates i d).function
 
 -- ---- What the results stand for.
 

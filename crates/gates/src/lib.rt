@@ -1,11 +1,12 @@
-// The gates of a circuit in turn, from its inputs on: each mapped, forced where it must be, and put among the wires.
+// Gates of a circuit in turn: each mapped, forced where it must be, and put among the wires.
 // It leans on one gate (`gate`).
 #![tactic(auto)]
 
 pub mod start;
 
-ghost use Rattle.std.specs.Prelude.{◌≡◌, map, ℕ, ◌+◌, ◌*◌, ◌≤◌, ◌<◌, length, IfOk, OnOk};
+ghost use Rattle.std.specs.Prelude.{◌≡◌, map, ℕ, ◌+◌, ◌*◌, ◌^◌, ◌≤◌, ◌<◌, length, IfOk, OnOk};
 ghost use Rattle.rules.specs.Mapper.{used_settings, is_forced, cone_at, map_gate, map_gates};
+ghost use Rattle.retuning.specs.Retune as retune;
 ghost use Rattle.forms.specs.Forms.{output_of};
 ghost use Rattle.circuit.specs.View.{answers_of, gate_of};
 ghost use Rattle.cone.specs.View.{cone_of};
@@ -19,7 +20,7 @@ ghost use Rattle.gates.specs.Gates.{named, forced_cone, cones_of, settled, GoodF
 
 use arrayvec::ArrayVec;
 use bootstrap::boot::bootstrap_cone;
-use circuit::{Circuit, Function};
+use circuit::{Function, Gate};
 use cone::Cone;
 use cone::settings::ValidSettings;
 use forms::Output;
@@ -164,19 +165,26 @@ fn map_one(
     Ok(())
 }
 
-// The loop of map_once over the gates. Asks that the inputs are the nodes, each its own cone.
+// The loop of map_once over gates, any that stand next in the circuit: each node before them has a wire. `begun` counts those whose mapping begins.
 pub fn map_gates(
     s: ValidSettings,
     store: &mut Store,
     wires: &mut ArrayVec<Cone, 128>,
-    circuit: &Circuit<'_>,
+    gates: &[Gate],
+    outputs: &[Output<'_>],
+    begun: &mut usize,
 ) -> Result<(), Refusal>
-    requires { (length (store_of store.old) ≡ length circuit.now.inputs.items) × (Wired store.old wires.old.items (length circuit.now.inputs.items) × GoodGates (length circuit.now.inputs.items) circuit.now.gates.items) }
-    ensures is { state_read store.new wires.new.items result ≡ map_gates s.settings (map output_of circuit.now.outputs.items) (state_of store.old wires.old.items) (map gate_of circuit.now.gates.items) }
-    ensures works { OnOk result (Worked s.settings.p store.old (6 * length circuit.now.gates.items) store.new wires.new.items (length circuit.now.inputs.items + length circuit.now.gates.items)) }
+    requires room { length (store_of store.old) + 6 * length gates.now ≤ 672 }
+    requires wired { Wired store.old wires.old.items (length wires.old.items) }
+    requires good { GoodGates (length wires.old.items) gates.now }
+    requires count { begun.old + length gates.now < 2 ^ 64 }
+    ensures is { state_read store.new wires.new.items result ≡ map_gates s.settings (map output_of outputs.now) (state_of store.old wires.old.items) (map gate_of gates.now) }
+    ensures begun { begun.new ≡ begun.old + retune.begun s.settings (map output_of outputs.now) (state_of store.old wires.old.items) (map gate_of gates.now) }
+    ensures works { OnOk result (Worked s.settings.p store.old (6 * length gates.now) store.new wires.new.items (length wires.old.items + length gates.now)) }
 {
-    for gate in circuit.gates.iter() {
-        let next = map_one(s, store, wires, &circuit.outputs, gate.function);
+    for gate in gates {
+        *begun += 1;
+        let next = map_one(s, store, wires, outputs, gate.function);
         next.map_err(|reason| Refusal {
             reason,
             line: gate.line,

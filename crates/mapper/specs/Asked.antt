@@ -1,5 +1,5 @@
 -- What a circuit that was read gives to the steps.
-use Rattle.std.specs.Prelude.{◌≡◌, false, ◌||◌, List, [], ◌∷◌, map, ℕ, suc, zero, ◌+◌, ◌≤◌, ◌<◌, leb, length, get_or}
+use Rattle.std.specs.Prelude.{◌≡◌, false, ◌||◌, List, [], ◌∷◌, map, ℕ, suc, zero, ◌+◌, ◌≤◌, ◌<◌, leb, length, get_or, All}
 use Rattle.std.proofs.Common.{subst, arith, leb-false, leb-true, not-suc-le-zero}
 use Rattle.std.proofs.lemmas.List.{length-map}
 use Rattle.laws.specs.Test.{T-is, both_right, neither_left, neither_right}
@@ -7,11 +7,12 @@ use Rattle.rules.specs.declared.Settings.{Settings}
 use Rattle.rules.specs.declared.Wire.{Wire}
 use Rattle.rules.specs.declared.Wire.TheVariants.{Const, Node}
 use Rattle.rules.specs.Circuit as C
-use Rattle.rules.specs.Circuit.{Given, given_names}
+use Rattle.rules.specs.Circuit.{Name, Given, given_names}
 use Rattle.rules.specs.CircuitText.{no_node, any_no_node}
 use Rattle.rules.specs.Form.{is_name}
 use Rattle.theorems.specs.LineBits.{WireBit}
 use Rattle.theorems.specs.SoundCircuits.{Sound, SoundGate, SoundGates, SoundOutputs, GoodNames, GoodName, GoodWeights, WireBits}
+use Rattle.mapped.specs.Statements.{output_names}
 use Rattle.circuit.specs.declared.Circuit.{Circuit}
 use Rattle.circuit.specs.declared.Function.{Function}
 use Rattle.circuit.specs.declared.Function.TheVariants.{Unary, Binary}
@@ -22,6 +23,7 @@ use Rattle.gates.specs.Wired.{WireIn}
 use Rattle.gates.specs.Start.{GoodInput, GoodInputs}
 use Rattle.gates.specs.Gates.{GoodFunction, GoodGates}
 use Rattle.outputs.specs.Outputs.{AllIn}
+use Rattle.conclude.specs.Short.{ShortNames}
 
 -- ---- The inputs.
 
@@ -63,6 +65,12 @@ outputs_in n [] s i d h = absurd (not-suc-le-zero h)
 outputs_in n (o ∷ os) s zero d h = wire_in n o.wire s.0.node s.0.constant
 outputs_in n (o ∷ os) s (suc i) d h = outputs_in n os s.1 i d (omega arith)
 
+names_short : (n : ℕ) (os : List C.Output) → SoundOutputs n os → All (λ (m : Name). length m ≤ 16) (output_names os)
+unfolding SoundOutputs
+names_short n [] s i d h = absurd (not-suc-le-zero h)
+names_short n (o ∷ os) s zero d h = name_few o.name s.0.named
+names_short n (o ∷ os) s (suc i) d h = names_short n os s.1 i d (omega arith)
+
 -- ---- The circuit.
 
 module _ (c : Circuit) {settings : Settings} (s : Sound (circuit_of settings c)) where
@@ -74,8 +82,7 @@ module _ (c : Circuit) {settings : Settings} (s : Sound (circuit_of settings c))
       let f = s.parts.inputs_fit in
       let g = s.parts.gates_fit in
       record {
-        inputs_few = omega (arith, length-map c.inputs.items given_of);
-        few = omega (arith, length-map c.gates.items gate_of);
+        few = omega (arith, length-map c.inputs.items given_of, length-map c.gates.items gate_of);
         each = gates_good (length c.inputs.items) c.gates.items (rw (length-map c.inputs.items given_of) at s.parts.gates_sound);
       }
 
@@ -84,3 +91,8 @@ module _ (c : Circuit) {settings : Settings} (s : Sound (circuit_of settings c))
 
   pub outputs_few : length c.outputs.items ≤ 32
   outputs_few = let f = s.parts.outputs_fit in omega (arith, length-map c.outputs.items output_of)
+
+  pub names_asked : ShortNames (output_names (map output_of c.outputs.items))
+  names_asked =
+      let f = s.parts.outputs_fit in
+      record { few = omega (arith, length-map (map output_of c.outputs.items) (λ (o : C.Output). o.name)); short = names_short _ _ s.parts.outputs_sound }

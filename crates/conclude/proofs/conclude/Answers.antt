@@ -10,7 +10,7 @@ invariant_of-text c = record {
 
 pub answer-requires : goal.answer-requires
 answer-requires c =
-    let a = has_room _ _ _ _ (c.is_over_norm.ensures _ c.keep-live.ensures (kept_closed _ _)) c.if-is_over_norm.false _ c.requires c.keep-live.ensures in
+    let a = has_room _ _ _ _ c.requires c.keep-live.ensures in
     search rules
 
 pub returns-clause-is : goal.returns-clause-is

@@ -1,0 +1,2 @@
+-- The fields of a cone's cell, by its bytes.
+pub mod Cell

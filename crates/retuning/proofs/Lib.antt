@@ -1,0 +1,2 @@
+-- Theorems whose statements stand in specs/.
+pub mod Retuned

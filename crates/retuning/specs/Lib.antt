@@ -1,0 +1,15 @@
+pub mod Kept
+pub mod Retune
+pub mod GoodState
+pub mod SameGates
+pub mod Cells
+pub mod Chunks
+pub mod Fields
+pub mod HeaderBytes
+pub mod SoundHeader
+pub mod StateBytes
+pub mod ReachedState
+pub mod Prefix
+pub mod KeptBytes
+pub mod Retuned
+pub mod Safe
