@@ -1,5 +1,5 @@
 -- From an entry's promise on the caller's places to the exported function's promise.
-use Rattle.std.specs.Prelude.{List, ◌≡◌, ◌≤◌, ℕ, length, Result, Ok, Err}
+use Rattle.std.specs.Prelude.{List, ◌≡◌, ℕ, length, Result, Ok, Err}
 use Rattle.std.proofs.Common.{ap, ◌∙◌, sym, arith, length-take-le}
 use Rattle.rules.specs.declared.Refusal.{Refusal}
 use Rattle.rules.specs.Grades.{OnesAnswer, ValuesAnswer}
@@ -8,7 +8,7 @@ use Rattle.rules.specs.Outcome.{Answer, written}
 use Rattle.grades.specs.Reply.{ones_seen, FewOnes}
 use Rattle.value_counts.specs.Reply.{values_seen, FewValues}
 use Rattle.value_counts.specs.declared.ValueCounts.{ValueCounts}
-use Rattle.exports.specs.Numbers.{Placed, placed, ones_numbers, ones_placed, values_numbers, values_placed, values_reply}
+use Rattle.exports.specs.Numbers.{placed, ones_numbers, ones_placed, values_numbers, values_placed, values_reply}
 use Rattle.exports.specs.declared.FbsValues.{FbsValues}
 
 pub ones_answered : (a : Answer) (r : Result ℕ Refusal) (s : List ℕ) (o : OnesAnswer) → a ≡ map_reply r → FewOnes r → length s ≡ 32 → ones_seen r s ≡ o → placed a s ≡ ones_placed o
