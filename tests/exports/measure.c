@@ -1,4 +1,4 @@
-/* Time and stack of fbs_map on the circuits of standard input, and of fbs_admit and fbs_convert on what it wrote; then of these two on a
+/* Time and stack of fbs_map and fbs_retune on the circuits of standard input, and of fbs_admit and fbs_convert on what it wrote; then of these two on a
  * network of 672 nodes whose tables stand as far apart as they can (tools/check_exports --measure). Of five calls the quickest counts;
  * the stack is what a thread wrote of one that was filled with a pattern before. */
 #define _POSIX_C_SOURCE 200809L
@@ -36,6 +36,30 @@ static void *convert_back(void *unused) {
     fbs_reply r = fbs_convert(second, converted, plain, sizeof plain);
     if (r.number != FBS_OK) abort();
     return unused;
+}
+
+static uint8_t state[FBS_STATE_BYTES];
+static size_t chosen;
+
+/* The line of the last gate of the text, 0 where there is none. */
+static size_t last_gate(void) {
+    size_t line = 1, found = 0;
+    for (size_t i = 0; i < length; i++) {
+        if (i + 5 < length && (i == 0 || text[i - 1] == '\n') && memcmp(text + i, "(gate", 5) == 0) found = line;
+        if (text[i] == '\n') line++;
+    }
+    return found;
+}
+
+/* From the state that the call before kept, the first time afresh. */
+static void *retune(void *unused) {
+    fbs_retune(text, length, chosen, state, sizeof state, out, FBS_ANSWER_BYTES);
+    return unused;
+}
+
+static void *retune_afresh(void *unused) {
+    memset(state, 0, sizeof state);
+    return retune(unused);
 }
 
 static void *nothing(void *unused) {
@@ -101,8 +125,13 @@ static void largest(void) {
 }
 
 int main(void) {
-    static Measured mapping, admission, to_second, to_plain;
+    static Measured mapping, admission, to_second, to_plain, keeping, continued;
     while (next_job(&length)) {
+        chosen = last_gate();
+        if (chosen != 0) {
+            add(&keeping, retune_afresh);
+            add(&continued, retune);
+        }
         add(&mapping, map);
         if (written == 0) continue;
         add(&admission, admit);
@@ -110,6 +139,8 @@ int main(void) {
         add(&to_plain, convert_back);
     }
     show("fbs_map", &mapping);
+    show("fbs_retune afresh", &keeping);
+    show("fbs_retune from its state", &continued);
     show("fbs_admit", &admission);
     show("fbs_convert to edition 2", &to_second);
     show("fbs_convert back", &to_plain);
