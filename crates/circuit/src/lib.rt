@@ -4,9 +4,10 @@
 
 mod take;
 
-ghost use Rattle.std.specs.Prelude.{◌≡◌};
+ghost use Rattle.std.specs.Prelude.{◌≡◌, [], ◌∷◌};
+ghost use Rattle.rules.specs.declared.Wire.TheVariants.{Const};
 ghost use Rattle.rules.specs.CircuitText.{read_circuit};
-ghost use Rattle.circuit.specs.View.{reading_of};
+ghost use Rattle.circuit.specs.View.{gate_of, reading_of};
 
 use arrayvec::ArrayVec;
 use forms::{Input, Output};
@@ -28,7 +29,9 @@ pub struct Gate {
 
 // What an `ArrayVec` holds where it has no gate. By hand: `#[default]` takes only a case without fields.
 impl Default for Gate {
-    fn default() -> Self {
+    fn default() -> Self
+        ensures { gate_of result ≡ record { bits = 0 ∷ 0 ∷ []; wires = Const 0 ∷ []; line = 0 } }
+    {
         Gate {
             line: 0,
             function: Function::Unary(Wire::Const(0), [0; 2]),

@@ -43,7 +43,13 @@ pub struct Cone {
 
 // A place that holds no wire yet: the constant 0.
 impl Default for Cone {
-    fn default() -> Cone {
+    ghost use Rattle.std.specs.Prelude.{◌≡◌};
+    ghost use Rattle.rules.specs.Cone.{constant};
+    ghost use Rattle.cone.specs.View.{cone_of};
+
+    fn default() -> Cone
+        ensures { cone_of result ≡ constant 0 }
+    {
         Cone::constant(0)
     }
 }

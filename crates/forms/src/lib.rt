@@ -2,7 +2,8 @@
 // It leans on the pieces (`text`) and on `rules`.
 #![tactic(auto, unfolding(crate::specs::Readers::readers))]
 
-ghost use Rattle.std.specs.Prelude.{◌≡◌, Some};
+ghost use Rattle.std.specs.Prelude.{◌≡◌, [], Some};
+ghost use Rattle.rules.specs.declared.Wire.TheVariants.{Const};
 ghost use Rattle.rules.specs.Form.{wire, norm, signed, weight, in_line, out_line};
 ghost use Rattle.text.specs.Capped.{capped};
 ghost use Rattle.text.specs.Pieces.{piece, piece_as};
@@ -110,7 +111,9 @@ pub struct Output<'a> {
 
 // What an `ArrayVec` holds where it has no output. By hand: `#[default]` takes only a case without fields.
 impl Default for Output<'_> {
-    fn default() -> Self {
+    fn default() -> Self
+        ensures { output_of result ≡ record { name = []; wire = Const 0 } }
+    {
         Output {
             name: &[],
             wire: Wire::Const(0),

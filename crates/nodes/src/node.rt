@@ -1,5 +1,5 @@
 // A node of the store, and one made of what a text or the mapper gives.
-ghost use Rattle.std.specs.Prelude.{◌≡◌, ◌≤◌, ◌<◌, length};
+ghost use Rattle.std.specs.Prelude.{◌≡◌, [], ◌≤◌, ◌<◌, length};
 ghost use Rattle.rules.specs.Network as rules;
 ghost use Rattle.nodes.specs.Terms.{terms_in, GoodTerms};
 ghost use Rattle.nodes.specs.View.{given, lut_node, terms_seen};
@@ -34,7 +34,10 @@ pub enum LutNode {
 
 // What the unused places of a store hold. It is of zeros alone, so a store is set up at once.
 impl Default for LutNode {
-    fn default() -> LutNode {
+    #[tactic(auto, unfolding(crate::specs::View::lut_node))]
+    fn default() -> LutNode
+        ensures { lut_node result ≡ rules.Input (given [] 0) }
+    {
         LutNode::Input {
             name: Short::new(),
             weight: 0,

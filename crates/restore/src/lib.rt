@@ -3,7 +3,7 @@
 
 ghost use Rattle.std.specs.Prelude.{◌≡◌, true, ◌+◌, ◌*◌, ◌<◌, ◌≤◌, length, take};
 ghost use Rattle.rules.specs.Form.{Good};
-ghost use Rattle.rules.specs.Mapper.{State, used_settings};
+ghost use Rattle.rules.specs.Mapper.{State};
 ghost use Rattle.theorems.specs.SoundCircuits.{Sound};
 ghost use Rattle.retuning.specs.GoodState.{GoodState};
 ghost use Rattle.retuning.specs.Kept.{state_bytes, kept_bytes, kept_length};
@@ -52,7 +52,6 @@ pub fn restore(
     requires long { kept_length ≤ length state.now }
     requires sound { Sound (circuit_of settings circuit.now) }
     requires place { place < length circuit.now.gates.items }
-    requires used { p ≡ (used_settings settings).p }
     ensures right { (st : State) → before (circuit_of settings circuit.now) place ≡ Good st → take kept_length state.now ≡ kept_bytes (kept_before (circuit_of settings circuit.now) place st) → (result ≡ true) × (state_of store.new wires.new.items ≡ st) }
     ensures told { Unaltered state.now → result ≡ true → (st : State) × (before (circuit_of settings circuit.now) place ≡ Good st) × (take kept_length state.now ≡ kept_bytes (kept_before (circuit_of settings circuit.now) place st)) × (state_of store.new wires.new.items ≡ st) }
     ensures stands { result ≡ true → Wired store.new wires.new.items (length circuit.now.inputs.items + place) × (length (store_of store.new) ≤ length circuit.now.inputs.items + 6 * place) × Centred p store.new }
