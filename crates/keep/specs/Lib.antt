@@ -1,7 +1,4 @@
 -- The kept bytes as a cursor puts them.
-pub mod Small
-pub mod Pieces
-pub mod Header
 pub mod Nodes
 pub mod Cones
 pub mod Whole

@@ -1,11 +1,9 @@
--- What is kept, of the code's values; and a text that fills a buffer.
-use Rattle.std.specs.Prelude.{◌≡◌, refl, List, [], ◌∷◌, ◌&&◌, map, ℕ, ◌≤◌, length}
-use Rattle.std.proofs.Common.{ap₂, ◌∙◌, arith, append-nil, drop_of_length-le}
-use Rattle.laws.specs.Laid.{laid, laid-over}
+-- What is kept, of the code's values, and where it stands.
+use Rattle.std.specs.Prelude.{◌≡◌, List, map, ℕ, ◌≤◌, length}
+use Rattle.std.proofs.Common.{◌∙◌}
+use Rattle.laws.specs.Laid.{laid-over}
 use Rattle.laws.specs.Over.{over}
-use Rattle.laws.specs.Test.{eqb_swap}
 use Rattle.rules.specs.declared.Settings.{Settings}
-use Rattle.rules.specs.CircuitText.{same_name}
 use Rattle.forms.specs.declared.Input as I
 use Rattle.forms.specs.declared.Output as O
 use Rattle.forms.specs.Forms.{given_of, output_of}
@@ -27,14 +25,3 @@ kept_of s is gs os store wires =
 -- by a cursor that begins at the start of a buffer with room
 pub over_put : {s after : List ℕ} {b a : Cursor} → b.at ≡ 0 → Put s b a → length s ≤ length b.out.now → after ≡ a.out.now → after ≡ over s b.out.now
 over_put {s} {after} {b} e p h f = f ∙ rw e at p.bytes ∙ laid-over s b.out.now h
-
-pub laid_whole : (s d : List ℕ) → length s ≡ length d → laid 0 s d ≡ s
-unfolding over
-laid_whole s d e = laid-over s d (omega arith) ∙ rw (drop_of_length-le d {i = length s} (omega arith)) (append-nil s)
-
-pub name_swap : (w v : List ℕ) → same_name w v ≡ same_name v w
-unfolding same_name
-name_swap [] [] = refl
-name_swap [] (c ∷ v) = refl
-name_swap (b ∷ w) [] = refl
-name_swap (b ∷ w) (c ∷ v) = ap₂ (λ x y. x && y) (eqb_swap b c) (name_swap w v)

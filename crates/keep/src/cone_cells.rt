@@ -6,7 +6,7 @@ ghost use Rattle.cone.specs.View.{cone_of};
 ghost use Rattle.lines.specs.Put.{Put, Room};
 ghost use Rattle.retuning.specs.Kept.{padded, two_bytes, signed_byte, cone_bytes, cone_cell};
 
-use crate::cells::{pad, put_two, signed_byte};
+use cells::{pad, put_two, signed_byte};
 use cone::Cone;
 use lines::cursor::Cursor;
 use rules::Entry;

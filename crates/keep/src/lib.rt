@@ -1,9 +1,7 @@
-// The bytes of the state before a gate, written into a lent buffer and compared there. It leans on `lines`.
+// The bytes of the state before a gate, written into a lent buffer: the header, the nodes and the cones. It leans on `header` and `cells`.
 #![tactic(auto)]
 
-mod cells;
 mod cone_cells;
-mod header;
 mod node_cells;
 
 ghost use Rattle.std.specs.Prelude.{◌≡◌, ◌≤◌, map, length};
@@ -11,7 +9,7 @@ ghost use Rattle.laws.specs.Over.{over};
 ghost use Rattle.forms.specs.Forms.{given_of, output_of};
 ghost use Rattle.circuit.specs.View.{gate_of};
 ghost use Rattle.retuning.specs.Kept.{kept_bytes, kept_length};
-ghost use Rattle.keep.specs.Small.{Small};
+ghost use Rattle.header.specs.Small.{Small};
 ghost use Rattle.keep.specs.Whole.{kept_of};
 
 use cells::put_two;
@@ -19,7 +17,6 @@ use circuit::Gate;
 use cone::Cone;
 use cone_cells::put_cones;
 use forms::{Input, Output};
-pub use header::is_header;
 use header::put_header;
 use lines::cursor::Cursor;
 use node_cells::put_nodes;

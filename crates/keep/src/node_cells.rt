@@ -7,7 +7,7 @@ ghost use Rattle.nodes.specs.View.{lut_node, term_of, terms_seen, Fine, FineTerm
 ghost use Rattle.lines.specs.Put.{Put, Room};
 ghost use Rattle.retuning.specs.Kept.{padded, term_bytes, node_bytes, node_cell};
 
-use crate::cells::{pad, put_counted, put_given, put_two, signed_byte};
+use cells::{pad, put_counted, put_given, put_two, signed_byte};
 use lines::cursor::Cursor;
 use nodes::node::{LutNode, Term};
 use nodes::store::Store;

@@ -25,7 +25,7 @@ use Rattle.cone.specs.declared.Cone.{Cone}
 use Rattle.cone.specs.View.{cone_of}
 use Rattle.cone.specs.Sources.{Stands}
 use Rattle.gates.specs.Wired.{Wired, state_of}
-use Rattle.keep.specs.Small.{Small}
+use Rattle.header.specs.Small.{Small}
 use Rattle.restore.specs.SmallBefore.{small_before}
 use Rattle.restore.specs.Front.{header_first}
 

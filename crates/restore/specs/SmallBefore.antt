@@ -10,8 +10,9 @@ use Rattle.rules.specs.Circuit.{Gate, Output, Circuit}
 use Rattle.rules.specs.CircuitText.{no_node, any_no_node}
 use Rattle.theorems.specs.SoundCircuits.{SmallLimit, SoundGates, SoundOutputs, Sound}
 use Rattle.retuning.specs.SoundHeader.{good_header}
-use Rattle.keep.specs.Small as K
-use Rattle.keep.specs.Small.{SmallWire, Small}
+use Rattle.cells.specs.Small.{SmallWire}
+use Rattle.header.specs.Small as K
+use Rattle.header.specs.Small.{Small}
 
 limit_small : (l : Limit) → SmallLimit l → K.SmallLimit l
 unfolding SmallLimit

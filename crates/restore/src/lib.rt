@@ -1,4 +1,4 @@
-// The state before a chosen gate, read back from a buffer that holds it. It leans on `keep`, `restore_nodes` and `restore_cones`.
+// The state before a chosen gate, read back from a buffer that holds it. It leans on `header`, `restore_nodes` and `restore_cones`.
 #![tactic(auto)]
 
 ghost use Rattle.std.specs.Prelude.{◌≡◌, true, ◌+◌, ◌*◌, ◌<◌, ◌≤◌, length, take};
@@ -15,7 +15,7 @@ ghost use Rattle.gates.specs.Wired.{Wired, state_of};
 use arrayvec::ArrayVec;
 use circuit::Circuit;
 use cone::Cone;
-use keep::is_header;
+use header::is_header;
 use nodes::store::Store;
 use restore_cones::restore_cones;
 use restore_nodes::restore_nodes;

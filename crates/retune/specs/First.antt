@@ -23,7 +23,7 @@ use Rattle.cone.specs.declared.Cone.{Cone}
 use Rattle.gates.specs.Wired.{Wired, state_of}
 use Rattle.gates.specs.Gates.{state_read, GoodFunction, GoodGates, Worked}
 use Rattle.gates.specs.Start.{Started, started_count, started_is}
-use Rattle.keep.specs.Small.{Small}
+use Rattle.header.specs.Small.{Small}
 use Rattle.keep.specs.Whole.{kept_of}
 use Rattle.mapper.specs.Asked.{gates_asked}
 use Rattle.mapper.specs.Entry.{used_sound}

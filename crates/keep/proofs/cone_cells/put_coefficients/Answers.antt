@@ -3,7 +3,7 @@ use Rattle.std.proofs.Common.{sym, ap, ◌∙◌}
 use Rattle.lines.specs.Put.{put_text}
 use Rattle.retuning.specs.Fields.{word_back}
 use Rattle.retuning.specs.Kept.{signed_byte}
-use Rattle.keep.specs.Pieces.{flat_bytes, pieces_start, piece_room, piece_turn, pieces_done}
+use Rattle.cells.specs.Pieces.{flat_bytes, pieces_start, piece_room, piece_turn, pieces_done}
 use Rattle.keep.proofs.cone_cells.put_coefficients.Goals as goal
 
 pub loop-c-init : goal.loop-c-init

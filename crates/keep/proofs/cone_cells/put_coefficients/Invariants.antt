@@ -1,7 +1,7 @@
 use Rattle.std.specs.Prelude.{map, [], ◌∷◌}
 use Rattle.retuning.specs.Kept.{signed_byte}
 use Rattle.lines.specs.Put.{Left}
-use Rattle.keep.specs.Pieces.{pieces_left}
+use Rattle.cells.specs.Pieces.{pieces_left}
 use Rattle.keep.proofs.cone_cells.put_coefficients.Given as goal
 
 abbrev pub invariant-loop-c : goal.invariant-loop-c

@@ -1,5 +1,5 @@
 use Rattle.retuning.specs.Kept.{cone_cell}
-use Rattle.keep.specs.Pieces.{cell_room, pad_room, padded_put}
+use Rattle.cells.specs.Pieces.{cell_room, pad_room, padded_put}
 use Rattle.keep.proofs.cone_cells.put_cone.Goals as goal
 
 pub put_cone_bytes-requires : goal.put_cone_bytes-requires

@@ -2,7 +2,7 @@ use Rattle.std.proofs.Common.{sym, ap}
 use Rattle.cone.specs.View.{cone_of}
 use Rattle.lines.specs.Put.{put_text, room_text}
 use Rattle.retuning.specs.Kept.{cone_cell}
-use Rattle.keep.specs.Pieces.{flat_seen, pieces_start, piece_room, piece_turn, pieces_done, cell_room, pad_begun, pad_room, padded_put}
+use Rattle.cells.specs.Pieces.{flat_seen, pieces_start, piece_room, piece_turn, pieces_done, cell_room, pad_begun, pad_room, padded_put}
 use Rattle.keep.proofs.cone_cells.put_cones.Goals as goal
 
 pub loop-cone-init : goal.loop-cone-init

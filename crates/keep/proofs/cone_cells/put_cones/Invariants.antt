@@ -3,7 +3,7 @@ use mathlib.Core.List.{flat_map}
 use Rattle.cone.specs.View.{cone_of}
 use Rattle.retuning.specs.Kept.{cone_cell}
 use Rattle.lines.specs.Put.{Left}
-use Rattle.keep.specs.Pieces.{pieces_left}
+use Rattle.cells.specs.Pieces.{pieces_left}
 use Rattle.keep.proofs.cone_cells.put_cones.Given as goal
 
 abbrev pub invariant-loop-cone : goal.invariant-loop-cone

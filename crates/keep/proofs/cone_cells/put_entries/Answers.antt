@@ -3,7 +3,7 @@ use Rattle.std.proofs.Common.{sym, ap}
 use Rattle.lines.specs.Put.{put_text}
 use Rattle.rules.specs.declared.Entry.TheVariants.{Unknown}
 use Rattle.rotation.specs.Entries.{number_of_entry}
-use Rattle.keep.specs.Pieces.{flat_bytes, pieces_start, piece_room, piece_turn, pieces_done}
+use Rattle.cells.specs.Pieces.{flat_bytes, pieces_start, piece_room, piece_turn, pieces_done}
 use Rattle.keep.proofs.cone_cells.put_entries.Goals as goal
 
 pub loop-entry-init : goal.loop-entry-init

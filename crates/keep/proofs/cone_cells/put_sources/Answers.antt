@@ -1,6 +1,6 @@
 use Rattle.std.proofs.Common.{refl}
 use Rattle.retuning.specs.Kept.{two_bytes}
-use Rattle.keep.specs.Pieces.{pieces_start, piece_room, piece_turn, pieces_done}
+use Rattle.cells.specs.Pieces.{pieces_start, piece_room, piece_turn, pieces_done}
 use Rattle.keep.proofs.cone_cells.put_sources.Goals as goal
 
 pub loop-source-init : goal.loop-source-init

@@ -1,5 +1,5 @@
 use Rattle.retuning.specs.Kept.{node_cell}
-use Rattle.keep.specs.Pieces.{cell_room, pad_room, padded_put}
+use Rattle.cells.specs.Pieces.{cell_room, pad_room, padded_put}
 use Rattle.keep.proofs.node_cells.put_node.Goals as goal
 
 pub put_node_bytes-requires-clause-room : goal.put_node_bytes-requires-clause-room

@@ -2,7 +2,7 @@ use Rattle.std.proofs.Common.{arith, refl}
 use Rattle.rules.specs.Network.{node_at}
 use Rattle.nodes.specs.Store.{store_of, node_within}
 use Rattle.retuning.specs.Kept.{node_cell}
-use Rattle.keep.specs.Pieces.{pieces_start, piece_room, piece_turn, pieces_done, cell_room, pad_begun, pad_room, padded_put}
+use Rattle.cells.specs.Pieces.{pieces_start, piece_room, piece_turn, pieces_done, cell_room, pad_begun, pad_room, padded_put}
 use Rattle.keep.proofs.node_cells.put_nodes.Goals as goal
 
 pub loop-i-init : goal.loop-i-init

@@ -3,7 +3,7 @@ use Rattle.nodes.specs.Seen.{term_small, term_below}
 use Rattle.nodes.specs.View.{term_of, terms_seen}
 use Rattle.lines.specs.Put.{put_text, room_text}
 use Rattle.retuning.specs.Kept.{term_bytes}
-use Rattle.keep.specs.Pieces.{flat_seen, pieces_start, piece_room, piece_turn, pieces_done}
+use Rattle.cells.specs.Pieces.{flat_seen, pieces_start, piece_room, piece_turn, pieces_done}
 use Rattle.keep.proofs.node_cells.put_terms.Goals as goal
 
 pub loop-term-init : goal.loop-term-init

@@ -2,7 +2,7 @@ use mathlib.Core.List.{flat_map}
 use Rattle.nodes.specs.View.{term_of, terms_seen}
 use Rattle.retuning.specs.Kept.{term_bytes}
 use Rattle.lines.specs.Put.{Left}
-use Rattle.keep.specs.Pieces.{pieces_left}
+use Rattle.cells.specs.Pieces.{pieces_left}
 use Rattle.keep.proofs.node_cells.put_terms.Given as goal
 
 abbrev pub invariant-loop-term : goal.invariant-loop-term

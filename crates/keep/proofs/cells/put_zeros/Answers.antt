@@ -1,5 +1,0 @@
-use Rattle.keep.specs.Pieces.{zero_step}
-use Rattle.keep.proofs.cells.put_zeros.Goals as goal
-
-pub loop-preserved : goal.loop-preserved
-loop-preserved c = zero_step c.args.n c.loop.counter c.loop-test.true c.loop.invariant c.put.ensures

@@ -1,5 +1,0 @@
-use Rattle.lines.specs.Put.{put_both}
-use Rattle.keep.proofs.header.put_binary.Goals as goal
-
-pub returns : goal.returns
-returns c = put_both c.put.ensures (put_both (put_both c.put_wire.ensures c.put_wire-2.ensures) c.put_all.ensures)
