@@ -21,7 +21,7 @@ use Rattle.rules.specs.Writing.{network_text}
 use Rattle.theorems.specs.SoundCircuits.{SoundSettings}
 use Rattle.theorems.specs.Members.{member_head, member-left, member_right, among_at}
 use Rattle.mapped.specs.PrunedLive.{live-outputs}
-use Rattle.mapped.specs.Statements.{output_names}
+use Rattle.mapped.specs.NetworkStatements.{output_names}
 use Rattle.nodes.specs.declared.store.Store.{Store}
 use Rattle.nodes.specs.Store.{store_of, Centred, store_few}
 use Rattle.writer.specs.Kept.{Numbered, Closed, closed, kept_sourced}

@@ -22,7 +22,7 @@ use Rattle.theorems.specs.BuilderExact.{limits_period, limits_most}
 use Rattle.theorems.specs.Decimals.{two_digits, three_digits, four_digits}
 use Rattle.theorems.specs.Pieces.{bits-length, terms-length, weight_short}
 use Rattle.theorems.specs.SoundCircuits.{SmallLimit, SoundSettings}
-use Rattle.mapped.specs.Statements.{output_names}
+use Rattle.mapped.specs.NetworkStatements.{output_names}
 use Rattle.mapped.specs.TextLines.{net_text, in_text, lin_text}
 use Rattle.mapped.specs.TextReadBack.{text_parts}
 use Rattle.nodes.specs.declared.store.Store.{Store}

@@ -16,7 +16,7 @@ use Rattle.rules.specs.Runs.{all_bits}
 use Rattle.theorems.specs.Admissible.{net_of, Admissible}
 use Rattle.theorems.specs.AdmittedSafe.{Safe}
 use Rattle.theorems.proofs.AdmittedSafe.{safe_on}
-use Rattle.mapped.specs.Statements.{inputs_of}
+use Rattle.mapped.specs.NetworkStatements.{inputs_of}
 use Rattle.mapped.proofs.Pruned.{inputs-append}
 use Rattle.editions.specs.Places.{Put, behind_none, behind_some}
 use Rattle.editions.specs.NewOrder.{Sorted, order-sorted, group_no_input}

@@ -14,7 +14,7 @@ use Rattle.rules.specs.Regroup.{same_group, moved_node, moved_output, regrouped}
 use Rattle.rules.specs.Runs.{all_bits}
 use Rattle.theorems.specs.Admissible.{net_of, Admissible}
 use Rattle.theorems.specs.SoundCircuits.{GoodNames, SmallLimit}
-use Rattle.mapped.specs.Statements.{inputs_of, output_names}
+use Rattle.mapped.specs.NetworkStatements.{inputs_of, output_names}
 
 -- ---- Networks.
 

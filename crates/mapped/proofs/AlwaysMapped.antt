@@ -14,7 +14,7 @@ use Rattle.rules.specs.Network.{LutNode, norm}
 use Rattle.rules.specs.Outcome.{Outcome}
 use Rattle.theorems.specs.Results.{good_same}
 use Rattle.theorems.specs.SoundTexts.{read_sound}
-use Rattle.mapped.specs.Statements.{AtLeast, two_largest, DataSheet, AlwaysMapped, PlainAlwaysMapped, Whole, is_written, is_unreadable, is_refused, is_over, is_too_long}
+use Rattle.mapped.specs.ReplyStatements.{AtLeast, two_largest, DataSheet, AlwaysMapped, PlainAlwaysMapped, Whole, is_written, is_unreadable, is_refused, is_over, is_too_long}
 use Rattle.mapped.specs.Cones.{Standing, is_constant, is_node, is_judged}
 use Rattle.mapped.specs.SingleSources.{within_least, RoomForTwo, room-one}
 use Rattle.mapped.specs.SingleComposed.{single_composed}

@@ -17,7 +17,7 @@ use Rattle.theorems.specs.ConeValues.{values_long}
 use Rattle.theorems.specs.SettingLimits.{limits_t}
 use Rattle.theorems.specs.Truths.{through_gate}
 use Rattle.theorems.specs.Unions.{union_different}
-use Rattle.mapped.specs.Statements.{Encoded, Merges, Built, from_constant, from_node, by_gate, by_merge, by_form}
+use Rattle.mapped.specs.ReplyStatements.{Encoded, Merges, Built, from_constant, from_node, by_gate, by_merge, by_form}
 use Rattle.mapped.specs.Cones.{Shape, constant_shape, identity_shape}
 use Rattle.mapped.specs.ConeEncoded.{encoding-taken}
 use Rattle.mapped.specs.ConeFound.{found}

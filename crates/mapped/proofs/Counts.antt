@@ -20,7 +20,7 @@ use Rattle.theorems.specs.Names.{names-count}
 use Rattle.theorems.specs.SoundTexts.{read_sound}
 use Rattle.mapped.specs.ByName.{some_fewer, count_named}
 use Rattle.mapped.specs.PrunedNodes.{some_named, names_of}
-use Rattle.mapped.specs.Statements.{bit_named, bits_by_name, SomeOf, inputs_of, MappedCounts}
+use Rattle.mapped.specs.NetworkStatements.{bit_named, bits_by_name, SomeOf, inputs_of, MappedCounts}
 use Rattle.mapped.proofs.Agrees.{Delivered}
 
 module _ (text : List ℕ) (c : Circuit) (w : Network) (read : read_circuit text ≡ Good c) (d : Delivered text c w) where

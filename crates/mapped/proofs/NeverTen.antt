@@ -29,7 +29,7 @@ use Rattle.theorems.specs.Results.{err_not, ok_same, ok_then, good_same, good_th
 use Rattle.theorems.specs.SoundCircuits.{WireBits, SoundGate, SoundGates}
 use Rattle.theorems.specs.SoundTexts.{read_sound, gate_sound}
 use Rattle.theorems.specs.Truths.{through_gate}
-use Rattle.mapped.specs.Statements.{Built, from_constant, from_node, by_gate, by_merge, BuiltSides, AttemptsBuilt, GateBuilt, NeverTen}
+use Rattle.mapped.specs.ReplyStatements.{Built, from_constant, from_node, by_gate, by_merge, BuiltSides, AttemptsBuilt, GateBuilt, NeverTen}
 use Rattle.mapped.specs.ConeFound.{OfSome}
 use Rattle.mapped.specs.ConeGate.{gate_truth-bits}
 use Rattle.mapped.specs.ConeUnary.{validated}

@@ -1,4 +1,4 @@
--- The statements of Statements, proved.
+-- The statements of NetworkStatements and ReplyStatements, proved.
 use Rattle.std.specs.Prelude.{◌≡◌, refl, Bool, true, false, List, ℕ, ◌≤◌, ◌<◌, ltb, length, take, drop, replicate}
 use Rattle.std.proofs.Common.{sym, ap, subst, ◌∙◌, arith, eq-eqb, lt-ltb, le-ltb}
 use Rattle.std.proofs.lemmas.List.{length-replicate}
@@ -20,7 +20,8 @@ use Rattle.theorems.specs.EarlierNodes.{Ordered, pass_ordered}
 use Rattle.theorems.specs.SoundTexts.{read_sound}
 use Rattle.mapped.proofs.Agrees.{Delivered, delivered, text_agrees}
 use Rattle.mapped.proofs.Counts.{text_counts, same_ones}
-use Rattle.mapped.specs.Statements.{MapsTo, MappedAgrees, MapperAgrees, MappedFits, DepthKept, MappedDepth, MapperDepth, MappedCentre, MapperCentre, MappedCounts, MapperCounts, SettingsAlike, RefusedKeeps, LaterKept, EarlierBytes, ServiceAnswer, Whole, is_written, is_unreadable, is_refused, is_over, is_too_long, MapperWhole, CapUnmet, TwoSourcesRefused}
+use Rattle.mapped.specs.NetworkStatements.{MapsTo, MappedAgrees, MapperAgrees, MappedFits, DepthKept, MappedDepth, MapperDepth, MappedCentre, MapperCentre, MappedCounts, MapperCounts, SettingsAlike}
+use Rattle.mapped.specs.ReplyStatements.{RefusedKeeps, LaterKept, EarlierBytes, ServiceAnswer, Whole, is_written, is_unreadable, is_refused, is_over, is_too_long, MapperWhole, CapUnmet, TwoSourcesRefused}
 use Rattle.mapped.proofs.Whole.{used_span, Comes, comes, whole}
 use Rattle.mapped.specs.PrunedCentres.{pruning_keeps_centre}
 use Rattle.mapped.specs.PrunedDepths.{pruning_keeps_depth}

@@ -21,7 +21,7 @@ use Rattle.mapped.specs.GateSides.{switched_answers}
 use Rattle.mapped.specs.GateRefusals.{gates_refuse}
 use Rattle.mapped.proofs.Cap.{reached_stand}
 use Rattle.mapped.proofs.Whole.{refusal}
-use Rattle.mapped.specs.Statements.{DependsOn, DependsOnTwo, TwoSourceGate}
+use Rattle.mapped.specs.ReplyStatements.{DependsOn, DependsOnTwo, TwoSourceGate}
 use Rattle.mapped.specs.TwoSourceCones.{one_source, not_both, two_as, compose_none}
 
 -- ---- A gate that depends on two sources, on cones of at most one, needs both.

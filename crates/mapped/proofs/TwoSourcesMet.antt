@@ -11,7 +11,7 @@ use Rattle.rules.specs.Cone.{identity, row_from, cone_bit}
 use Rattle.rules.specs.Form.{bytes}
 use Rattle.rules.specs.Mapper.{mapper, start}
 use Rattle.rules.specs.Outcome.{outcome, refused}
-use Rattle.mapped.specs.Statements.{DependsOn, TwoSourceGate}
+use Rattle.mapped.specs.ReplyStatements.{DependsOn, TwoSourceGate}
 use Rattle.mapped.proofs.Proved.{two_sources_refused}
 
 abbrev text : List ℕ

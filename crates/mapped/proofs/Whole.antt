@@ -27,7 +27,8 @@ use Rattle.theorems.specs.Results.{good_same, reading_then}
 use Rattle.mapped.specs.Outputs.{SameOutputs, all-outputs}
 use Rattle.mapped.specs.KnownGates.{Known, gates-known}
 use Rattle.mapped.specs.GateStart.{start_known}
-use Rattle.mapped.specs.Statements.{MapsTo, Whole, is_written, is_unreadable, is_refused, is_over, is_too_long}
+use Rattle.mapped.specs.NetworkStatements.{MapsTo}
+use Rattle.mapped.specs.ReplyStatements.{Whole, is_written, is_unreadable, is_refused, is_over, is_too_long}
 use Rattle.mapped.specs.GateRefusals.{Refusal, refusal-number, next_refused, gates_refused}
 use Rattle.mapped.specs.Store.{net_for, Store}
 

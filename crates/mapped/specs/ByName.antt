@@ -11,7 +11,7 @@ use Rattle.rules.specs.Composition.{assignments}
 use Rattle.theorems.specs.Assignments.{count_suc, count_fixed}
 use Rattle.theorems.specs.Names.{name_self, name_is}
 use Rattle.theorems.specs.SoundCircuits.{NewNames}
-use Rattle.mapped.specs.Statements.{bit_named, SomeOf}
+use Rattle.mapped.specs.NetworkStatements.{bit_named, SomeOf}
 use Rattle.mapped.specs.PrunedNodes.{some_listed}
 
 pub some_fewer : {A : Type 0} (ns ms : List A) → SomeOf ns ms → length ns ≤ length ms

@@ -1,6 +1,7 @@
 -- What is proved of the mapper: the statements, then the story of a mapping, from cones to the text that is written.
 pub mod Uncapped
-pub mod Statements
+pub mod NetworkStatements
+pub mod ReplyStatements
 pub mod Cones
 pub mod ConeEncoded
 pub mod ConeValid

@@ -29,7 +29,7 @@ use Rattle.rules.specs.Span.{least}
 use Rattle.rules.specs.Store.{coefficient_of}
 use Rattle.theorems.specs.Bits.{bit_at, all-bits_nil, all-bits_cons}
 use Rattle.theorems.specs.SettingLimits.{least-p}
-use Rattle.mapped.specs.Statements.{AtLeast}
+use Rattle.mapped.specs.ReplyStatements.{AtLeast}
 use Rattle.mapped.specs.ConeEncoded.{table_valid}
 use Rattle.mapped.specs.ConeValid.{numbers, two_rows, short_turns}
 

@@ -7,7 +7,7 @@ use Rattle.laws.specs.Test.{lt_or_le}
 use Rattle.rules.specs.Circuit.{Given}
 use Rattle.rules.specs.Network.{LutNode, Input, Linear, Bootstrap, is_input, count, weight_of, node_at}
 use Rattle.rules.specs.NetworkText.{Net}
-use Rattle.mapped.specs.Statements.{two_largest, Plain}
+use Rattle.mapped.specs.ReplyStatements.{two_largest, Plain}
 use Rattle.mapped.specs.Store.{Store}
 
 abbrev pub weighs : List LutNode → ℕ → ℕ

@@ -24,7 +24,7 @@ use Rattle.mapped.specs.Cones.{Standing, is_constant, is_node, is_judged}
 use Rattle.mapped.specs.ConeGate.{answer, merged_cone, merged_long, gate_truth-length, gate-bit}
 use Rattle.mapped.specs.ConeFound.{Found, found}
 use Rattle.mapped.specs.StoreSum.{fit_span}
-use Rattle.mapped.specs.Statements.{DependsOn, DependsOnTwo}
+use Rattle.mapped.specs.ReplyStatements.{DependsOn, DependsOnTwo}
 
 -- ---- Coefficients that are not 0.
 

@@ -12,7 +12,7 @@ use Rattle.rules.specs.CircuitText.{no_node, any_no_node}
 use Rattle.rules.specs.Form.{is_name}
 use Rattle.theorems.specs.LineBits.{WireBit}
 use Rattle.theorems.specs.SoundCircuits.{Sound, SoundGate, SoundGates, SoundOutputs, GoodNames, GoodName, GoodWeights, WireBits}
-use Rattle.mapped.specs.Statements.{output_names}
+use Rattle.mapped.specs.NetworkStatements.{output_names}
 use Rattle.circuit.specs.declared.Circuit.{Circuit}
 use Rattle.circuit.specs.declared.Function.{Function}
 use Rattle.circuit.specs.declared.Function.TheVariants.{Unary, Binary}

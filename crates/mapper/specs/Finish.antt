@@ -5,7 +5,7 @@ use Rattle.rules.specs.declared.Settings.{Settings}
 use Rattle.rules.specs.Circuit as C
 use Rattle.rules.specs.Mapper.{map_outputs, pruned, checked, finish}
 use Rattle.theorems.specs.SoundCircuits.{Sound}
-use Rattle.mapped.specs.Statements.{output_names}
+use Rattle.mapped.specs.NetworkStatements.{output_names}
 use Rattle.circuit.specs.declared.Circuit.{Circuit}
 use Rattle.circuit.specs.View.{circuit_of}
 use Rattle.forms.specs.declared.Output as O

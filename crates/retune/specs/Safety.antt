@@ -16,7 +16,7 @@ use Rattle.rules.specs.Network.{Network}
 use Rattle.rules.specs.Outcome.{Answer, Outcome, outcome, written, refused}
 use Rattle.rules.specs.Refusal.{reason_number, reason_positive}
 use Rattle.rules.specs.Writing.{network_text}
-use Rattle.mapped.specs.Statements.{Whole, is_written, is_unreadable, is_refused, is_over, is_too_long}
+use Rattle.mapped.specs.ReplyStatements.{Whole, is_written, is_unreadable, is_refused, is_over, is_too_long}
 use Rattle.mapped.proofs.Proved.{mapped_agrees, mapped_fits}
 use Rattle.mapped.proofs.Whole.{whole}
 use Rattle.retuning.specs.Safe.{Safe}

@@ -40,6 +40,7 @@ pub mod LongestChains
 pub mod BootDepths
 pub mod StartLogs
 pub mod WorkerRounds
+pub mod RoundCounts
 pub mod WorkerSchedules
 pub mod WorkerTrials
 pub mod CentreCounts
