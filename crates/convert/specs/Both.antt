@@ -26,6 +26,7 @@ use Rattle.theorems.specs.BuilderExact.{limits_period, limits_most}
 use Rattle.theorems.specs.Centres.{centre_most}
 use Rattle.theorems.specs.LineBits.{WireBit}
 use Rattle.theorems.specs.SoundCircuits.{SmallLimit}
+use Rattle.theorems.specs.TextLengths.{SmallNode, SmallWire, SmallOutput, nodes_most, outputs_short}
 use Rattle.forms.specs.declared.Net as F
 use Rattle.forms.specs.declared.Output as O
 use Rattle.forms.specs.Forms.{output_of}
@@ -46,7 +47,7 @@ use Rattle.writer2.specs.Whole2.{text2}
 use Rattle.network_judge.specs.declared.network.Network.{Network}
 use Rattle.network_judge.specs.Holds.{GoodOutput, Holds}
 use Rattle.network.specs.View.{network_of}
-use Rattle.convert.specs.Length.{Small, small-new, Centred, Fit, each_node, each_map, nodes-length, stream-length, SmallWire, SmallOutput, outputs-length, net-length, net2_length}
+use Rattle.convert.specs.Length.{small-new, Centred, Fit, each_node, each_map, stream-length, net-length, net2_length}
 use Rattle.convert.specs.Moved.{Renames, new-number, has-number, near_node, moved_node_lem, moved_outputs, stays, stay_nodes, stay_same, stay_outputs}
 
 -- ---- How long the outputs are.
@@ -65,18 +66,18 @@ module _ {live : NewNumbers} {to : ℕ → ℕ} {net : P.Option F.Net} {store : 
       let g = a 0 x (omega arith) in
       (record { name = g.name.short; wire = small_wire x.wire g.known g.bit }, small-outputs os (λ j e l. a (suc j) e (omega arith)))
 
-  outs-length : length (outputs_text (live_outputs live (map output_of outs))) ≤ 1600
+  outs-length : length (outputs_text (live_outputs live (map output_of outs))) ≤ 992
   unfolding live_outputs
   outs-length =
       let f = o.few_outputs in
       omega (
         arith,
-        outputs-length (live_outputs live (map output_of outs)) (small-outputs outs o.outputs),
+        outputs_short (live_outputs live (map output_of outs)) (small-outputs outs o.outputs),
         length-map (map output_of outs) (new_output live),
         length-map outs output_of,
       )
 
-  small-node : (i : ℕ) → i < length (store_of store) → Small (new_node live (node_at (store_of store) i))
+  small-node : (i : ℕ) → i < length (store_of store) → SmallNode (new_node live (node_at (store_of store) i))
   small-node i l =
       small-new live i (λ j k. let q = r.near j (omega arith) in rw (new-number r j (omega arith)) (omega arith)) (node_at (store_of store) i) (node_fine store i l)
 
@@ -90,14 +91,14 @@ module _ {live : NewNumbers} (net : F.Net) (w : Network) (r : Renames live stays
       (stay_nodes live w.store r)
       (moved_outputs r w.outputs.items w.holds.outputs ∙ stay_outputs (map output_of w.outputs.items)))
 
-  plain-nodes : length (nodes_text (live_nodes live w.store)) ≤ 134400
+  plain-nodes : length (nodes_text (live_nodes live w.store)) ≤ 80640
   plain-nodes =
       let m = store_few w.store in
       rw (stay_nodes live w.store r)
       (omega (
         arith,
-        nodes-length (store_of w.store)
-            (each_node Small (store_of w.store) (λ i l. subst Small (stay_same live w.store r i l) (small-node r w.holds i l))),
+        nodes_most (store_of w.store)
+            (each_node SmallNode (store_of w.store) (λ i l. subst SmallNode (stay_same live w.store r i l) (small-node r w.holds i l))),
       ))
 
   pub plain-room : {os : List O.Output} → os ≡ w.outputs.items → SmallLimit net.norm → Room 0 (network_text (written.network_of net (map output_of os) w.store live))
@@ -212,7 +213,7 @@ module _ {live : NewNumbers} {o : List ℕ} (net : F.Net) (w : Network) (e : o �
       ap₂ {C = List ℕ} (λ (ns : List LutNode) (os : List Output). net2_text net.p net.m net.norm ++ stream net.p None ns ++ outputs_text os) second-nodes (moved_outputs renames w.outputs.items w.holds.outputs)
       ∙ sym (whole-lines (record { p = net.p; m = net.m; norm = net.norm }) (map (λ i. moved_node to (node_at (store_of w.store) i)) (order (store_of w.store))) (map (moved_output to) (map output_of w.outputs.items))))
 
-  second-stream : length (stream net.p None (ordered live (store_of w.store) o)) ≤ 135746
+  second-stream : length (stream net.p None (ordered live (store_of w.store) o)) ≤ 81986
   unfolding ordered
   second-stream =
       let m = store_few w.store in

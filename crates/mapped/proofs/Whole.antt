@@ -49,6 +49,15 @@ used_limits s e = by (is_basic s.policy)
     by true = rw (basic_limits (eqb s.m s.p)) (both_right (table_limits s.p s.m) _ e)
     by false = e
 
+pub used_norm : (s : Settings) → (used_settings s).norm ≡ s.norm
+unfolding used_settings
+used_norm s = by (is_basic s.policy)
+  where
+    by : (b : Bool)
+        → (if b then record { p = 2; m = if eqb s.m s.p then 2 otherwise 4; t = s.t; norm = s.norm; policy = s.policy; many = s.many } otherwise s).norm ≡ s.norm
+    by true = refl
+    by false = refl
+
 pub used_span : (s : Settings) → s.policy ≡ Span → used_settings s ≡ s
 unfolding used_settings is_basic
 used_span s policy = rw policy refl

@@ -1,17 +1,16 @@
 -- What a circuit that was read gives to the steps.
-use Rattle.std.specs.Prelude.{◌≡◌, false, ◌||◌, List, [], ◌∷◌, map, ℕ, suc, zero, ◌+◌, ◌≤◌, ◌<◌, leb, length, get_or, All}
-use Rattle.std.proofs.Common.{subst, arith, leb-false, leb-true, not-suc-le-zero}
+use Rattle.std.specs.Prelude.{◌≡◌, false, ◌||◌, List, [], ◌∷◌, map, ℕ, suc, zero, ◌+◌, ◌≤◌, ◌<◌, length, get_or, All}
+use Rattle.std.proofs.Common.{subst, arith, leb-false, not-suc-le-zero}
 use Rattle.std.proofs.lemmas.List.{length-map}
-use Rattle.laws.specs.Test.{T-is, both_right, neither_left, neither_right}
+use Rattle.laws.specs.Test.{T-is, neither_left, neither_right}
 use Rattle.rules.specs.declared.Settings.{Settings}
 use Rattle.rules.specs.declared.Wire.{Wire}
 use Rattle.rules.specs.declared.Wire.TheVariants.{Const, Node}
 use Rattle.rules.specs.Circuit as C
 use Rattle.rules.specs.Circuit.{Name, Given, given_names}
 use Rattle.rules.specs.CircuitText.{no_node, any_no_node}
-use Rattle.rules.specs.Form.{is_name}
 use Rattle.theorems.specs.LineBits.{WireBit}
-use Rattle.theorems.specs.SoundCircuits.{Sound, SoundGate, SoundGates, SoundOutputs, GoodNames, GoodName, GoodWeights, WireBits}
+use Rattle.theorems.specs.SoundCircuits.{Sound, SoundGate, SoundGates, SoundOutputs, GoodNames, name_short, GoodWeights, WireBits}
 use Rattle.mapped.specs.NetworkStatements.{output_names}
 use Rattle.circuit.specs.declared.Circuit.{Circuit}
 use Rattle.circuit.specs.declared.Function.{Function}
@@ -27,14 +26,10 @@ use Rattle.conclude.specs.Short.{ShortNames}
 
 -- ---- The inputs.
 
-name_few : (n : List ℕ) → GoodName n → length n ≤ 16
-unfolding GoodName is_name
-name_few n g = leb-true (length n) 16 (both_right (leb 1 (length n)) _ (T-is _ g.0))
-
 inputs_good : (is : List Given) → GoodNames (given_names is) → GoodWeights is → (i : ℕ) (d : Given) → i < length is → GoodInput (get_or is i d)
 unfolding GoodNames given_names GoodWeights
 inputs_good [] n w i d h = absurd (not-suc-le-zero h)
-inputs_good (g ∷ is) n w zero d h = (name_few g.name n.0, w.0)
+inputs_good (g ∷ is) n w zero d h = (name_short g.name n.0, w.0)
 inputs_good (g ∷ is) n w (suc i) d h = inputs_good is n.1 w.1 i d (omega arith)
 
 -- ---- The wires.
@@ -68,7 +63,7 @@ outputs_in n (o ∷ os) s (suc i) d h = outputs_in n os s.1 i d (omega arith)
 names_short : (n : ℕ) (os : List C.Output) → SoundOutputs n os → All (λ (m : Name). length m ≤ 16) (output_names os)
 unfolding SoundOutputs
 names_short n [] s i d h = absurd (not-suc-le-zero h)
-names_short n (o ∷ os) s zero d h = name_few o.name s.0.named
+names_short n (o ∷ os) s zero d h = name_short o.name s.0.named
 names_short n (o ∷ os) s (suc i) d h = names_short n os s.1 i d (omega arith)
 
 -- ---- The circuit.

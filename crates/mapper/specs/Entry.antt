@@ -1,20 +1,19 @@
 -- The entry: what the steps give back is what the mapper answers.
 use Rattle.std.specs.Prelude as P
-use Rattle.std.specs.Prelude.{◌≡◌, ⊤, Bool, true, false, List, map, ℕ, ◌+◌, ◌*◌, ◌≤◌, eqb, length}
+use Rattle.std.specs.Prelude.{◌≡◌, ⊤, true, List, map, ℕ, ◌+◌, ◌*◌, ◌≤◌, length}
 use Rattle.std.proofs.Common.{refl, sym, ap, ap₂, subst, ◌∙◌, arith}
 use Rattle.std.proofs.lemmas.List.{length-map}
-use Rattle.laws.specs.Test.{if◌then◌otherwise◌}
 use Rattle.rules.specs.declared.Refusal.{Refusal}
 use Rattle.rules.specs.declared.Settings.{Settings}
 use Rattle.rules.specs.Circuit as C
 use Rattle.rules.specs.CircuitText.{in_limits, read_circuit}
 use Rattle.rules.specs.Form as F
-use Rattle.rules.specs.Mapper.{is_basic, used_settings, and_then, map_gates, finish, map_with, map_circuit, map_reply, answer_with, mapper}
+use Rattle.rules.specs.Mapper.{used_settings, and_then, map_gates, finish, map_with, map_circuit, map_reply, answer_with, mapper}
 use Rattle.rules.specs.Outcome.{outcome}
 use Rattle.rules.specs.Refusal.{reason_number}
 use Rattle.theorems.specs.SoundCircuits.{SmallLimit, SoundSettings, Sound}
 use Rattle.theorems.specs.SoundTexts.{read_sound}
-use Rattle.mapped.proofs.Whole.{used_limits}
+use Rattle.mapped.proofs.Whole.{used_limits, used_norm}
 use Rattle.circuit.specs.declared.Circuit.{Circuit}
 use Rattle.circuit.specs.declared.Gate.{Gate}
 use Rattle.circuit.specs.View.{circuit_of, reading_of, gate_of}
@@ -36,15 +35,6 @@ text_refused text buffer r c e k q x a =
     ap (λ y. outcome (map_reply y) buffer) a ∙ ap (λ y. answer_with buffer (and_then y map_circuit)) f
 
 -- the settings that are used are within their limits too
-used_norm : (s : Settings) → (used_settings s).norm ≡ s.norm
-unfolding used_settings
-used_norm s = by (is_basic s.policy)
-  where
-    by : (b : Bool)
-        → (if b then record { p = 2; m = if eqb s.m s.p then 2 otherwise 4; t = s.t; norm = s.norm; policy = s.policy; many = s.many } otherwise s).norm ≡ s.norm
-    by true = refl
-    by false = refl
-
 pub used_sound : (s : Settings) → SoundSettings s → SoundSettings (used_settings s)
 used_sound s h = record { limits = used_limits s h.limits; small = subst SmallLimit (sym (used_norm s)) h.small }
 

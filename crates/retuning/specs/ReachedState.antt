@@ -1,31 +1,31 @@
 -- The state when a gate of a sound circuit is reached is good, and a rotation gives each of its tables.
-use Rattle.std.specs.Prelude.{◌≡◌, refl, true, false, ◌&&◌, ◌||◌, not, List, [], ◌∷◌, ◌++◌, map, ℕ, zero, suc, ◌+◌, ◌*◌, ◌≤◌, ◌<◌, leb, eqb, nat_abs, length, get_or, take, drop}
-use Rattle.std.proofs.Common.{sym, ap, subst, subst₂, ◌∙◌, ⊎_elim, true≢false, append-nil, arith, leb-false, leb-true, eqb-true}
+use Rattle.std.specs.Prelude.{◌≡◌, true, false, ◌&&◌, ◌||◌, not, List, [], ◌∷◌, ◌++◌, map, ℕ, zero, suc, ◌+◌, ◌*◌, ◌≤◌, ◌<◌, leb, eqb, nat_abs, length, get_or, take, drop}
+use Rattle.std.proofs.Common.{sym, ap, subst, subst₂, ◌∙◌, ⊎_elim, append-nil, arith, leb-false, leb-true, eqb-true}
 use Rattle.std.proofs.Math.ListN.{get_or-eq_default}
-use Rattle.std.proofs.Math.Option.{Option, none, some}
 use Rattle.std.proofs.Math.Seq.{drop-cons}
 use Rattle.std.proofs.lemmas.Bool.{ltb-false, not-false}
 use Rattle.std.proofs.lemmas.List.{take-append-drop, length-take-le}
 use Rattle.laws.specs.Lists.{nil_of}
-use Rattle.laws.specs.Test.{is_some, T-is, lt_or_le, or_cases, both_left, both_right, neither_left, neither_right}
+use Rattle.laws.specs.Test.{T-is, lt_or_le, or_cases, both_left, both_right, neither_left, neither_right}
 use Rattle.rules.specs.declared.Settings.{Settings}
 use Rattle.rules.specs.Builder.{known_entries}
 use Rattle.rules.specs.Circuit.{Given, given_names, Circuit, gate_values}
 use Rattle.rules.specs.CircuitText.{in_limits}
-use Rattle.rules.specs.Cone.{Cone, constant, values, cone_span, completed, encoding, is_lut_valid}
-use Rattle.rules.specs.Form.{Good, is_name, is_name_byte}
+use Rattle.rules.specs.Cone.{Cone, constant, values, cone_span, encoding, is_lut_valid}
+use Rattle.rules.specs.Form.{Good, is_name_byte}
 use Rattle.rules.specs.Mapper.{State, used_settings}
 use Rattle.rules.specs.Network.{Term, LutNode, Input, Linear, Bootstrap, node_at}
 use Rattle.rules.specs.NetworkText.{Net, NodeLine, small, good_terms, good_sum, sources, names, unknown, any_bad_source, text_conditions, admission_conditions}
 use Rattle.rules.specs.Rotation.{rotatable}
 use Rattle.theorems.specs.Admissible.{Passes, pass_at, lin_passes, boot_passes}
 use Rattle.theorems.specs.Bits.{bit_at}
+use Rattle.theorems.specs.FittingCones.{known_some}
 use Rattle.theorems.specs.LineBits.{NodeBits, LineBits}
 use Rattle.theorems.specs.LinearTables.{span_table}
 use Rattle.theorems.specs.Names.{names-append, names-count, names-inputs}
 use Rattle.theorems.specs.Readings.{NoneMet}
 use Rattle.theorems.specs.SettingLimits.{limits_m}
-use Rattle.theorems.specs.SoundCircuits.{GoodName, GoodNames, Sound}
+use Rattle.theorems.specs.SoundCircuits.{GoodName, name_short, GoodNames, Sound}
 use Rattle.mapped.specs.ConeValid.{standing_valid}
 use Rattle.mapped.specs.Cones.{Standing, standing_shape}
 use Rattle.mapped.specs.KnownGates.{Known}
@@ -60,8 +60,8 @@ byte_small b e =
     (or_cases ((leb 97 b && leb b 122) || (leb 48 b && leb b 57)) (eqb b 95) e)
 
 name_good : (name : List ℕ) → GoodName name → (length name ≤ 16) × ((k : ℕ) → get_or name k 0 < 256)
-unfolding GoodName is_name
-name_good name g = (leb-true (length name) 16 (both_right (leb 1 (length name)) (leb (length name) 16) (T-is _ g.0)), by)
+unfolding GoodName
+name_good name g = (name_short name g, by)
   where
     by : (k : ℕ) → get_or name k 0 < 256
     by k =
@@ -118,11 +118,6 @@ source_below nodes [] s i h = absurd (omega arith)
 source_below nodes (n ∷ ns) s zero h = s.0.0
 source_below nodes (n ∷ ns) s (suc i) h = source_below nodes ns s.1 i (omega arith)
 
-entries_found : (P : ℕ) (o : Option (List ℕ)) → is_some (completed P o) ≡ true → (known : List ℕ) × (o ≡ some known)
-unfolding completed
-entries_found P none e = absurd (true≢false (sym e))
-entries_found P (some known) e = (known, refl)
-
 cone_good : (s : Settings) → in_limits s ≡ true → (nodes : List LutNode) (c : Cone) → Standing s nodes c → Sources nodes c.support → GoodCone (length nodes) c
 unfolding is_lut_valid encoding cone_span values
 cone_good s limits nodes c stands sources =
@@ -137,7 +132,7 @@ cone_good s limits nodes c stands sources =
       narrow = omega (arith, short, span_table c.coefficients, limits_m s limits);
       rows = shape.rows;
       bits = λ i. bit_at c.truth i shape.bits;
-      entries = entries_found s.p (known_entries (values c) c.truth) (both_right (leb (cone_span c) s.m) _ valid);
+      entries = known_some s.p (known_entries (values c) c.truth) (both_right (leb (cone_span c) s.m) _ valid);
     }
 
 -- ---- The state when a gate is reached.

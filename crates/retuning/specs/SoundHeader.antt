@@ -1,19 +1,14 @@
 -- A circuit that was read, and the gates before a chosen one, make a good header.
-use Rattle.std.specs.Prelude.{◌≡◌, true, ◌&&◌, List, [], ◌∷◌, ℕ, zero, suc, ◌+◌, ◌*◌, ◌<◌, ◌≤◌, leb, eqb, length, get_or, take}
-use Rattle.std.proofs.Common.{subst, sym, ⊎_elim, arith, leb-true, eqb-true, length-take, get_or-take}
-use Rattle.laws.specs.Test.{T-is, both_left, both_right, or_cases}
+use Rattle.std.specs.Prelude.{◌≡◌, true, ◌&&◌, List, [], ◌∷◌, ℕ, zero, suc, ◌+◌, ◌*◌, ◌<◌, ◌≤◌, eqb, length, get_or, take}
+use Rattle.std.proofs.Common.{subst, sym, ⊎_elim, arith, eqb-true, length-take, get_or-take}
+use Rattle.laws.specs.Test.{both_left, both_right, or_cases}
 use Rattle.rules.specs.declared.Limit.{Limit}
 use Rattle.rules.specs.declared.Limit.TheVariants.{Unlimited, AtMost}
-use Rattle.rules.specs.Circuit.{Name, Given, given_names, Gate, Output, Circuit}
+use Rattle.rules.specs.Circuit.{Given, given_names, Gate, Output, Circuit}
 use Rattle.rules.specs.CircuitText.{matching}
-use Rattle.rules.specs.Form.{is_name}
 use Rattle.theorems.specs.SettingLimits.{least-m, limits_m, limits_t}
-use Rattle.theorems.specs.SoundCircuits.{GoodName, GoodNames, SmallLimit, SoundGates, SoundOutputs, Sound}
+use Rattle.theorems.specs.SoundCircuits.{GoodNames, name_short, SmallLimit, SoundGates, SoundOutputs, Sound}
 use Rattle.retuning.specs.HeaderBytes.{GoodLimit, GateShape, GoodHeader}
-
-name_short : (n : Name) → GoodName n → length n ≤ 16
-unfolding GoodName is_name
-name_short n g = leb-true (length n) 16 (both_right (leb 1 (length n)) _ (T-is _ g.0))
 
 limit_good : (l : Limit) → SmallLimit l → GoodLimit l
 unfolding SmallLimit GoodLimit

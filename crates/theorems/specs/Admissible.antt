@@ -1,6 +1,6 @@
 -- What admission knows of a network: no node of it meets a condition against the nodes before it, and no output against all of them.
-use Rattle.std.specs.Prelude.{◌≡◌, refl, Bool, true, false, ◌&&◌, List, [], ◌∷◌, ◌++◌, ℕ, zero, suc, ◌<◌, ◌≤◌, T, leb, ℤ, pos, ◌+ℤ◌, length, take}
-use Rattle.std.proofs.Common.{subst, true≢false, append_assoc, append-nil, arith, leb-false, length-take}
+use Rattle.std.specs.Prelude.{◌≡◌, refl, Bool, true, false, ◌&&◌, List, [], ◌∷◌, ◌++◌, ℕ, zero, suc, ◌+◌, ◌<◌, ◌≤◌, T, leb, ℤ, pos, ◌+ℤ◌, length, take}
+use Rattle.std.proofs.Common.{subst, true≢false, append_assoc, append-nil, arith, leb-false, length-append, length-take}
 use Rattle.std.proofs.Math.Option.{Option, none, some}
 use Rattle.std.proofs.lemmas.Bool.{not-false}
 use Rattle.laws.specs.Integer.{eq_z, eq_z_true}
@@ -129,7 +129,7 @@ pass_at n before (x ∷ xs) p zero l = rw append-nil p.0
 pass_at n before (x ∷ xs) p (suc k) l = rw (← append_assoc before (x ∷ []) (take k xs)) (pass_at n (before ++ (x ∷ [])) xs p.1 k (omega arith))
 
 -- a node comes after at most 671 others
-few_before : (n : Net) (before : List LutNode) (x : LutNode) → Passes n before [] (NodeLine x) → length before < 672
+pub few_before : (n : Net) (before : List LutNode) (x : LutNode) → Passes n before [] (NodeLine x) → length before < 672
 unfolding Passes NoneMet admission_conditions text_conditions
 few_before n before (Input a) p = let r = leb-false 32 (length before) p.0.1.1.0 in omega arith
 few_before n before (Linear c ts) p = leb-false 672 (length before) p.0.1.1.0
@@ -140,6 +140,18 @@ few_nodes n [] p = omega arith
 few_nodes n (x ∷ xs) p =
     let r = few_before n (take (length xs) (x ∷ xs)) (node_at (x ∷ xs) (length xs)) (pass_at n [] (x ∷ xs) p (length xs) (omega arith)) in
     omega (arith, length-take (length xs) (x ∷ xs))
+
+-- outputs that pass are at most 32, with those before them
+pub few_outputs : (n : Net) (ns : List LutNode) (before os : List Output) → OutputsPass n ns before os → length before ≤ 32 → length before + length os ≤ 32
+unfolding OutputsPass
+few_outputs n ns before [] p h = omega arith
+few_outputs n ns before (o ∷ os) p h =
+    let l = room n ns before o p.0 in
+    let e = length-append before (o ∷ []) in
+    omega (arith, few_outputs n ns (before ++ (o ∷ [])) os p.1 (omega arith))
+  where
+    room : (n : Net) (ns : List LutNode) (before : List Output) (o : Output) → Passes n ns before (OutLine o) → length before < 32
+    room n ns before o p = unfold Passes NoneMet admission_conditions text_conditions in leb-false 32 (length before) p.0.1.0
 
 -- ---- What a line that passes is known by.
 

@@ -15,7 +15,7 @@ unfolding fits is_lut_valid
 fits_table s nodes c e =
     both_right (leb (cone_span c) s.m) (is_some (encoding s.p c)) (both_right (within_norm s (norm2 nodes c)) (is_lut_valid s c) e)
 
-known_some : (P : ℕ) (k : Option (List ℕ)) → is_some (completed P k) ≡ true → (l : List ℕ) × (k ≡ some l)
+pub known_some : (P : ℕ) (k : Option (List ℕ)) → is_some (completed P k) ≡ true → (l : List ℕ) × (k ≡ some l)
 unfolding completed
 known_some P none e = absurd (false≢true e)
 known_some P (some l) e = (l, refl)

@@ -1,26 +1,24 @@
 -- The answers to how often each grade is given: admission's refusals first, then 40, then 35, else the counts, which fit their places (document 02, S-12).
-use Rattle.std.specs.Prelude.{◌≡◌, refl, true, false, not, ◌&&◌, List, [], ◌∷◌, ◌++◌, ℕ, ◌+◌, ◌*◌, ◌<◌, ◌≤◌, ◌^◌, leb, eqb, ℤ, nat_abs, length}
-use Rattle.std.proofs.Common.{sym, ap, ◌∙◌, arith, true≢false, length-append, le-ltb, lt-ltb, leb-true, leb-false}
+use Rattle.std.specs.Prelude.{◌≡◌, refl, true, false, not, ◌&&◌, List, [], ◌∷◌, ℕ, ◌*◌, ◌<◌, ◌≤◌, ◌^◌, leb, eqb, ℤ, nat_abs, length}
+use Rattle.std.proofs.Common.{sym, ap, ◌∙◌, arith, true≢false, le-ltb, lt-ltb, leb-true}
 use Rattle.laws.specs.Integer.{eq_z}
 use Rattle.laws.specs.Tabulate.{tabulate-length}
 use Rattle.laws.specs.Test.{both_left, both_right}
 use Rattle.rules.specs.Admission.{rejected, admission_of, admission}
-use Rattle.rules.specs.Circuit.{Output}
 use Rattle.rules.specs.Edition2.{is_edition2}
 use Rattle.rules.specs.Form.{Reading, Good}
 use Rattle.rules.specs.Form as Form
 use Rattle.rules.specs.Grades.{too_many_inputs, gives_one, ones_at, ones_of, OnesReply, Ones, ones_on, ones, times_given, value_counts_of, ValuesReply, Values, value_counts_at, value_counts_on, value_counts}
 use Rattle.rules.specs.Network.{Term, LutNode, Input, Linear, Bootstrap, Network, least_sum, is_input, is_linear, count, node_at, network_run}
-use Rattle.rules.specs.NetworkText.{Net, OutLine, small, good_terms, good_sum, text_conditions, admission_conditions, read_admitted}
+use Rattle.rules.specs.NetworkText.{small, good_terms, good_sum, read_admitted}
 use Rattle.rules.specs.SumReading.{sum_of_bits}
-use Rattle.theorems.specs.Admissible.{Passes, OutputsPass, net_of, admitted_admissible}
+use Rattle.theorems.specs.Admissible.{net_of, few_outputs, admitted_admissible}
 use Rattle.theorems.specs.Admissible2.{read_plain}
 use Rattle.theorems.specs.AdmissionExact.{reply_refused}
 use Rattle.theorems.specs.Assignments.{at_most_all}
 use Rattle.theorems.specs.LinearTables.{total}
 use Rattle.theorems.specs.Normalised.{is_nonzero, nonzero}
 use Rattle.theorems.specs.OldReaders.{old_admission}
-use Rattle.theorems.specs.Readings.{NoneMet}
 use Rattle.theorems.specs.SumBounds.{span_total}
 use Rattle.theorems.specs.SumLine.{admitted_sum, good_count}
 use Rattle.theorems.specs.Terms.{coefs}
@@ -58,17 +56,6 @@ refused_unread text k i p e = (reply_refused (read_admitted text) k i).0 (ap adm
 
 -- ---- Outputs.
 
-outputs_few : (n : Net) (ns : List LutNode) (before os : List Output) → OutputsPass n ns before os → length before ≤ 32 → length before + length os ≤ 32
-unfolding OutputsPass
-outputs_few n ns before [] p h = omega arith
-outputs_few n ns before (o ∷ os) p h =
-    let l = room n ns before o p.0 in
-    let e = length-append before (o ∷ []) in
-    omega (arith, outputs_few n ns (before ++ (o ∷ [])) os p.1 (omega arith))
-  where
-    room : (n : Net) (ns : List LutNode) (before : List Output) (o : Output) → Passes n ns before (OutLine o) → length before < 32
-    room n ns before o p = unfold Passes NoneMet admission_conditions text_conditions in leb-false 32 (length before) p.0.1.0
-
 pub ones_exact : (text : List ℕ) → OnesExact text
 unfolding ones ones_on ones_of ones_at too_many_inputs
 ones_exact text =
@@ -77,7 +64,7 @@ ones_exact text =
       unadmitted = λ k i p e. ap ones_on (refused_unread text k i p e);
       too_many = λ w e h. rw (e, lt-ltb 20 (count is_input w.nodes) h);
       counted = λ w e h. rw (e, le-ltb 20 (count is_input w.nodes) h);
-      long = λ w e. (tabulate-length (length w.outputs) (ones_at w), omega (arith, outputs_few (net_of w) w.nodes [] w.outputs (admitted_admissible text w e).outputs (omega arith)));
+      long = λ w e. (tabulate-length (length w.outputs) (ones_at w), omega (arith, few_outputs (net_of w) w.nodes [] w.outputs (admitted_admissible text w e).outputs (omega arith)));
       most = λ w k. at_most_all (count is_input w.nodes) (λ bits. gives_one k (network_run w bits));
     }
 

@@ -61,6 +61,7 @@ pub mod Decimals
 pub mod OneDecimal
 pub mod Pieces
 pub mod PlainPieces
+pub mod TextLengths
 pub mod Assignments
 pub mod FirstAssignment
 pub mod SumBounds
