@@ -1,17 +1,17 @@
 -- The bytes of a state that the gates before one of a read circuit give: of one length, and the same bytes for the same prefix only.
 use Rattle.std.specs.Prelude.{◌≡◌, refl, List, [], ◌∷◌, ◌++◌, ℕ, ◌+◌, ◌*◌, ◌<◌, length, take}
-use Rattle.std.proofs.Common.{sym, ap, ap₂, ◌∙◌, arith, take_at, take-take}
+use Rattle.std.proofs.Common.{sym, ap, ap₂, ◌∙◌, arith, take_at}
 use mathlib.Core.List.{flat_map}
 use Rattle.rules.specs.Circuit.{Gate, Circuit}
 use Rattle.rules.specs.CircuitText.{read_circuit}
 use Rattle.rules.specs.Form.{Good}
 use Rattle.rules.specs.Mapper.{State}
 use Rattle.theorems.specs.SoundTexts.{read_sound}
-use Rattle.retuning.specs.HeaderBytes.{header-length, header_same, zero_no-header}
+use Rattle.retuning.specs.HeaderBytes.{header-length, header_same}
 use Rattle.retuning.specs.Kept.{gate_cell, header_bytes, header_length, kept_bytes, kept_length}
-use Rattle.retuning.specs.Prefix.{first-same, others-same, SamePrefix, before-same}
+use Rattle.retuning.specs.Prefix.{first-same, others-same, SamePrefix}
 use Rattle.retuning.specs.ReachedState.{reached_good}
-use Rattle.retuning.specs.Retune.{before, kept_before, Unaltered, NoState, Left}
+use Rattle.retuning.specs.Retune.{before, kept_before}
 use Rattle.retuning.specs.SameGates.{SameGates}
 use Rattle.retuning.specs.SoundHeader.{good_header}
 use Rattle.retuning.specs.StateBytes.{kept-length}
@@ -35,13 +35,6 @@ kept_apart text edited c d i j st r e f same =
     header_same good fine
     (sym (take_at _ _ header_length (header-length good)) ∙ ap (take header_length) same ∙ take_at _ _ header_length (header-length fine))
 
-pub header_stands : (text : List ℕ) (c : Circuit) (i : ℕ) (st : State) (state : List ℕ) → read_circuit text ≡ Good c
-    → take kept_length state ≡ kept_bytes (kept_before c i st) → take header_length state ≡ header_bytes c.settings c.inputs (take i c.gates) c.outputs
-unfolding kept_bytes kept_before
-header_stands text c i st state e f =
-    sym (take-take header_length kept_length state (omega arith)) ∙ ap (take header_length) f
-    ∙ take_at _ _ header_length (header-length (good_header c i (read_sound text c e)))
-
 cell-same : (a b : Gate) → (a.bits ≡ b.bits) × (a.wires ≡ b.wires) → gate_cell a ≡ gate_cell b
 unfolding gate_cell
 cell-same a b h = rw (h.0, h.1) refl
@@ -57,13 +50,3 @@ cells-same (a ∷ gs) (b ∷ hs) h =
 pub kept-same : (c d : Circuit) (i j : ℕ) (st : State) → SamePrefix c i d j → kept_bytes (kept_before c i st) ≡ kept_bytes (kept_before d j st)
 unfolding kept_bytes kept_before header_bytes
 kept-same c d i j st h = rw (h.settings, h.inputs, h.outputs, h.gates.long, cells-same _ _ h.gates) refl
-
--- In a buffer that nobody altered the header alone tells whether the state from before gate i stands there.
-pub header_tells : (text : List ℕ) (c : Circuit) (i : ℕ) (state : List ℕ) → read_circuit text ≡ Good c → Unaltered state
-    → take header_length state ≡ header_bytes c.settings c.inputs (take i c.gates) c.outputs
-    → (st : State) × (before c i ≡ Good st) × (take kept_length state ≡ kept_bytes (kept_before c i st))
-header_tells text c i state e (NoState z) h = absurd (zero_no-header header_length state c.settings c.inputs (take i c.gates) c.outputs z h)
-header_tells text c i state e (Left other d f j l st m front) h =
-    let same : SamePrefix d j c i =
-    header_same (good_header d j (read_sound other d f)) (good_header c i (read_sound text c e)) (sym (header_stands other d j st state f front) ∙ h) in
-    (st, before-same d c j i st same m, front ∙ kept-same d c j i st same)

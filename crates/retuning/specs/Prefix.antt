@@ -123,6 +123,3 @@ pub before-same : (c d : Circuit) (i j : ℕ) (st : State) → SamePrefix c i d 
 unfolding before start
 before-same c d i j st h e =
     rw (sym h.settings, sym h.inputs, sym h.outputs) (gates-same (used_settings c.settings) c.outputs (start c) st (take i c.gates) (take j d.gates) h.gates e)
-
-pub state_same : (c d : Circuit) (i j : ℕ) (st r : State) → SamePrefix c i d j → before c i ≡ Good st → before d j ≡ Good r → st ≡ r
-state_same c d i j st r h e f = good_same st r (sym (before-same c d i j st h e) ∙ f)

@@ -1,4 +1,4 @@
--- The state when a gate of a sound circuit is reached is good, and a rotation gives each of its tables.
+-- The state when a gate of a sound circuit is reached is good.
 use Rattle.std.specs.Prelude.{◌≡◌, true, false, ◌&&◌, ◌||◌, not, List, [], ◌∷◌, ◌++◌, map, ℕ, zero, suc, ◌+◌, ◌*◌, ◌≤◌, ◌<◌, leb, eqb, nat_abs, length, get_or, take, drop}
 use Rattle.std.proofs.Common.{sym, ap, subst, subst₂, ◌∙◌, ⊎_elim, append-nil, arith, leb-false, leb-true, eqb-true}
 use Rattle.std.proofs.Math.ListN.{get_or-eq_default}
@@ -16,7 +16,6 @@ use Rattle.rules.specs.Form.{Good, is_name_byte}
 use Rattle.rules.specs.Mapper.{State, used_settings}
 use Rattle.rules.specs.Network.{Term, LutNode, Input, Linear, Bootstrap, node_at}
 use Rattle.rules.specs.NetworkText.{Net, NodeLine, small, good_terms, good_sum, sources, names, unknown, any_bad_source, text_conditions, admission_conditions}
-use Rattle.rules.specs.Rotation.{rotatable}
 use Rattle.theorems.specs.Admissible.{Passes, pass_at, lin_passes, boot_passes}
 use Rattle.theorems.specs.Bits.{bit_at}
 use Rattle.theorems.specs.FittingCones.{known_some}
@@ -106,10 +105,6 @@ store_good n inputs nodes s g i h =
     subst (λ k. GoodNode k (node_at nodes i)) (length-take-le i nodes (omega arith))
     (node_good n (take i nodes) (node_at nodes i) (pass_at n [] nodes s.passes i h) (named_at nodes (store_named n inputs nodes s g) i h))
 
-store_rotates : (n : Net) (inputs : List Given) (nodes : List LutNode) → Store n inputs nodes → (i j : ℕ) (table : List ℕ) → i < length nodes
-    → node_at nodes i ≡ Bootstrap j table → rotatable n.p table ≡ true
-store_rotates n inputs nodes s i j table h e = T-is _ (boot_passes n (take i nodes) j table (rw e at (pass_at n [] nodes s.passes i h))).turns
-
 -- ---- A cone that stands.
 
 source_below : (nodes : List LutNode) (ns : List ℕ) → Sources nodes ns → (i : ℕ) → i < length ns → get_or ns i 0 < length nodes
@@ -163,6 +158,3 @@ module _ (c : Circuit) (sound : Sound c) (i : ℕ) (h : i < length c.gates) (st 
             let m = cones.each j l in
             cone_good s (used_limits c.settings sound.settings.limits) st.nodes (get_or st.cones j (constant 0)) m.standing m.sources;
       }
-
-  pub tables_rotate : (j k : ℕ) (table : List ℕ) → j < length st.nodes → node_at st.nodes j ≡ Bootstrap k table → rotatable s.p table ≡ true
-  tables_rotate = store_rotates (net_for s) c.inputs st.nodes known.store

@@ -34,10 +34,6 @@ module _ (P : ℕ) (bits : List ℕ) where
       by none e = refl
       by (some c) e = absurd (true≢false e)
 
-  pub centre-first : P < length bits → T (rotatable P bits) → get_or bits 0 0 + get_or bits P 0 ≡ centre_of P bits
-  unfolding pair_sum
-  centre-first l t = let e : P ≡ 0 + P = omega arith in ap (λ i. get_or bits 0 0 + get_or bits i 0) e ∙ sym (centre_of_pairs l t)
-
   -- it is the boot rule's c, and at most 2
   pub centre-named : T (rotatable P bits) → centre P bits ≡ some (centre_of P bits)
   unfolding rotatable centre_of

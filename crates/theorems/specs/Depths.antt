@@ -115,7 +115,3 @@ pub largest_more : {A : Type 0} (f : A → ℕ) (l : List A) (x : A) → largest
 unfolding largest
 largest_more f [] x = omega arith
 largest_more f (y ∷ l) x = let r = largest_more f l x in omega arith
-
-pub largest-depth_more : (nodes : List LutNode) (x : LutNode) → largest_depth (nodes ++ (x ∷ [])) ≡ max (largest_depth nodes) (node_depth (depth nodes) x)
-unfolding largest_depth
-largest-depth_more nodes x = ap (largest (λ d. d)) (depths_snoc nodes x) ∙ largest_more (λ d. d) (depths nodes) (node_depth (depth nodes) x)
