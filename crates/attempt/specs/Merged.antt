@@ -2,7 +2,7 @@
 use Rattle.std.specs.Prelude as P
 use Rattle.std.specs.Prelude.{Some, None, IfSome, ◌≡◌, true, List, ℕ, ◌≤◌, ◌<◌, ◌^◌, ℤ}
 use Rattle.std.proofs.Math.Path.{refl, sym, ap, ap₂}
-use Rattle.std.proofs.Common.{◌∙◌, le_refl, arith, get_or-take, ext_get_or}
+use Rattle.std.proofs.Common.{◌∙◌, le_refl, arith}
 use Rattle.std.proofs.Math.Option.{Option, some, map}
 use Rattle.std.proofs.Math.ListN.{length, get_or, take}
 use Rattle.std.proofs.Math.Seq.{take_all}
@@ -13,14 +13,11 @@ use Rattle.rules.specs.Cone.{values, cone_span, linear_table}
 use Rattle.rules.specs.Composition.{scales, union_support, merged_coefficients, find_candidate, simplify_cone, merge_cones}
 use Rattle.rules.specs.Network.{LutNode}
 use Rattle.rules.specs.NetworkText.{all_different}
-use Rattle.rules.specs.Span.{least}
-use Rattle.theorems.specs.KnownRows.{known-hit}
-use Rattle.theorems.specs.Rows.{offset}
-use Rattle.theorems.specs.Spans.{offset_lt}
+use Rattle.rules.specs.Span.{span}
 use Rattle.compose.specs.declared.basis.Basis.{Basis}
 use Rattle.compose.specs.Basis.{lefts, rights, lefts_long, IsBasis}
-use Rattle.cone.specs.Fields.{cone_from, Fits, truths-length, truths_entry}
-use Rattle.cone.specs.View.{numbers, numbers_take}
+use Rattle.cone.specs.Fields.{cone_from, Fits, truths_made}
+use Rattle.cone.specs.View.{numbers}
 use Rattle.theorems.specs.ConeValues.{linear_table-length}
 use Rattle.scale_pair.specs.declared.score.Score.{Score}
 use Rattle.search.specs.Candidates.{merged_cone, candidate_of, Found}
@@ -110,19 +107,13 @@ module _ (left right : C.Cone) (truth : List ℕ) (basis : Basis) (best : Score)
   unfolding values
   values_long = ap length (sym values_are) ∙ linear_table-length (merged_of basis best).coefficients ∙ ap (λ k. 2 ^ k) (merged-coefs_long basis best) ∙ sym t_long
 
-  entry : (i : ℕ) → i < length (values X) → get_or (merged_of basis best).truth i 0 ≡ get_or truth i 0
-  unfolding merged_of values cone_span
-  entry i h =
-      truths_entry (merged_of basis best).coefficients best.known i (rw values_are h)
-      ∙ ap (λ l. get_or (numbers best.known) (offset (least l) l i) 0) values_are
-      ∙ sym (get_or-take best.rank.span (numbers best.known) (offset (least (values X)) (values X) i) 0 (rw found.span_is (offset_lt (values X) i h)))
-      ∙ known-hit (values X) truth values_long _ (found.entries ∙ ap some (sym (numbers_take best.rank.span best.known))) i h
+  entries : known_entries (values (merged_of basis best)) truth ≡ some (numbers (take (cone_span (merged_of basis best)) best.known))
+  unfolding cone_span
+  entries = ap (λ v. known_entries v truth) values_are ∙ found.entries ∙ ap (λ k. some (numbers (take k best.known))) (found.span_is ∙ ap span (sym values_are))
 
   truths_are : (merged_of basis best).truth ≡ truth
-  unfolding merged_of values
-  truths_are =
-      let long : length (merged_of basis best).truth ≡ length (values X) = sym (truths-length (merged_of basis best).coefficients best.known) ∙ ap length values_are in
-      ext_get_or 0 (merged_of basis best).truth truth (long ∙ values_long) (λ i h. entry i (rw long at h))
+  unfolding merged_of values cone_span
+  truths_are = truths_made (merged_of basis best).coefficients truth (ap length values_are ∙ values_long) best.known entries
 
   merged_is : merged_of basis best ≡ X
   unfolding merged_cone
@@ -135,7 +126,7 @@ module _ (left right : C.Cone) (truth : List ℕ) (basis : Basis) (best : Score)
         different = rw support_is different;
         narrow = rw merged_is (omega (arith, found.span_is, found.short));
         near = λ i. rw support_is (near i);
-        held = ap₂ known_entries values_are truths_are ∙ found.entries ∙ ap (λ k. some (numbers (take k best.known))) (found.span_is ∙ ap cone_span (sym merged_is));
+        held = ap (known_entries (values (merged_of basis best))) truths_are ∙ entries;
       }
 
 -- it is the definition's

@@ -1,12 +1,11 @@
 -- The sources of merged cones are nodes of the store.
-use Rattle.std.specs.Prelude.{◌≡◌, Bool, not, length, get_or}
-use Rattle.std.proofs.Common.{sym, subst, ⊎_elim, arith}
+use Rattle.std.specs.Prelude.{◌≡◌, Bool, not, length}
+use Rattle.std.proofs.Common.{sym, subst, arith}
 use Rattle.std.proofs.Math.Bool.{true, false}
 use mathlib.Core.List.{List, [], ◌∷◌, ◌++◌, map, map-id}
-use Prim.Native.Nat.{ℕ, zero, suc, ◌≤◌, ◌<◌}
-use Rattle.std.proofs.Math.ListN.{get_or-eq_default}
+use Prim.Native.Nat.{ℕ, zero, suc}
 use Rattle.laws.specs.Select.{select}
-use Rattle.laws.specs.Test.{if◌then◌otherwise◌, lt_or_le}
+use Rattle.laws.specs.Test.{if◌then◌otherwise◌}
 use Rattle.rules.specs.Cone as C
 use Rattle.rules.specs.Composition.{union_support, simplify_cone}
 use Rattle.rules.specs.Network.{Term, member}
@@ -38,13 +37,6 @@ unfolding union_support
 union_below k left right h g =
     below_append k left (select (λ n. not (member n left)) right) h
     (subst (AllBelow k) (map-id (select (λ n. not (member n left)) right)) (below_select k (λ (n : ℕ). n) (λ n. not (member n left)) right (subst (AllBelow k) (sym (map-id right)) g)))
-
-pub below_store : (k : ℕ) (l : List ℕ) → AllBelow k l → k ≤ 672 → (i : ℕ) → get_or l i 0 < 672
-below_store k l h m i =
-    ⊎_elim
-    (λ (q : i < length l). omega (arith, h i q))
-    (λ (q : length l ≤ i). rw (get_or-eq_default l 0 {n = i} q) (omega arith))
-    (lt_or_le i (length l))
 
 pub simplified_below : (count : ℕ) (c : C.Cone) → length c.coefficients ≡ length c.support → AllBelow count c.support → Below count (simplify_cone c)
 simplified_below count c e h =

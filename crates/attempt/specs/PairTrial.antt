@@ -2,7 +2,7 @@
 use Rattle.std.specs.Prelude as P
 use Rattle.std.specs.Prelude.{Some, IfSome, ◌≡◌, true, false, List, [], ◌∷◌, ℕ, suc, ◌+◌, ◌*◌, ◌≤◌, ◌<◌, ◌^◌, ℤ, pos, nat_abs, length, get_or, take}
 use Rattle.std.proofs.Math.Path.{sym}
-use Rattle.std.proofs.Common.{ap, subst, ◌∙◌, zero-le, arith, pow_mono, get_or-take, length-take-le}
+use Rattle.std.proofs.Common.{ap, subst, ◌∙◌, zero-le, arith, get_or-take, length-take-le}
 use Rattle.std.proofs.Math.Option.{map}
 use Rattle.std.proofs.Math.ListN.{length-map}
 use Rattle.laws.specs.Integer.{abs_add, abs_mul_le}
@@ -25,6 +25,7 @@ use Rattle.compose.specs.declared.basis.Basis.{Basis}
 use Rattle.compose.specs.Basis.{lefts, rights, lefts_long, rights_long, lefts_span, rights_span, coefficients_over, coefficients_over-span, Composed}
 use Rattle.compose.specs.Compose.{gate_truth-length}
 use Rattle.linear.specs.Span.{table_within_total}
+use Rattle.linear.specs.Table.{few_rows}
 use Rattle.theorems.specs.ConeValues.{linear_table-length}
 use Rattle.cone.specs.View.{cone_of, sources_different, view_sources, view_coefs}
 use Rattle.merged_rows.specs.declared.rows.Frame.{Frame}
@@ -39,12 +40,12 @@ use Rattle.merged_rows.specs.RowsFrame.{InFrame, Framed, Moved, tables_framed}
 use Rattle.search.specs.declared.context.Context as Code
 use Rattle.search.specs.Search.{Ready}
 use Rattle.attempt.specs.Merged.{merged_of, Mergeable, merged_by, merged-support, merged-coefs_long, found_mergeable, merged_by_lem}
-use Rattle.cone.specs.Sources.{AllBelow, Below, Stands}
+use Rattle.cone.specs.Sources.{AllBelow, Below, Stands, below_store}
 use Rattle.nodes.specs.declared.store.Store.{Store}
 use Rattle.nodes.specs.Store.{store_of, store_few}
 use Rattle.attempt.specs.Pair.{FrameOf, Tabled, Trial}
 use Rattle.theorems.specs.SettingLimits.{limits_m}
-use Rattle.attempt.specs.PairSources.{union_below, below_store, simplified_below}
+use Rattle.attempt.specs.PairSources.{union_below, simplified_below}
 
 -- ---- sums over rows, and the gate's answers
 sum-small : (f : ℤ → ℤ → ℤ) (k : ℕ) (X Y : List ℤ) → ((i : ℕ) → nat_abs (f (get_or X i (pos 0)) (get_or Y i (pos 0))) ≤ k) → nat_abs (sum_over f X Y) ≤ length X * k
@@ -225,7 +226,7 @@ module _ (s : ValidSettings) (store : Store) (left right : Cone) (basis : Basis)
       → length xs ≡ 2048 → length ys ≡ 2048 → length ts ≡ 2048 → Composed (cone_of left) (cone_of right) gate xs ys ts xs' ys' ts'
       → Tabled basis rows xs' ys' ts' × (take rows ts' ≡ gate_truth U (cone_of left) (cone_of right) gate)
   trial_tabled gate b rows e xs ys ts xs' ys' ts' lx ly lt c =
-      let most : rows ≤ 2048 = omega (arith, e, pow_mono {j = 11} basis.few) in
+      let most : rows ≤ 2048 = omega (arith, e, few_rows basis.n basis.few) in
       let nx : length (linear_table (coefficients_over U (cone_of left))) ≡ rows = linear_table-length (coefficients_over U (cone_of left)) ∙ ap (λ k. 2 ^ k) (over_long (cone_of left)) ∙ sym e in
       let ny : length (linear_table (coefficients_over U (cone_of right))) ≡ rows = linear_table-length (coefficients_over U (cone_of right)) ∙ ap (λ k. 2 ^ k) (over_long (cone_of right)) ∙ sym e in
       let nt : length (gate_truth U (cone_of left) (cone_of right) gate) ≡ rows = gate_truth-length U (cone_of left) (cone_of right) gate ∙ ap (λ k. 2 ^ k) (sym t.over.count) ∙ sym e in

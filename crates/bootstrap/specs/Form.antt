@@ -3,13 +3,12 @@ use Rattle.std.specs.Prelude as P
 use Rattle.std.specs.Prelude.{◌≡◌, Bool, false, ◌&&◌, ℕ, zero, suc, ◌≤◌, ◌<◌, ◌^◌, leb, eqb, ℤ, nat_abs, Some, None, IfSome}
 use Rattle.std.specs.Bool.{then_some}
 use Rattle.std.proofs.Math.Path.{refl, sym, ap}
-use Rattle.std.proofs.Common.{◌∙◌, arith, get_or-take, length-take-le}
+use Rattle.std.proofs.Common.{◌∙◌, arith, length-take-le}
 use Rattle.std.proofs.Math.Bool.{true}
 use mathlib.Core.List.{List, [], ◌∷◌, map}
 use Rattle.std.proofs.Math.Option.{Option, none, some}
 use Rattle.std.proofs.lemmas.Bool.{lt-leb}
 use Rattle.std.proofs.Math.ListN.{length, take}
-use Rattle.std.proofs.Math.Seq.{ext_get_or}
 use Rattle.laws.specs.Test.{if◌then◌otherwise◌, if_both}
 use Rattle.rules.specs.declared.Settings.{Settings}
 use Rattle.rules.specs.declared.Entry.{Entry}
@@ -17,16 +16,13 @@ use Rattle.rules.specs.Builder.{known_entries}
 use Rattle.rules.specs.Cone as C
 use Rattle.rules.specs.Cone.{Candidate, linear_table, values, cone_span, completed, encoding, is_lut_valid, within_norm, norm2, fits, better}
 use Rattle.rules.specs.Network.{Term, LutNode, Input, Linear, Bootstrap, is_bootstrap, node_at}
-use Rattle.rules.specs.Span.{least, span}
+use Rattle.rules.specs.Span.{span}
 use Rattle.rules.specs.Store.{terms_of, coefficient_of, same_sources, with_form, ranked}
-use Rattle.theorems.specs.KnownRows.{known-hit}
-use Rattle.theorems.specs.Rows.{offset}
-use Rattle.theorems.specs.Spans.{offset_lt}
-use Rattle.rotation.specs.Entries.{numbers, numbers_take}
+use Rattle.rotation.specs.Entries.{numbers}
 use Rattle.cone.specs.declared.Cone.{Cone}
 use Rattle.scale.specs.Limits.{Within}
 use Rattle.theorems.specs.ConeValues.{linear_table-length}
-use Rattle.cone.specs.Fields.{cone_from, Held, truths, truths-length, truths_entry}
+use Rattle.cone.specs.Fields.{cone_from, Held, truths_made, made_held}
 use Rattle.cone.specs.View.{cone_of, view_rows}
 use Rattle.cone.specs.Sources.{Stands, below_same}
 use Rattle.lut.specs.Forms.{form_terms, AlignedTo, FormOf}
@@ -57,32 +53,22 @@ unfoldable pub turned : Settings → List LutNode → C.Cone → Option Candidat
 turned s nodes c d none = d
 turned s nodes c d (some ts) = if same_sources c.support ts then better_of d (fitting s nodes (with_form c ts)) otherwise d
 
--- ---- laws: a cone by its known entries
-
-module _ (cs : List ℤ) (known : List Entry) (T : List ℕ) (rows : length (linear_table cs) ≡ length T) (f : known_entries (linear_table cs) T ≡ some (numbers (take (span (linear_table cs)) known))) where
-  truths_by_entries : truths cs known ≡ T
-  truths_by_entries =
-      ext_get_or 0 (truths cs known) T (sym (truths-length cs known) ∙ rows)
-      (λ i h.
-      let l : i < length (linear_table cs) = rw (truths-length cs known) h in
-      truths_entry cs known i l
-      ∙ sym (get_or-take (span (linear_table cs)) (numbers known) (offset (least (linear_table cs)) (linear_table cs) i) 0 (offset_lt (linear_table cs) i l))
-      ∙ known-hit (linear_table cs) T rows _ (f ∙ ap some (sym (numbers_take (span (linear_table cs)) known))) i l)
-
--- the cone with other coefficients, whose entries are its truths at their values
+-- ---- laws: the cone with other coefficients, whose entries are its truths at their values
 module _ (c : Cone) (coefs : List ℤ) (size : length coefs ≡ 11) (known : List Entry)
     (f : known_entries (linear_table (take c.n coefs)) (cone_of c).truth ≡ some (numbers (take (span (linear_table (take c.n coefs))) known))) where
-  formed_truth : truths (take c.n coefs) known ≡ (cone_of c).truth
-  formed_truth =
+  formed_rows : length (linear_table (take c.n coefs)) ≡ length (cone_of c).truth
+  formed_rows =
       let n : length (take c.n coefs) ≡ c.n = length-take-le c.n coefs (omega (arith, c.few)) in
-      truths_by_entries (take c.n coefs) known (cone_of c).truth (linear_table-length (take c.n coefs) ∙ ap (λ k. 2 ^ k) n ∙ sym (view_rows c)) f
+      linear_table-length (take c.n coefs) ∙ ap (λ k. 2 ^ k) n ∙ sym (view_rows c)
 
   pub formed_is : cone_from c.n c.support coefs known ≡ reformed (cone_of c) (take c.n coefs)
   unfolding cone_of reformed
-  formed_is = ap {B = C.Cone} (λ (t : List ℕ). record { support = take c.n c.support; coefficients = take c.n coefs; truth = t }) formed_truth
+  formed_is =
+      ap {B = C.Cone} (λ (t : List ℕ). record { support = take c.n c.support; coefficients = take c.n coefs; truth = t })
+      (truths_made (take c.n coefs) (cone_of c).truth formed_rows known f)
 
   pub formed_held : Held (take c.n coefs) known
-  formed_held = ap (known_entries (linear_table (take c.n coefs))) formed_truth ∙ f
+  formed_held = made_held (take c.n coefs) (cone_of c).truth formed_rows known f
 
 -- it stands where the cone stands
 pub formed_stands : (count : ℕ) (c d : Cone) (cs : List ℤ) → cone_of d ≡ reformed (cone_of c) cs → Stands count c → Stands count d

@@ -1,11 +1,11 @@
 -- What `simplify_cone` answers, on the values: k is the cone, r the sources and coefficients that are kept.
 use mathlib.Core.Path.{◌≡◌, sym, ap, ap₂, ◌∙◌}
 use mathlib.Core.Bool.{true, false}
-use mathlib.Core.List.{List, map}
+use mathlib.Core.List.{List}
 use Prim.Native.Nat.{ℕ, ◌≤◌, ◌<◌, ◌^◌}
 use native.Mathlib.Omega.{arith}
 use lib.IntN.{ℤ, pos, nat_abs, ◌-ℤ◌}
-use lib.ListN.{length, get_or, take, length-map}
+use lib.ListN.{length, get_or, take}
 use lib.Seq.{ext_get_or}
 use Rattle.laws.specs.Select.{select, select_le, any}
 use Rattle.rules.specs.declared.Entry.{Entry}
@@ -20,11 +20,10 @@ use Rattle.theorems.specs.KnownRows.{hits, is_at}
 use Rattle.theorems.specs.SimplifiedCones.{row_in, row_in_lt, simplified_total, simplified_least, simplified_span, simplified_value, simplified_truth}
 use Rattle.theorems.specs.ZeroSources.{any_selected}
 use Rattle.theorems.specs.ConeTruths.{over_rows-length}
-use Rattle.laws.specs.Lists.{map_at}
 use Rattle.theorems.specs.ConeValues.{linear_table-length}
 use Rattle.cone.specs.declared.Cone.{Cone}
 use Rattle.theorems.specs.LinearTables.{total}
-use Rattle.cone.specs.Fields.{cone_from, Fits, fits, truths, truth_at, entry_at}
+use Rattle.cone.specs.Fields.{cone_from, Fits, fits, truths, truths-length, truths_entry}
 use Rattle.cone.specs.View.{numbers, cone_of, sources_different, sources_near, narrow_total, view_sources, view_coefs, truth_entry, truth-bit, unknown}
 use Rattle.compose.specs.declared.simplify.Retained.{Retained}
 use Rattle.compose.specs.Simplify.{IsRetained, truth_over, different-sources, near_sources, simplified}
@@ -94,10 +93,10 @@ module _ (k : Cone) (r : Retained) (kept : IsRetained (used_of (cone_of k)) r) w
     unfolding row used truth_over simplify_cone terms terms_over
     row_truth = simplified_truth (cone_of k) long i h
 
-    truth_of : get_or (map (truth_at (coefs used) (numbers k.known)) (linear_table (coefs used))) i 0 ≡ get_or (truth_over (sources used) (cone_of k)) i 0
-    unfolding truth_at entry_at row
+    truth_of : get_or (truths (coefs used) k.known) i 0 ≡ get_or (truth_over (sources used) (cone_of k)) i 0
+    unfolding row
     truth_of =
-        map_at (truth_at (coefs used) (numbers k.known)) (linear_table (coefs used)) i (pos 0) 0 (rw (linear_table-length (coefs used), ← coefs_long used) h)
+        truths_entry (coefs used) k.known i (rw (linear_table-length (coefs used), ← coefs_long used) h)
         ∙ ap₂ (λ v l. get_or (numbers k.known) (nat_abs (v -ℤ l)) 0) (sym value_of) same_low
         ∙ sym (truth_entry k row row_in_lem)
         ∙ sym row_truth
@@ -105,10 +104,10 @@ module _ (k : Cone) (r : Retained) (kept : IsRetained (used_of (cone_of k)) r) w
     truth-small : get_or (truth_over (sources used) (cone_of k)) i 0 ≤ 1
     truth-small = rw row_truth (let b = truth-bit k row in omega arith)
 
-  truths_are : map (truth_at (coefs used) (numbers k.known)) (linear_table (coefs used)) ≡ truth_over (sources used) (cone_of k)
+  truths_are : truths (coefs used) k.known ≡ truth_over (sources used) (cone_of k)
   truths_are =
-      let e : length (map (truth_at (coefs used) (numbers k.known)) (linear_table (coefs used))) ≡ 2 ^ length (sources used) =
-      (length-map (linear_table (coefs used)) (truth_at (coefs used) (numbers k.known)) ∙ linear_table-length (coefs used) ∙ ap (λ n. 2 ^ n) (sym (coefs_long used))) in
+      let e : length (truths (coefs used) k.known) ≡ 2 ^ length (sources used) =
+      (sym (truths-length (coefs used) k.known) ∙ linear_table-length (coefs used) ∙ ap (λ n. 2 ^ n) (sym (coefs_long used))) in
       ext_get_or 0 _ _ (e ∙ sym (unfold truth_over in (over_rows-length (sources used) (λ bit. rules.cone_bit bit (cone_of k))))) (λ i h. truth_of i (rw e at h))
 
   abbrev seen : rules.Cone

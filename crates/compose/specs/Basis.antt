@@ -1,7 +1,7 @@
 -- Two cones laid over their sources together, and the tables of their composition.
 use Rattle.std.specs.Prelude.{◌≡◌, refl, true, false, not, ℕ, zero, suc, ◌+◌, ◌≤◌, ◌^◌, eqb, ℤ, pos, nat_abs, length, take}
 use mathlib.Core.List.{List, [], ◌∷◌, map, zip_with}
-use Rattle.std.proofs.Common.{sym, ap, subst, ◌∙◌, true≢false, ⊎_elim, zero-le, arith, eq-eqb, ne_eqb, pow_mono, length-take-le}
+use Rattle.std.proofs.Common.{sym, ap, subst, ◌∙◌, true≢false, ⊎_elim, zero-le, arith, eq-eqb, ne_eqb, length-take-le}
 use Rattle.std.proofs.lemmas.Bool.{not-true}
 use Rattle.laws.specs.Over.{over}
 use Rattle.laws.specs.Test.{if◌then◌otherwise◌, if_both, eq-or-ne, neither_left, neither_right, both_left, both_right}
@@ -14,6 +14,7 @@ use Rattle.rules.specs.Composition.{union_support, gate_truth}
 use Rattle.scale.specs.Limits.{Within}
 use Rattle.compose.specs.declared.basis.Basis.{Basis}
 use Rattle.linear.specs.Span.{within_total}
+use Rattle.linear.specs.Table.{few_rows}
 use Rattle.theorems.specs.LinearTables.{total, span_table}
 use Rattle.theorems.specs.Members.{Among}
 use Rattle.support.specs.Support.{terms_are}
@@ -68,10 +69,7 @@ module _ (b : Basis) where
   pub rights_span : span (linear_table (rights b)) ≤ 32
   rights_span = omega (arith, span_table (rights b), b.narrow_right)
 
--- ---- laws: at most 11 sources have at most 2,048 rows
-pub few_rows : (n : ℕ) → n ≤ 11 → 2 ^ n ≤ 2048
-few_rows n h = pow_mono {j = 11} h
-
+-- ---- laws: tables of 2,048 entries have the rows of at most 11 sources
 pub few_room : (n : ℕ) (xs ys : List ℤ) (truth : List ℕ) → n ≤ 11 → length xs ≡ 2048 → length ys ≡ 2048 → length truth ≡ 2048 → Room n xs ys truth
 few_room n xs ys truth h x y t = let f = few_rows n h in record { x = omega arith; y = omega arith; t = omega arith }
 

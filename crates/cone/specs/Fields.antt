@@ -1,8 +1,9 @@
 -- A cone by the fields of the code's struct: what they stand for, and what has to hold of them. The struct's ghost fields say it, so that it isn't named here.
-use Rattle.std.specs.Prelude.{◌≡◌, true, false, List, map, ℕ, ◌≤◌, ◌<◌, ℤ, pos, nat_abs, ◌-ℤ◌, length, get_or, take}
+use Rattle.std.specs.Prelude.{◌≡◌, true, false, List, map, ℕ, ◌≤◌, ◌<◌, ℤ, pos, length, get_or, take}
 use Rattle.std.proofs.Math.Path.{sym}
-use Rattle.std.proofs.Common.{ap, ◌∙◌, arith}
+use Rattle.std.proofs.Common.{ap, ◌∙◌, arith, get_or-take}
 use Rattle.std.proofs.Math.Option.{some}
+use Rattle.std.proofs.Math.Seq.{ext_get_or}
 use Rattle.std.proofs.lemmas.List.{length-map}
 use Rattle.std.proofs.Props.{props}
 use Rattle.laws.specs.Lists.{map_at}
@@ -13,13 +14,11 @@ use Rattle.rules.specs.Cone.{linear_table}
 use Rattle.rules.specs.NetworkText.{all_different}
 use Rattle.rules.specs.Span.{least, span}
 use Rattle.rotation.specs.Entries.{numbers, numbers_take, numbers-length}
-use Rattle.theorems.specs.KnownRows.{hits, known_held}
+use Rattle.known_rows.specs.Entries.{entry_at}
+use Rattle.theorems.specs.KnownRows.{hits, known_held, known-hit}
 use Rattle.theorems.specs.LinearTables.{span_table, total}
 use Rattle.theorems.specs.Rows.{offset}
-
--- the entry of a value, counted from a least one
-unfoldable pub entry_at : ℤ → List ℕ → ℤ → ℕ
-entry_at low known v = get_or known (nat_abs (v -ℤ low)) 0
+use Rattle.theorems.specs.Spans.{offset_lt}
 
 unfoldable pub truth_at : List ℤ → List ℕ → ℤ → ℕ
 truth_at coefs known v = entry_at (least (linear_table coefs)) known v
@@ -61,6 +60,23 @@ module _ (coefs : List ℤ) (known : List Entry) where
   pub truths_entry : (i : ℕ) → i < length (linear_table coefs) → get_or (truths coefs known) i 0 ≡ get_or (numbers known) (offset (least (linear_table coefs)) (linear_table coefs) i) 0
   unfolding truth_at entry_at
   truths_entry i h = map_at _ (linear_table coefs) i (pos 0) 0 h
+
+-- entries that some truths made give them back
+module _ (coefs : List ℤ) (ts : List ℕ) (same : length (linear_table coefs) ≡ length ts) (known : List Entry)
+    (made : known_entries (linear_table coefs) ts ≡ some (numbers (take (span (linear_table coefs)) known))) where
+  entry_made : (i : ℕ) → i < length (linear_table coefs) → get_or (numbers known) (offset (least (linear_table coefs)) (linear_table coefs) i) 0 ≡ get_or ts i 0
+  entry_made i h =
+      let values = linear_table coefs in
+      sym (get_or-take (span values) (numbers known) (offset (least values) values i) 0 (offset_lt values i h))
+      ∙ known-hit values ts same (take (span values) (numbers known)) (made ∙ ap some (sym (numbers_take (span values) known))) i h
+
+  pub truths_made : truths coefs known ≡ ts
+  truths_made =
+      ext_get_or 0 (truths coefs known) ts (sym (truths-length coefs known) ∙ same)
+      (λ i h. let l : i < length (linear_table coefs) = rw (truths-length coefs known) h in truths_entry coefs known i l ∙ entry_made i l)
+
+  pub made_held : Held coefs known
+  made_held = ap (known_entries (linear_table coefs)) truths_made ∙ made
 
 -- the fields of a cone that is seen as v
 pub fits : (n : ℕ) (support : List ℕ) (coefs : List ℤ) (known : List Entry) (v : rules.Cone) → cone_from n support coefs known ≡ v → length known ≡ 32 → n ≤ 11 → all_different v.support ≡ true

@@ -1,6 +1,8 @@
 -- A cone's sources beside the node store, and their weights.
-use Rattle.std.specs.Prelude.{◌≡◌, List, [], ◌∷◌, ℕ, zero, suc, ◌<◌, length, get_or, take}
-use Rattle.std.proofs.Common.{sym, ap, subst, ◌∙◌, not-suc-le-zero, arith}
+use Rattle.std.specs.Prelude.{◌≡◌, List, [], ◌∷◌, ℕ, zero, suc, ◌<◌, ◌≤◌, length, get_or, take}
+use Rattle.std.proofs.Common.{sym, ap, subst, ◌∙◌, ⊎_elim, not-suc-le-zero, arith}
+use Rattle.std.proofs.Math.ListN.{get_or-eq_default}
+use Rattle.laws.specs.Test.{lt_or_le}
 use Rattle.rules.specs.Cone as rules
 use Rattle.rules.specs.Network.{LutNode}
 use Rattle.theorems.specs.Weights.{weights_of, weighted_norm}
@@ -22,6 +24,14 @@ pub record Stands (count : ℕ) (c : Cone) : Type 0 where
   pub below : Below count (cone_of c)
 
 -- ---- laws
+
+-- nodes of so many, and 0 behind them, are nodes of a store
+pub below_store : (count : ℕ) (is : List ℕ) → AllBelow count is → count ≤ 672 → (i : ℕ) → get_or is i 0 < 672
+below_store count is h m i =
+    ⊎_elim
+    (λ (q : i < length is). omega (arith, h i q))
+    (λ (q : length is ≤ i). rw (get_or-eq_default is 0 {n = i} q) (omega arith))
+    (lt_or_le i (length is))
 
 pub below_same : (count : ℕ) (c d : rules.Cone) → c.support ≡ d.support → Below count d → Below count c
 below_same count c d e b = record { at = subst (AllBelow count) (sym e) b.at }

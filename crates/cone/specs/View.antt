@@ -1,11 +1,11 @@
 -- A cone as the code holds it, seen as the definition's.
 use Rattle.std.specs.Prelude.{◌≡◌, refl, true, false, ℕ, ◌+◌, ◌≤◌, ◌<◌, ◌^◌, pos, nat_abs, length, get_or, take, ◌≤ℤ◌, Option, Some, None}
 use Rattle.std.proofs.Math.Path.{sym}
-use Rattle.std.proofs.Common.{ap, ◌∙◌, ⊎_elim, arith, pow_mono, get_or-take}
+use Rattle.std.proofs.Common.{ap, ◌∙◌, ⊎_elim, arith, get_or-take}
 use Rattle.std.proofs.Math.Option.{some}
 use Rattle.std.proofs.Math.ListN.{get_or-eq_default}
 use Rattle.std.proofs.Math.Seq.{length-take-le}
-use Rattle.laws.specs.Integer.{ints, plus, minus, plus_neg, minus_neg, abs_parts}
+use Rattle.laws.specs.Integer.{ints, plus, minus, plus_neg}
 use Rattle.laws.specs.Test.{if◌then◌otherwise◌, lt_or_le}
 use Rattle.rules.specs.Builder.{known_entries}
 use Rattle.rules.specs.Cone as rules
@@ -19,8 +19,9 @@ use Rattle.theorems.specs.Spans.{offset_lt}
 pub use Rattle.rotation.specs.Entries.{numbers, numbers_take}
 use Rattle.cone.specs.Fields.{cone_from, truths-length, truths_entry}
 use Rattle.cone.specs.declared.Cone.{Cone}
-use Rattle.linear.specs.Span.{within_total}
-use Rattle.theorems.specs.LinearTables.{least_table, lower, span_table, total, total_parts}
+use Rattle.linear.specs.Span.{within_total, narrow_low}
+use Rattle.linear.specs.Table.{few_rows}
+use Rattle.theorems.specs.LinearTables.{least_table, lower, span_table, total}
 use Rattle.theorems.specs.ConeValues.{linear_table-length}
 
 -- what its fields stand for
@@ -85,7 +86,7 @@ module _ (c : Cone) where
   view_coefs = length-take-le c.n c.coefs (omega (arith, c.few, c.coefs_long))
 
   pub rows_fit : 2 ^ c.n ≤ 2048
-  rows_fit = pow_mono {j = 11} c.few
+  rows_fit = few_rows c.n c.few
 
   pub view_rows : length (cone_of c).truth ≡ 2 ^ c.n
   view_rows = sym (truth-length c) ∙ rows_are c ∙ ap (λ k. 2 ^ k) view_coefs
@@ -117,15 +118,14 @@ module _ (c : Cone) where
   row_place i h = in_entries (offset (least (rules.values (cone_of c))) (rules.values (cone_of c)) i) (offset_lt (rules.values (cone_of c)) i h)
 
   -- the least value is not above 0, and small
-  low_parts : (plus (least (rules.values (cone_of c))) ≡ 0) × (minus (least (rules.values (cone_of c))) ≤ 31)
+  low_plus : plus (least (rules.values (cone_of c))) ≡ 0
   unfolding rules.values plus minus
-  low_parts =
-      let l = lower (cone_of c).coefficients in
-      rw (least_table (cone_of c).coefficients, plus_neg (pos l), minus_neg (pos l)) (refl, omega (arith, narrow_total, total_parts (cone_of c).coefficients))
+  low_plus = rw (least_table (cone_of c).coefficients, plus_neg (pos (lower (cone_of c).coefficients))) refl
 
   pub low_below : least (rules.values (cone_of c)) ≤ℤ pos 0
   unfolding plus minus
-  low_below = omega (arith, ints, low_parts.0)
+  low_below = omega (arith, ints, low_plus)
 
   pub low_small : nat_abs (least (rules.values (cone_of c))) ≤ 31
-  low_small = omega (arith, abs_parts (least (rules.values (cone_of c))), low_parts.0, low_parts.1)
+  unfolding rules.values rules.cone_span
+  low_small = narrow_low (cone_of c).coefficients (span_narrow c)

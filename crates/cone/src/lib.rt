@@ -96,7 +96,7 @@ impl Cone {
     }
 
     // The bit of a cone with no source.
-    #[tactic(auto, using(crate::specs::View::view_sources, rotation::specs::Entries::number_at), unfolding(crate::specs::View::constant_of, crate::specs::View::cone_of, crate::specs::Fields::truth_at, crate::specs::Fields::entry_at, rules::specs::Mapper::is_constant, rules::specs::Mapper::constant_value, rules::specs::Cone::linear_table, rules::specs::Span::least, rules::specs::Span::least_from))]
+    #[tactic(auto, using(crate::specs::View::view_sources, rotation::specs::Entries::number_at), unfolding(crate::specs::View::constant_of, crate::specs::View::cone_of, crate::specs::Fields::truth_at, known_rows::specs::Entries::entry_at, rules::specs::Mapper::is_constant, rules::specs::Mapper::constant_value, rules::specs::Cone::linear_table, rules::specs::Span::least, rules::specs::Span::least_from))]
     pub fn constant_value(self) -> Option<u8>
         ensures { result ≡ constant_of (cone_of self) }
     {

@@ -1,10 +1,11 @@
 -- The limits of a linear form's table by its coefficients, and the loops that add them.
 use Rattle.std.specs.Prelude.{◌≡◌, List, [], ◌∷◌, ℕ, zero, suc, ◌+◌, ◌*◌, ◌≤◌, ◌<◌, ℤ, pos, nat_abs, length, get_or, drop}
 use Rattle.std.proofs.Common.{zero-le, add-one, arith, drop_of_length-le, drop-cons}
-use Rattle.laws.specs.Integer.{minus}
+use Rattle.laws.specs.Integer.{minus, abs_neg}
 use Rattle.rules.specs.Cone.{linear_table}
+use Rattle.rules.specs.Span.{least, span}
 use Rattle.scale.specs.Limits.{Within}
-use Rattle.theorems.specs.LinearTables.{lower, total, total_parts}
+use Rattle.theorems.specs.LinearTables.{least_table, lower, span_table, total, total_parts}
 use Rattle.linear.specs.Table.{shifted, within_append, within_shifted, within_more}
 
 -- no coefficient and no value is larger
@@ -13,6 +14,14 @@ unfolding total
 within_total [] i = zero-le
 within_total (c ∷ cs) zero = omega arith
 within_total (c ∷ cs) (suc i) = omega (arith, within_total cs i)
+
+-- a small span has small coefficients, and a small least value
+module _ (cs : List ℤ) (narrow : span (linear_table cs) ≤ 32) where
+  pub narrow_small : Within 1984 cs
+  narrow_small i = omega (arith, within_total cs i, span_table cs)
+
+  pub narrow_low : nat_abs (least (linear_table cs)) ≤ 31
+  narrow_low = rw (least_table cs, abs_neg (pos (lower cs))) (omega (arith, total_parts cs, span_table cs))
 
 pub table_within_total : (cs : List ℤ) → Within (total cs) (linear_table cs)
 unfolding total linear_table shifted

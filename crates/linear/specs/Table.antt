@@ -1,9 +1,10 @@
--- The values of a linear form: how long its table is, how large its values are, and one coefficient more.
-use Rattle.std.specs.Prelude.{◌≡◌, refl, List, [], ◌∷◌, ◌++◌, map, ℕ, zero, suc, ◌+◌, ◌*◌, ◌≤◌, ℤ, pos, nat_abs, ◌+ℤ◌, length, get_or}
-use Rattle.std.proofs.Common.{◌∙◌, zero-le, arith, pow_pos}
+-- The values of a linear form: how long its table is and where it stands, how large its values are, and one coefficient more.
+use Rattle.std.specs.Prelude.{◌≡◌, refl, List, [], ◌∷◌, ◌++◌, map, ℕ, zero, suc, ◌+◌, ◌*◌, ◌^◌, ◌≤◌, ℤ, pos, nat_abs, ◌+ℤ◌, length, get_or, take}
+use Rattle.std.proofs.Common.{sym, ap, ◌∙◌, zero-le, arith, pow_pos, pow_mono}
 use Rattle.std.proofs.lemmas.List.{length-map}
 use Rattle.std.proofs.Math.ListN.{get_or-append}
 use Rattle.laws.specs.Integer.{abs_add}
+use Rattle.laws.specs.Over.{over, take-over}
 use Rattle.rules.specs.Cone.{linear_table}
 use Rattle.scale.specs.Limits.{Within}
 use Rattle.theorems.specs.ConeValues.{linear_table-length}
@@ -19,6 +20,14 @@ shifted-length c l = length-map l _
 pub table_cons : (c : ℤ) (cs : List ℤ) → linear_table (c ∷ cs) ≡ linear_table cs ++ shifted c (linear_table cs)
 unfolding linear_table shifted
 table_cons c cs = refl
+
+-- at most 11 sources have at most 2,048 assignments
+pub few_rows : (n : ℕ) → n ≤ 11 → 2 ^ n ≤ 2048
+few_rows n h = pow_mono {j = 11} h
+
+-- the values that stand first in a table
+pub values_first : (cs vs d : List ℤ) (rows : ℕ) → rows ≡ 2 ^ length cs → vs ≡ over (linear_table cs) d → take rows vs ≡ linear_table cs
+values_first cs vs d rows count e = ap (take rows) e ∙ take-over (linear_table cs) d rows (linear_table-length cs ∙ sym count)
 
 -- the first assignment is all zeros
 pub table_first : (cs : List ℤ) → get_or (linear_table cs) 0 (pos 0) ≡ pos 0

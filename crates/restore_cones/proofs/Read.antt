@@ -1,11 +1,9 @@
 -- A cone read from its cell: what its fields are, and that a good cone comes back.
-use Rattle.std.specs.Prelude.{◌≡◌, List, ℕ, ◌+◌, ◌*◌, ◌<◌, ◌≤◌, ℤ, length, get_or, take, drop}
-use Rattle.std.proofs.Common.{sym, subst, ap, ap₂, ◌∙◌, ⊎_elim, arith}
-use Rattle.std.proofs.Math.ListN.{get_or-eq_default}
+use Rattle.std.specs.Prelude.{◌≡◌, List, ℕ, ◌+◌, ◌*◌, ◌≤◌, ℤ, length, get_or, take, drop}
+use Rattle.std.proofs.Common.{sym, subst, ap, ap₂, ◌∙◌, arith}
 use Rattle.std.proofs.Math.Option.{some}
 use Rattle.std.proofs.lemmas.List.{length-map}
 use Rattle.laws.specs.Tabulate.{tabulate}
-use Rattle.laws.specs.Test.{lt_or_le}
 use Rattle.rules.specs.declared.Entry.{Entry}
 use Rattle.rules.specs.Builder.{known_entries}
 use Rattle.rules.specs.Cone as C
@@ -17,11 +15,11 @@ use Rattle.retuning.specs.GoodState.{GoodCone}
 use Rattle.theorems.specs.ConeValues.{values_long}
 use Rattle.theorems.specs.LinearTables.{span_table}
 use Rattle.rotation.specs.Entries.{numbers}
-use Rattle.cone.specs.Fields.{Fits, cone_from, truth_at, truths}
-use Rattle.cone.specs.Sources.{AllBelow}
+use Rattle.cone.specs.Fields.{Fits, cone_from, truth_at, truths, truths_made, made_held}
+use Rattle.cone.specs.Sources.{AllBelow, below_store}
 use Rattle.restore_cones.specs.Cell.{source_at, coefficient_at, truths_in, Sources}
 use Rattle.restore_cones.proofs.Bytes.{count_read, sources_read, coefficients_read, entry_read}
-use Rattle.restore_cones.proofs.Truths.{truths_are, truths_held, truths_read}
+use Rattle.restore_cones.proofs.Truths.{truths_read}
 
 -- What was read from a cell, before it is judged.
 pub record Fields (n : ℕ) (cell support entries : List ℕ) (coefs : List ℤ) : Type 0 where
@@ -42,22 +40,16 @@ module _ {nodes n : ℕ} {support entries : List ℕ} {coefs : List ℤ} {known 
   same : length (linear_table (take n coefs)) ≡ length (truths_in (take n coefs) entries)
   same = sym (length-map (linear_table (take n coefs)) (truth_at (take n coefs) entries))
 
-  all_near : (i : ℕ) → get_or (take n support) i 0 < 672
-  all_near i =
-      ⊎_elim (λ (h : i < length (take n support)). omega (arith, j.near, j.sources.below i h))
-      (λ (h : length (take n support) ≤ i). rw (get_or-eq_default (take n support) 0 {n = i} h) (omega arith))
-      (lt_or_le i (length (take n support)))
-
   pub read_fits : Fits n support coefs known
   read_fits =
       record {
         few = j.few;
-        form = record { different = j.sources.different; near = all_near; narrow = j.narrow };
-        held = truths_held (take n coefs) (truths_in (take n coefs) entries) same known (sym j.made);
+        form = record { different = j.sources.different; near = below_store nodes (take n support) j.sources.below j.near; narrow = j.narrow };
+        held = made_held (take n coefs) (truths_in (take n coefs) entries) same known (sym j.made);
       }
 
   pub read_truths : truths (take n coefs) known ≡ truths_in (take n coefs) entries
-  read_truths = truths_are (take n coefs) (truths_in (take n coefs) entries) same known (sym j.made)
+  read_truths = truths_made (take n coefs) (truths_in (take n coefs) entries) same known (sym j.made)
 
 -- ---- the cell of a good cone
 module _ {nodes n : ℕ} {cell support entries : List ℕ} {coefs : List ℤ} {c : C.Cone} (f : Fields n cell support entries coefs)

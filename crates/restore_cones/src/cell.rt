@@ -1,5 +1,5 @@
 // A cone read from its cell.
-ghost use Rattle.std.specs.Prelude.{◌≡◌, ◌≤◌, length, IfSome, IsSomeAnd};
+ghost use Rattle.std.specs.Prelude.{◌≡◌, ◌+◌, ◌*◌, ◌≤◌, length, drop, IfSome, IsSomeAnd};
 ghost use Rattle.rules.specs.Cone as rules;
 ghost use Rattle.retuning.specs.Kept.{cone_cell};
 ghost use Rattle.retuning.specs.GoodState.{GoodCone};
@@ -10,6 +10,15 @@ use crate::entries::read_entries;
 use crate::sources::{are_sources, read_coefficients, read_sources};
 use cone::Cone;
 use linear::linear_span;
+
+// The known entries, and what follows them: they stand behind n sources and n coefficients.
+#[tactic(auto, using(laws::specs::Tail::tail_part))]
+fn entries_of(cell: &[u8], n: usize) -> &[u8]
+    requires { 1 + 3 * n ≤ length cell.now }
+    ensures { result.now ≡ drop (1 + 3 * n) cell.now }
+{
+    &cell[1 + 3 * n..]
+}
 
 // The cone of a cell, over so many nodes; none where a field is outside its range, or rows of one value have two truths.
 pub fn read_cone(cell: &[u8], nodes: usize) -> Option<Cone>
@@ -27,7 +36,7 @@ pub fn read_cone(cell: &[u8], nodes: usize) -> Option<Cone>
     if !are_sources(&support[..n], nodes) || linear_span(&coefs[..n]) > 32 {
         return None;
     }
-    let known = read_entries(&cell[1 + 3 * n..], &coefs[..n])?;
+    let known = read_entries(entries_of(cell, n), &coefs[..n])?;
     Some(Cone {
         n,
         support,

@@ -1,26 +1,13 @@
 // The known entries of a cell, made anew from the truths that they give the rows.
-ghost use Rattle.std.specs.Prelude.{◌≡◌, map, ◌≤◌, length};
-ghost use Rattle.laws.specs.Over.{over};
+ghost use Rattle.std.specs.Prelude.{◌≡◌, ◌≤◌, length};
 ghost use Rattle.rules.specs.Builder.{known_entries};
 ghost use Rattle.rules.specs.Cone.{linear_table};
-ghost use Rattle.rules.specs.Span.{least, span};
+ghost use Rattle.rules.specs.Span.{span};
 ghost use Rattle.known_rows.specs.Entries.{first_numbers};
-ghost use Rattle.cone.specs.Fields.{entry_at};
 ghost use Rattle.restore_cones.specs.Cell.{truths_in};
 
 use linear::{linear_least, linear_table, rows_of};
 use rules::Entry;
-
-// The entry at each value, the values counted from the least one.
-fn look_up(entries: &[u8], low: i32, values: &[i32], truths: &mut [u8])
-    requires { (low ≡ least values.now) × ((span values.now ≤ length entries.now) × (length values.now ≤ length truths.old)) }
-    ensures { truths.new ≡ over (map (entry_at low entries.now) values.now) truths.old }
-{
-    // An index: of a zip over `iter_mut` the proof learns nothing of what was written (docs/proof-notes.md).
-    for (i, &value) in values.iter().enumerate() {
-        truths[i] = entries[known_rows::offset(value, low)];
-    }
-}
 
 // None where a row has no truth: each has the entry at its value.
 pub fn read_entries(entries: &[u8], coefs: &[i64]) -> Option<[Entry; 32]>
@@ -35,6 +22,6 @@ pub fn read_entries(entries: &[u8], coefs: &[i64]) -> Option<[Entry; 32]>
     linear_table(coefs, &mut values);
     let values = &values[..rows];
     let mut truths = [0; 2048];
-    look_up(entries, low, values, &mut truths);
+    known_rows::look_up(entries, low, values, &mut truths);
     known_rows::enter(values, &truths[..rows], low)
 }

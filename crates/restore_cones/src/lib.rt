@@ -1,5 +1,5 @@
 // The cones that are kept in bytes, read back, each field of a cell tested (retuning's `cone_cell`).
-// It leans on `linear`, `known_rows`, `cone` and the kit's `arrayvec`.
+// It leans on `linear`, `support`, `known_rows`, `cone` and the kit's `arrayvec`.
 #![tactic(auto)]
 
 mod cell;

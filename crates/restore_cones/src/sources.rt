@@ -1,8 +1,9 @@
 // The sources and the coefficients of a cell.
 ghost use Rattle.std.specs.Prelude.{◌≡◌, true, ◌≤◌, pos, ◌-ℤ◌, length};
 ghost use Rattle.laws.specs.Tabulate.{tabulate};
-ghost use Rattle.rules.specs.NetworkText.{all_different};
 ghost use Rattle.restore_cones.specs.Cell.{source_at, coefficient_at, Sources};
+
+use support::are_different;
 
 // A number of two bytes for each source, and for each place behind them.
 pub fn read_sources(cell: &[u8]) -> [usize; 11]
@@ -25,20 +26,6 @@ pub fn read_coefficients(cell: &[u8], start: usize) -> [i64; 11]
     ensures { result ≡ tabulate 11 (coefficient_at cell.now start) }
 {
     std::array::from_fn(|i| coefficient(cell[start + i]))
-}
-
-#[tactic(auto, unfolding(rules::specs::NetworkText::all_different))]
-fn are_different(nodes: &[usize]) -> bool
-    ensures { result ≡ all_different nodes.now }
-{
-    let mut rest = nodes;
-    while let Some((first, others)) = rest.split_first() {
-        if others.contains(first) {
-            return false;
-        }
-        rest = others;
-    }
-    true
 }
 
 // Different nodes of so many.

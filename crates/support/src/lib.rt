@@ -1,9 +1,11 @@
-// The sources of two cones together, and the masks by which a row of one moves to its next row over them. It leans on no other code.
+// Sources: whether all are different, those of two cones together, and the masks by which a row of one moves to its next row over them.
+// It leans on no other code.
 #![tactic(auto)]
 
 ghost use Rattle.std.specs.Prelude.{◌≡◌, map, ℕ, ◌+◌, ◌≤◌, ◌<◌, ◌^◌, ◌==◌, length, take, get_or};
 ghost use Rattle.std.specs.List.{position as first_place};
 ghost use Rattle.rules.specs.Composition.{union_support};
+ghost use Rattle.rules.specs.NetworkText.{all_different};
 ghost use Rattle.rules.specs.Store.{coefficient_of};
 ghost use Rattle.theorems.specs.Terms.{terms_over};
 ghost use Rattle.support.specs.Rows.{hit_mask, toggle_mask};
@@ -13,6 +15,21 @@ ghost use Rattle.support.specs.Rows.{hit_mask, toggle_mask};
 pub struct Support {
     pub n: usize,
     pub nodes: [usize; 11],
+}
+
+// No node stands twice.
+#[tactic(auto, unfolding(rules::specs::NetworkText::all_different))]
+pub fn are_different(nodes: &[usize]) -> bool
+    ensures { result ≡ all_different nodes.now }
+{
+    let mut rest = nodes;
+    while let Some((first, others)) = rest.split_first() {
+        if others.contains(first) {
+            return false;
+        }
+        rest = others;
+    }
+    true
 }
 
 // Where the node stands first, if it stands there.

@@ -187,7 +187,7 @@ fn show_merged(
 }
 
 // The union with both rows of coefficients, the three tables, and four cones simplified: both, and both merged, the left one once and as often as the right span.
-#[tactic(auto, using(cone::specs::View::span_narrow, compose::specs::Basis::few_rows, compose::specs::Basis::few_room, crate::specs::Made::taken_rows))]
+#[tactic(auto, using(cone::specs::View::span_narrow, linear::specs::Table::few_rows, compose::specs::Basis::few_room, crate::specs::Made::taken_rows))]
 fn run(
     rt: &impl Print,
     s: Settings,

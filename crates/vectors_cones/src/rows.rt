@@ -3,7 +3,6 @@ ghost use Rattle.std.specs.Prelude.{◌≡◌, ℕ, ◌≤◌, ◌<◌, ◌^◌,
 ghost use Rattle.std.specs.Bool.{OnTrue};
 ghost use Rattle.rules.specs.Builder.{known_entries};
 ghost use Rattle.rules.specs.Cone.{linear_table};
-ghost use Rattle.rules.specs.NetworkText.{all_different};
 ghost use Rattle.rules.specs.Span.{span};
 ghost use Rattle.scale.specs.Limits.{Within};
 ghost use Rattle.known_rows.specs.Entries.{first_numbers};
@@ -11,6 +10,7 @@ ghost use Rattle.known_rows.specs.Entries.{first_numbers};
 use cone::Cone;
 use linear::linear_span;
 use rules::Entry;
+use support::are_different;
 use vectors::{FromTokens, Token, Tokens};
 
 // The first n sources and coefficients, and a truth for each assignment of them. As `Cone`, whose fields they become.
@@ -21,20 +21,6 @@ pub struct ConeRows {
     pub coefs: [i64; 11],
     pub truth: [u8; 2048],
     ghost few: { n ≤ 11 },
-}
-
-#[tactic(auto, unfolding(rules::specs::NetworkText::all_different))]
-fn are_different(nodes: &[usize]) -> bool
-    ensures { result ≡ all_different nodes.now }
-{
-    let mut rest = nodes;
-    while let Some((first, others)) = rest.split_first() {
-        if others.contains(first) {
-            return false;
-        }
-        rest = others;
-    }
-    true
 }
 
 // They are nodes of a store.
@@ -58,7 +44,7 @@ fn is_narrow(coefs: &[i64]) -> bool
 }
 
 // The truth at each value of the coefficients' rows, where each value has one truth.
-#[tactic(auto, using(compose::specs::Basis::few_rows, crate::specs::Made::taken_rows, crate::specs::Made::narrow_small, crate::specs::Made::values_first))]
+#[tactic(auto, using(linear::specs::Table::few_rows, linear::specs::Span::narrow_small, linear::specs::Table::values_first, crate::specs::Made::taken_rows))]
 fn enter_rows(coefs: &[i64], truth: &[u8]) -> Option<[Entry; 32]>
     requires { (length coefs.now ≤ 11) × ((length truth.now ≡ 2 ^ length coefs.now) × (span (linear_table coefs.now) ≤ 32)) }
     ensures { first_numbers (span (linear_table coefs.now)) result ≡ known_entries (linear_table coefs.now) truth.now }
@@ -106,7 +92,7 @@ impl ConeRows {
     }
 
     // The cone, where the rows are those of one.
-    #[tactic(auto, using(compose::specs::Basis::few_rows))]
+    #[tactic(auto, using(linear::specs::Table::few_rows))]
     pub fn cone(&self) -> Option<Cone>
         ensures { IfSome result (λ c. cone_of c ≡ rows_of self.now) }
     {

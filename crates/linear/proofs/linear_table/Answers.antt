@@ -1,4 +1,4 @@
-use Rattle.std.proofs.Common.{arith, ◌≡◌, refl, sym, ap, subst, ◌∙◌, ◌+◌, List, [], ◌∷◌, ◌++◌, append-nil, ◌≤◌, lit<, pow_mono, to_z-of_z, ℤ, pos, nat_abs, length, set, drop, length-set, w32, w64, to_z, of_z, SFits}
+use Rattle.std.proofs.Common.{arith, ◌≡◌, refl, sym, ap, subst, ◌∙◌, ◌+◌, List, [], ◌∷◌, ◌++◌, append-nil, ◌≤◌, lit<, to_z-of_z, ℤ, pos, nat_abs, length, set, drop, length-set, w32, w64, to_z, of_z, SFits}
 use Rattle.std.proofs.Math.Seq.{drop-length}
 use Rattle.std.specs.Slice.Iter.{iter_rest}
 use Rattle.std.specs.Iterator.Adapters.{rev_source}
@@ -8,7 +8,7 @@ use native.Mathlib.Nat.{one-le-pow}
 use Rattle.laws.specs.Over.{over}
 use Rattle.rules.specs.Cone.{linear_table}
 use Rattle.scale.specs.Limits.{Within}
-use Rattle.linear.specs.Table.{shifted}
+use Rattle.linear.specs.Table.{shifted, few_rows}
 use Rattle.linear.proofs.linear_table.Goals as goal
 use Rattle.linear.proofs.linear_table.Goals.{In-Some}
 
@@ -46,7 +46,7 @@ module _ (c : In-Some) where
   room = omega (arith, length-set c.args.table.now 0 (pos 0), table_room cs (length rest), doubled cs rest coef all, size, c.loop-c.invariant.long)
 
   few : c.loop-c.half + c.loop-c.half ≤ 2048
-  few = omega (arith, table_room cs (length rest), doubled cs rest coef all, size, pow_mono {i = length cs} {j = 11} c.requires.0)
+  few = omega (arith, table_room cs (length rest), doubled cs rest coef all, size, few_rows (length cs) c.requires.0)
 
 pub slice_set_of-table : goal.slice_set_of-table
 slice_set_of-table c = omega (arith, one-le-pow (length c.args.coefs.now) 2 (lit< tt))

@@ -7,7 +7,7 @@ use Rattle.rules.specs.Cone.{linear_table}
 use Rattle.rules.specs.Span.{span}
 use Rattle.known_rows.specs.Entries.{first_numbers}
 use Rattle.cone.specs.declared.Cone.{Cone}
-use Rattle.theorems.specs.ConeValues.{linear_table-length}
+use Rattle.linear.specs.Table.{values_first}
 use Rattle.cone.specs.View.{cone_of, rows_fit, view_rows}
 use Rattle.bootstrap.proofs.form.enter_form.Goals as goal
 use Rattle.bootstrap.proofs.form.enter_form.Goals.{After-rows_of-rows}
@@ -17,7 +17,7 @@ module _ (k : Cone) (coefs : List ℤ) (size : length coefs ≡ 11) (n : ℕ) (e
   values_are : (vs d : List ℤ) → vs ≡ over (linear_table (take k.n coefs)) d → take n vs ≡ linear_table (take k.n coefs)
   values_are vs d f =
       let m : length (take k.n coefs) ≡ k.n = length-take-le k.n coefs (omega (arith, k.few)) in
-      rw f (take-over (linear_table (take k.n coefs)) d n (linear_table-length (take k.n coefs) ∙ ap (λ j. 2 ^ j) m ∙ sym e))
+      values_first (take k.n coefs) vs d n (e ∙ ap (λ j. 2 ^ j) (sym m)) f
 
   truths_are : (ts d : List ℕ) → ts ≡ over (cone_of k).truth d → take n ts ≡ (cone_of k).truth
   truths_are ts d f = rw f (take-over (cone_of k).truth d n (view_rows k ∙ sym e))

@@ -6,7 +6,8 @@ use Rattle.rules.specs.Span.{least, least_from, greatest, greatest_from, span}
 use Rattle.theorems.specs.KnownRows.{hits, is_at}
 use Rattle.rules.specs.declared.Entry.{Entry}
 use Rattle.rotation.specs.Entries.{number_of_entry, numbers, number_back}
-use Rattle.cone.specs.Fields.{cone_from, Fits, fits, truth_at, entry_at}
+use Rattle.cone.specs.Fields.{cone_from, Fits, fits, truth_at}
+use Rattle.known_rows.specs.Entries.{entry_at}
 use Rattle.cone.specs.View.{cone_of}
 use Rattle.rules.specs.Builder.{entry_of}
 use Rattle.theorems.specs.LinearTables.{total}

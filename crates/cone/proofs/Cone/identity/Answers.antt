@@ -8,7 +8,8 @@ use Rattle.theorems.specs.KnownRows.{hits, is_at}
 use Rattle.rules.specs.declared.Entry.{Entry}
 use Rattle.rules.specs.declared.Entry.TheVariants.{Zero, One}
 use Rattle.rotation.specs.Entries.{numbers}
-use Rattle.cone.specs.Fields.{cone_from, Fits, fits, truth_at, entry_at}
+use Rattle.cone.specs.Fields.{cone_from, Fits, fits, truth_at}
+use Rattle.known_rows.specs.Entries.{entry_at}
 use Rattle.cone.specs.View.{cone_of}
 use Rattle.theorems.specs.LinearTables.{total}
 use Rattle.cone.proofs.Cone.identity.Goals as goal

@@ -5,8 +5,9 @@ use Rattle.laws.specs.Over.{over, take-over}
 use Rattle.laws.specs.Tail.{head_length}
 use Rattle.rules.specs.Span.{least, span}
 use Rattle.rotation.specs.Entries.{numbers}
+use Rattle.known_rows.specs.Entries.{entry_at}
 use Rattle.cone.specs.declared.Cone.{Cone}
-use Rattle.cone.specs.Fields.{entry_at, truth_at}
+use Rattle.cone.specs.Fields.{truth_at}
 use Rattle.cone.specs.View.{cone_of, span_narrow, rows_are}
 use Rattle.cone.proofs.table.truths_of.Goals as goal
 use Rattle.cone.proofs.table.truths_of.Goals.{After-low_of}
@@ -26,9 +27,9 @@ module _ (k : Cone) (cs : List ℤ) (are : cs ≡ (cone_of k).coefficients) (cou
   unfolding rules.cone_span
   narrow = rw values_are (span_narrow k)
 
-  truths_are : (low : ℤ) → low ≡ least (rules.values (cone_of k)) → map (entry_at low (numbers k.known)) (take n vs) ≡ (cone_of k).truth
+  truths_are : (low : ℤ) (entries : List ℕ) → low ≡ least (rules.values (cone_of k)) → entries ≡ numbers k.known → map (entry_at low entries) (take n vs) ≡ (cone_of k).truth
   unfolding cone_of rules.values truth_at
-  truths_are low l = ap₂ (λ z v. map (entry_at z (numbers k.known)) v) l values_are
+  truths_are low entries l s = rw s (ap₂ (λ z v. map (entry_at z (numbers k.known)) v) l values_are)
 
 low-is : (c : After-low_of) → to_z w32 (of_z w32 c.low_of.result) ≡ least (rules.values (cone_of c.args.cone))
 low-is c = read_back-at w32 c.low_of.result c.low_of.type_inv ∙ c.low_of.ensures
@@ -37,18 +38,18 @@ pub look_up-requires : goal.look_up-requires
 look_up-requires c =
     let k = c.coefficients.ensures in
     let e = values_are c.args.cone _ k.are k.count _ _ c.rows_of.result c.rows_of.ensures c.linear_table.ensures in
-    let n : c.rows_of.result ≡ length (take c.rows_of.result c.linear_table.new.table) = head_length _ c.rows_of.result (search rules) in (
-      low-is (goal.at.look_up-requires c).After-low_of ∙ ap least (sym e),
-      (
-        narrow c.args.cone _ k.are k.count _ _ c.rows_of.result c.rows_of.ensures c.linear_table.ensures,
-        omega (arith, n, c.rows_of.ensures, c.requires.1),
-      ),
-    )
+    let n : c.rows_of.result ≡ length (take c.rows_of.result c.linear_table.new.table) = head_length _ c.rows_of.result (search rules) in
+    let long : length c.numbers_of-known.result ≡ 32 = search rules in
+    record {
+      low_value = low-is (goal.at.look_up-requires c).After-low_of ∙ ap least (sym e);
+      values_in_bounds = rw long (narrow c.args.cone _ k.are k.count _ _ c.rows_of.result c.rows_of.ensures c.linear_table.ensures);
+      truths_len = omega (arith, n, c.rows_of.ensures, c.requires.1);
+    }
 
 pub returns : goal.returns
 returns c =
     let k = c.coefficients.ensures in (
       seen c.args.cone _ k.are k.count _ _ c.rows_of.result c.rows_of.ensures c.linear_table.ensures,
       c.look_up.ensures
-          ∙ ap (λ l. over l c.args.truth.now) (truths_are c.args.cone _ k.are k.count _ _ c.rows_of.result c.rows_of.ensures c.linear_table.ensures _ (low-is (goal.at.returns c).After-low_of)),
+          ∙ ap (λ l. over l c.args.truth.now) (truths_are c.args.cone _ k.are k.count _ _ c.rows_of.result c.rows_of.ensures c.linear_table.ensures _ _ (low-is (goal.at.returns c).After-low_of) c.numbers_of-known.ensures),
     )

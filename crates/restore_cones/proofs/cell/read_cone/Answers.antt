@@ -1,6 +1,5 @@
-use Rattle.std.proofs.Common.{rules, refl, ◌≡◌, sym, ◌∙◌, ◌≤◌, ◌+◌, ◌*◌, ℕ, List, length, ◌-◌, arith, take, drop, length-take-le, true≢false}
+use Rattle.std.proofs.Common.{rules, refl, ◌≡◌, sym, ◌∙◌, ◌≤◌, ◌+◌, ◌*◌, ℕ, List, length, arith, drop, length-take-le, true≢false}
 use Rattle.cone.specs.View.{cone_of}
-use Rattle.laws.specs.Tail.{tail_part}
 use Rattle.theorems.specs.Rows.{none_not}
 use Rattle.restore_cones.proofs.Bytes.{coefficients_small}
 use Rattle.restore_cones.proofs.Read.{Fields, Judged, read_fits, read_truths, few_good, sources_good, narrow_good, known_good, cone_back}
@@ -8,24 +7,19 @@ use Rattle.restore_cones.proofs.cell.read_cone.Goals as goal
 use Rattle.restore_cones.proofs.cell.read_cone.Goals.{After-read_coefficients-coefs, In_ok-known}
 use Rattle.restore_cones.proofs.cell.read_cone.Goals.{then-not-are_sources-via-then-not-are_sources, then-not-are_sources-via-else-not-are_sources+then-linear_span-gt32}
 
--- what was read, with the entries as they are lent, and what was judged
-lent : ℕ → List ℕ → List ℕ
-lent n cell = take (length cell - (1 + 3 * n)) (drop (1 + 3 * n) cell)
-
+-- what was read, and what was judged
 fields : (c : After-read_coefficients-coefs) → let n = c.from-n.result in let cell = c.args.cell.now in
-    Fields n cell c.read_sources-support.result (lent n cell) c.read_coefficients-coefs.result
-unfolding lent
-fields c =
+    (entries : List ℕ) → entries ≡ drop (1 + 3 * n) cell → Fields n cell c.read_sources-support.result entries c.read_coefficients-coefs.result
+fields c entries e =
     record {
       count = c.from-n.ensures;
       sources = c.read_sources-support.ensures;
       coefficients = c.read_coefficients-coefs.ensures;
-      rest = tail_part c.args.cell.now (1 + 3 * c.from-n.result);
+      rest = e;
     }
 
 judged : (c : In_ok-known) → let n = c.from-n.result in
-    Judged c.args.nodes n c.read_sources-support.result (lent n c.args.cell.now) c.read_coefficients-coefs.result c.in_ok-known.known
-unfolding lent
+    Judged c.args.nodes n c.read_sources-support.result c.entries_of.result.now c.read_coefficients-coefs.result c.in_ok-known.known
 judged c =
     record {
       near = c.requires.near;
@@ -51,16 +45,16 @@ linear_span-requires c =
 pub returns-then-not-are_sources-clause-complete :
     goal.returns-then-not-are_sources-clause-complete
 returns-then-not-are_sources-clause-complete c k g is =
-    let f = fields (goal.at.returns-then-not-are_sources-clause-complete c).After-read_coefficients-coefs in
+    let f = fields (goal.at.returns-then-not-are_sources-clause-complete c).After-read_coefficients-coefs _ refl in
     elim c.then-not-are_sources.branch [
       | then-not-are_sources-via-then-not-are_sources w ↦ true≢false (sym (c.are_sources.ensures.complete (sources_good f g is)) ∙ w.if-not-are_sources.true)
       | then-not-are_sources-via-else-not-are_sources+then-linear_span-gt32 w ↦ absurd (omega (arith, w.linear_span.ensures, w.if-linear_span-gt32.true, narrow_good f g is))
     ]
 
 pub returns-in_err-known-clause-complete : goal.returns-in_err-known-clause-complete
-unfolding lent
 returns-in_err-known-clause-complete c k g is =
-    none_not g.entries.0 (c.in_err-known.ensures ∙ known_good (fields (goal.at.returns-in_err-known-clause-complete c).After-read_coefficients-coefs) g is)
+    none_not g.entries.0
+    (c.in_err-known.ensures ∙ known_good (fields (goal.at.returns-in_err-known-clause-complete c).After-read_coefficients-coefs _ c.entries_of.ensures) g is)
 
 pub invariant_of-result : goal.invariant_of-result
 invariant_of-result c =
@@ -83,4 +77,4 @@ returns-clause-sound c = record { below = record { at = (c.if-not-are_sources.en
 pub returns-clause-complete : goal.returns-clause-complete
 unfolding cone_of
 returns-clause-complete c k g is =
-    cone_back (fields (goal.at.returns-clause-complete c).After-read_coefficients-coefs) g is c.in_ok-known.known (read_truths (judged (goal.at.returns-clause-complete c).In_ok-known))
+    cone_back (fields (goal.at.returns-clause-complete c).After-read_coefficients-coefs _ c.entries_of.ensures) g is c.in_ok-known.known (read_truths (judged (goal.at.returns-clause-complete c).In_ok-known))

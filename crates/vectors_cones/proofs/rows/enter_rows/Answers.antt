@@ -3,16 +3,15 @@ use Rattle.rules.specs.declared.Entry.{Entry}
 use Rattle.rules.specs.Builder.{known_entries}
 use Rattle.rules.specs.Cone.{linear_table}
 use Rattle.rules.specs.Span.{span}
-use Rattle.compose.specs.Basis.{few_rows}
 use Rattle.known_rows.specs.Entries.{first_numbers}
-use Rattle.vectors_cones.specs.Made.{values_first}
+use Rattle.linear.specs.Table.{few_rows, values_first}
 use Rattle.vectors_cones.proofs.rows.enter_rows.Goals as goal
 use Rattle.vectors_cones.proofs.rows.enter_rows.Goals.{After-linear_table}
 
 -- the rows' values
 module _ (c : After-linear_table) where
   first : take (length c.args.truth.now) c.linear_table.new.table ≡ linear_table c.args.coefs.now
-  first = values_first (length c.args.truth.now) c.args.coefs.now _ c.linear_table.new.table c.requires.1.0 c.linear_table.ensures
+  first = values_first c.args.coefs.now c.linear_table.new.table _ (length c.args.truth.now) c.requires.1.0 c.linear_table.ensures
 
 -- what was entered, said of them
 rows_known : (vs ws : List ℤ) (ts : List ℕ) (r : Option (List Entry)) → vs ≡ ws → first_numbers (span vs) r ≡ known_entries vs ts → first_numbers (span ws) r ≡ known_entries ws ts

@@ -1,6 +1,6 @@
 use Rattle.std.proofs.Common.{◌≡◌, length}
 use Rattle.rules.specs.NetworkText.{all_different}
-use Rattle.vectors_cones.proofs.rows.are_different.Given as goal
+use Rattle.support.proofs.are_different.Given as goal
 
 -- No node before those that are left stands twice.
 abbrev pub invariant-loop-first : goal.invariant-loop-first

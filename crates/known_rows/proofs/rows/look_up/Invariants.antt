@@ -1,7 +1,7 @@
 use Rattle.std.proofs.Common.{map}
 use Rattle.laws.specs.Front.{Filling}
-use Rattle.cone.specs.Fields.{entry_at}
-use Rattle.restore_cones.proofs.entries.look_up.Given as goal
+use Rattle.known_rows.specs.Entries.{entry_at}
+use Rattle.known_rows.proofs.rows.look_up.Given as goal
 
 -- The rows passed have their entries.
 abbrev pub invariant-loop-i : goal.invariant-loop-i

@@ -6,9 +6,9 @@ use Rattle.laws.specs.Over.{over, front-over}
 use Rattle.laws.specs.Lists.{map_at}
 use Rattle.rules.specs.Span.{least}
 use Rattle.theorems.specs.Spans.{least_le, offset_lt}
-use Rattle.cone.specs.Fields.{entry_at}
-use Rattle.restore_cones.proofs.entries.look_up.Goals as goal
-use Rattle.restore_cones.proofs.entries.look_up.Goals.{Start, After-offset}
+use Rattle.known_rows.specs.Entries.{entry_at}
+use Rattle.known_rows.proofs.rows.look_up.Goals as goal
+use Rattle.known_rows.proofs.rows.look_up.Goals.{Start, After-offset}
 
 -- one row's entry, and the rows at the end
 looked : (low : ℤ) (entries : List ℕ) (values : List ℤ) (i k : ℕ) → i < length values → k ≡ nat_abs (get_or values i (pos 0) -ℤ low)
@@ -36,13 +36,13 @@ loop-i-init c = filling_start _ _
 
 pub offset-requires : goal.offset-requires
 offset-requires c =
-    below _ _ (read_back-at w32 _ (omega arith)) (low-is (goal.at.offset-requires c).Start ∙ c.requires.0) (least_le c.args.values.now c.loop-i.i c.loop-i-test.true)
+    below _ _ (read_back-at w32 _ (omega arith)) (low-is (goal.at.offset-requires c).Start ∙ c.requires.low_value) (least_le c.args.values.now c.loop-i.i c.loop-i-test.true)
 
 inside : (c : After-offset) → c.offset.result < length c.args.entries.now
 inside c =
     let at : c.offset.result ≡ nat_abs (get_or c.args.values.now c.loop-i.i (pos 0) -ℤ least c.args.values.now) =
-    placed _ _ _ _ _ c.offset.ensures.0 (read_back-at w32 _ (omega arith)) (to_z-of_z c.ranges.low ∙ c.requires.0) in
-    omega (arith, at, c.requires.1.0, offset_lt c.args.values.now c.loop-i.i c.loop-i-test.true)
+    placed _ _ _ _ _ c.offset.ensures.0 (read_back-at w32 _ (omega arith)) (to_z-of_z c.ranges.low ∙ c.requires.low_value) in
+    omega (arith, at, c.requires.values_in_bounds, offset_lt c.args.values.now c.loop-i.i c.loop-i-test.true)
 
 pub bounds-entries-offset : goal.bounds-entries-offset
 bounds-entries-offset c = inside (goal.at.bounds-entries-offset c).After-offset
@@ -53,9 +53,9 @@ loop-i-preserved c =
     let h : o.i < length c.args.values.now = c.loop-i-test.true in
     let at : c.offset.result ≡ nat_abs (get_or c.args.values.now o.i (pos 0) -ℤ to_z w32 (of_z w32 c.args.low)) =
     placed (get_or c.args.values.now o.i (pos 0)) _ _ _ _ c.offset.ensures.0 (read_back-at w32 _ (omega arith)) refl in
-    filling_step _ _ o.truths o.i _ 0 o.invariant (looked _ c.args.entries.now c.args.values.now o.i c.offset.result h at) (rw length-map h) (omega (arith, c.requires.1.1))
+    filling_step _ _ o.truths o.i _ 0 o.invariant (looked _ c.args.entries.now c.args.values.now o.i c.offset.result h at) (rw length-map h) (omega (arith, c.requires.truths_len))
 
 pub returns : goal.returns
 returns c =
     let o = c.loop-i in
-    whole _ _ c.args.entries.now c.args.values.now _ o.truths o.i (low-is (goal.at.returns c).Start) o.invariant (omega (arith, c.loop-i-test.false)) c.requires.1.1
+    whole _ _ c.args.entries.now c.args.values.now _ o.truths o.i (low-is (goal.at.returns c).Start) o.invariant (omega (arith, c.loop-i-test.false)) c.requires.truths_len
