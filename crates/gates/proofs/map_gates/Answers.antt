@@ -1,9 +1,25 @@
-use Rattle.std.proofs.Common.{◌≡◌, refl, sym, ◌∙◌, ap, map, Err, arith, rules}
+use Rattle.std.proofs.Common.{◌≡◌, refl, sym, ◌∙◌, ap, map, Err, arith, rules, get_or, []}
 use Rattle.std.specs.Prelude.{is_ok}
+use Rattle.rules.specs.declared.Wire.TheVariants.{Const}
 use Rattle.rules.specs.Mapper.{at_line}
 use Rattle.forms.specs.Forms.{output_of}
+use Rattle.circuit.specs.declared.Function.TheVariants.{Unary}
+use Rattle.circuit.specs.declared.Gate.{Gate}
+use Rattle.gates.specs.Wired.{state_of}
+use Rattle.gates.specs.Gates.{gate_next, state_read}
 use Rattle.gates.specs.Loop.{gates_start, begun_start, lined, turn_refused, turn-next, gates_done, begun_done, next_asks, worked_as, worked_next, worked_start}
 use Rattle.gates.proofs.map_gates.Goals as goal
+use Rattle.gates.proofs.map_gates.Goals.{After-map_err}
+
+-- what came of the gate whose turn it was
+module _ (c : After-map_err) where
+  -- past the gates stands any one
+  abbrev gate : Gate
+  gate = get_or c.args.gates.now c.loop-gate.gate-index (record { line = 0; function = Unary (Const 0) [] })
+
+  turned : state_read c.map_one-next.new.store c.map_one-next.new.wires.items c.map_err.result
+      ≡ at_line gate.line (gate_next c.args.s.settings (map output_of c.args.outputs.now) (state_of c.loop-gate.store c.loop-gate.wires.items) gate.function)
+  turned = lined gate.line _ (λ e d k. search rules) c.map_one-next.result _ c.map_err.ensures.cases _ _ ∙ search c.map_one-next.ensures.is
 
 pub loop-gate-init : goal.loop-gate-init
 loop-gate-init c = record { worked = worked_start _ _ _ c.requires.wired; same = refl; count = omega arith; all = omega arith }
@@ -15,9 +31,7 @@ pub returns-in_err-map_err : goal.returns-in_err-map_err
 returns-in_err-map_err c =
     let o = c.loop-gate in
     let e : c.from_residual.result ≡ Err c.in_err-map_err.field-0.0 = search rules in
-    let t = turn_refused _ _ _ o.gate-index _ c.loop-gate-test.true _ _ _ _ _
-    (lined _ _ (λ e d k. search rules) _ _ c.map_err.ensures.cases _ _ ∙ ap (at_line _) c.map_one-next.ensures.is)
-    _ c.in_err-map_err.was _ e in
+    let t = turn_refused _ _ _ o.gate-index _ c.loop-gate-test.true _ _ _ _ _ (turned (goal.at.returns-in_err-map_err c).After-map_err) _ c.in_err-map_err.was _ e in
     record {
       is = t.0 ∙ o.invariant.same ∙ gates_start _ _ _ _ _;
       begun = omega (
@@ -33,9 +47,7 @@ returns-in_err-map_err c =
 pub loop-gate-preserved : goal.loop-gate-preserved
 loop-gate-preserved c =
     let o = c.loop-gate in
-    let t = turn-next _ _ _ o.gate-index _ c.loop-gate-test.true _ _ _ _ _
-    (lined _ _ (λ e d k. search rules) _ _ c.map_err.ensures.cases _ _ ∙ ap (at_line _) c.map_one-next.ensures.is)
-    _ c.in_ok-map_err.was in
+    let t = turn-next _ _ _ o.gate-index _ c.loop-gate-test.true _ _ _ _ _ (turned (goal.at.loop-gate-preserved c).After-map_err) _ c.in_ok-map_err.was in
     record {
       worked = worked_next _ _ o.invariant.worked (worked_as _ (sym c.map_err.ensures.variant ∙ ap is_ok c.in_ok-map_err.was) c.map_one-next.ensures.works);
       same = t.0 ∙ o.invariant.same;

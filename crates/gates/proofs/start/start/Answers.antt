@@ -1,5 +1,4 @@
-use Rattle.std.proofs.Common.{◌∙◌, sym, ap, subst, arith, []}
-use Rattle.rules.specs.Cone.{identity}
+use Rattle.std.proofs.Common.{sym, subst, arith, []}
 use Rattle.forms.specs.declared.Input as I
 use Rattle.gates.specs.Start.{Started, good_at, started_count, started_none, started_more, input_next, inputs_before}
 use Rattle.gates.proofs.start.start.Goals as goal
@@ -24,5 +23,6 @@ unfolding no_input
 loop-i-preserved c =
     let q = c.deref-input-items.ensures.0 in
     let l = c.loop-i-test.true in
+    let n = inputs_before _ _ q _ no_input l in
     subst (λ inputs. Started inputs c.put_input.new.store c.push.new.self.items) (sym (input_next _ _ q _ no_input l))
-    (started_more _ _ _ c.loop-i.invariant _ _ c.put_input.ensures _ _ (c.identity.ensures ∙ ap identity (sym (inputs_before _ _ q _ no_input l))) c.push.ensures.items)
+    (started_more _ _ _ c.loop-i.invariant _ _ c.put_input.ensures _ _ (search (c.identity.ensures, n)) c.push.ensures.items)
