@@ -17,6 +17,7 @@ use Rattle.retuning.specs.Prefix.{SamePrefix, before-same}
 use Rattle.retuning.specs.Retune.{before, kept_before, Unaltered, NoState, Left}
 use Rattle.retuning.specs.SoundHeader.{good_header}
 use Rattle.retuning.specs.StateBytes.{nodes-length}
+use Rattle.restore.specs.Standing.{StandsIn}
 
 -- ---- Nodes and cones.
 
@@ -49,9 +50,9 @@ module _ (c : Circuit) (sound : Sound c) (i : ℕ) (state : List ℕ) (st : Stat
 
 -- In a buffer that nobody altered the header alone tells that the state stands there.
 pub header_told : (c : Circuit) → Sound c → (i : ℕ) (state : List ℕ) → Unaltered state → take header_length state ≡ header_bytes c.settings c.inputs (take i c.gates) c.outputs
-    → (st : State) × (before c i ≡ Good st) × (take kept_length state ≡ kept_bytes (kept_before c i st))
+    → (st : State) × StandsIn state c i st
 header_told c sound i state (NoState z) h = absurd (zero_no-header header_length state c.settings c.inputs (take i c.gates) c.outputs z h)
 header_told c sound i state (Left text d e j l st m front) h =
     let good = read_sound text d e in
     let same : SamePrefix d j c i = header_same (good_header d j good) (good_header c i sound) (sym (header_first d good j state st front) ∙ h) in
-    (st, before-same d c j i st same m, front ∙ kept-same d c j i st same)
+    (st, (before-same d c j i st same m, front ∙ kept-same d c j i st same))

@@ -1,16 +1,16 @@
 // The state before a chosen gate, read back from a buffer that holds it. It leans on `header`, `restore_nodes` and `restore_cones`.
 #![tactic(auto)]
 
-ghost use Rattle.std.specs.Prelude.{◌≡◌, true, ◌+◌, ◌*◌, ◌<◌, ◌≤◌, length, take};
-ghost use Rattle.rules.specs.Form.{Good};
+ghost use Rattle.std.specs.Prelude.{◌≡◌, true, ◌<◌, ◌≤◌, length};
 ghost use Rattle.rules.specs.Mapper.{State};
 ghost use Rattle.theorems.specs.SoundCircuits.{Sound};
 ghost use Rattle.retuning.specs.GoodState.{GoodState};
-ghost use Rattle.retuning.specs.Kept.{state_bytes, kept_bytes, kept_length};
-ghost use Rattle.retuning.specs.Retune.{before, kept_before, Unaltered};
+ghost use Rattle.retuning.specs.Kept.{state_bytes, kept_length};
+ghost use Rattle.retuning.specs.Retune.{Unaltered};
 ghost use Rattle.circuit.specs.View.{circuit_of};
 ghost use Rattle.nodes.specs.Store.{store_of, Centred};
 ghost use Rattle.gates.specs.Wired.{Wired, state_of};
+ghost use Rattle.restore.specs.Standing.{StandsIn, Reached};
 
 use arrayvec::ArrayVec;
 use circuit::Circuit;
@@ -52,9 +52,9 @@ pub fn restore(
     requires long { kept_length ≤ length state.now }
     requires sound { Sound (circuit_of settings circuit.now) }
     requires place { place < length circuit.now.gates.items }
-    ensures right { (st : State) → before (circuit_of settings circuit.now) place ≡ Good st → take kept_length state.now ≡ kept_bytes (kept_before (circuit_of settings circuit.now) place st) → (result ≡ true) × (state_of store.new wires.new.items ≡ st) }
-    ensures told { Unaltered state.now → result ≡ true → (st : State) × (before (circuit_of settings circuit.now) place ≡ Good st) × (take kept_length state.now ≡ kept_bytes (kept_before (circuit_of settings circuit.now) place st)) × (state_of store.new wires.new.items ≡ st) }
-    ensures stands { result ≡ true → Wired store.new wires.new.items (length circuit.now.inputs.items + place) × (length (store_of store.new) ≤ length circuit.now.inputs.items + 6 * place) × Centred p store.new }
+    ensures right { (st : State) → StandsIn state.now (circuit_of settings circuit.now) place st → (result ≡ true) × (state_of store.new wires.new.items ≡ st) }
+    ensures told { Unaltered state.now → result ≡ true → (st : State) × (StandsIn state.now (circuit_of settings circuit.now) place st × (state_of store.new wires.new.items ≡ st)) }
+    ensures reached { result ≡ true → Reached p circuit.now place store.new wires.new.items }
 {
     let inputs = circuit.inputs.len();
     is_header(

@@ -30,7 +30,8 @@ use Rattle.mapper.specs.Entry.{used_sound}
 use Rattle.restore.specs.SmallBefore.{small_before}
 use Rattle.retuning.specs.Kept.{kept_bytes}
 use Rattle.retuning.specs.Retune.{begun, before, kept_before}
-use Rattle.retune.specs.Rest.{rest_of, Reached}
+use Rattle.restore.specs.Standing.{Reached}
+use Rattle.retune.specs.Rest.{rest_of}
 use Rattle.retune.specs.Served.{begun_all, kept_over}
 
 module _ (s u : Settings) (c : Circuit) (eu : u ≡ used_settings s) where

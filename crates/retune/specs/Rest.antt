@@ -24,15 +24,10 @@ use Rattle.gates.specs.Wired.{Wired, state_of}
 use Rattle.gates.specs.Gates.{state_read, GoodFunction, GoodGates}
 use Rattle.mapper.specs.Asked.{gates_asked}
 use Rattle.retuning.specs.Retune.{or_none, begun}
+use Rattle.restore.specs.Standing.{Reached}
 
 unfoldable pub rest_of : Settings → List C.Output → List C.Gate → State → Reading Network
 rest_of s outputs gates st = and_then (map_gates s outputs st gates) (finish s outputs)
-
--- What a mapping has before the gate at a place: a cone for each node of the circuit, and room in the store for the gates that are left.
-pub record Reached (p : ℕ) (c : Circuit) (place : ℕ) (store : Store) (wires : List Cone) : Type 0 where
-  pub wired : Wired store wires (length c.inputs.items + place)
-  pub few : length (store_of store) ≤ length c.inputs.items + 6 * place
-  pub centred : Centred p store
 
 -- ---- laws: no more gates are begun than there are
 

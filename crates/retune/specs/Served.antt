@@ -25,6 +25,7 @@ use Rattle.retuning.specs.KeptBytes.{kept_long}
 use Rattle.retuning.specs.Prefix.{begun-all, begun-continued, begun-refused_before, circuit-continued, circuit-refused}
 use Rattle.retuning.specs.Retune.{begun, gate_on, before, kept_before, Retuned, made, afresh, retuned_from, retuned_at, retuned_on, retuned, Decided, Unreadable, NoGate, Short, Intact}
 use Rattle.retuning.specs.Safe.{Safe}
+use Rattle.restore.specs.Standing.{StandsIn}
 use Rattle.retune.specs.Reply.{IsRead, UnalteredAt}
 use Rattle.retune.specs.Rest.{rest_of, begun_few}
 use Rattle.retune.specs.Safety.{Deliverable, Continued, mapped_deliverable, mapped_safe}
@@ -38,10 +39,6 @@ begun_all c = begun (used_settings c.settings) c.outputs (start c) c.gates
 -- The gates from a place on.
 unfoldable pub begun_from : Circuit → ℕ → State → ℕ
 begun_from c i st = begun (used_settings c.settings) c.outputs st (drop i c.gates)
-
--- The bytes of the state before the gate at a place stand at the buffer's front.
-unfoldable pub StandsIn : List ℕ → Circuit → ℕ → State → Type 0
-StandsIn state c i st = (before c i ≡ Good st) × (take kept_length state ≡ kept_bytes (kept_before c i st))
 
 -- What the gates before the place gave is kept, if none was refused.
 unfoldable pub kept_over : Circuit → ℕ → Reading State → List ℕ → List ℕ
@@ -67,28 +64,28 @@ continued_safe x old new P.None h = h.0
 continued_safe x old new (P.Some r) h = h.1
 
 module _ (c : Circuit) (i : ℕ) (state : List ℕ) where
-  pub none_serves : (old new : List ℕ) (n : ℕ) (b : Bool) → b ≡ false → n ≡ 0 → ((st : State) → before c i ≡ Good st → take kept_length state ≡ kept_bytes (kept_before c i st) → b ≡ true)
+  pub none_serves : (old new : List ℕ) (n : ℕ) (b : Bool) → b ≡ false → n ≡ 0 → ((st : State) → StandsIn state c i st → b ≡ true)
       → Served c i state old new n P.None
-  unfolding Served StandsIn
-  none_serves old new n b e z right = ((λ st h. let t : ◌≡◌ {A = Bool} true false = sym (right st h.0 h.1) ∙ e in absurd (true≢false t)), z)
+  unfolding Served
+  none_serves old new n b e z right = ((λ st h. let t : ◌≡◌ {A = Bool} true false = sym (right st h) ∙ e in absurd (true≢false t)), z)
 
-  pub state_serves : {u : Settings} → u ≡ used_settings c.settings → IsRead c → (st r : State) → before c i ≡ Good st → take kept_length state ≡ kept_bytes (kept_before c i st) → r ≡ st
+  pub state_serves : {u : Settings} → u ≡ used_settings c.settings → IsRead c → (st r : State) → StandsIn state c i st → r ≡ st
       → (old new : List ℕ) (m n : ℕ) → m ≡ 0 → n ≡ m + begun u c.outputs r (drop i c.gates) → (o : P.Option (P.Result ℕ Refusal)) → Continued (rest_of u c.outputs (drop i c.gates) r) old new o
       → Served c i state old new n o
-  unfolding Served StandsIn Continued begun_from rest_of
-  state_serves {u} eu h st r q f e old new m n z b o k = by o k
+  unfolding Served Continued begun_from rest_of
+  state_serves {u} eu h st r stands e old new m n z b o k = by o k
     where
       is : rest_of u c.outputs (drop i c.gates) r ≡ map_circuit c
       is =
           ap (λ v. rest_of v c.outputs (drop i c.gates) r) eu
           ∙ ap (λ q. rest_of (used_settings c.settings) c.outputs (drop i c.gates) q) e
-          ∙ sym (circuit-continued c i st q)
+          ∙ sym (circuit-continued c i st stands.0)
 
       by : (o : P.Option (P.Result ℕ Refusal)) → Continued (rest_of u c.outputs (drop i c.gates) r) old new o → Served c i state old new n o
       by P.None k = absurd (k.1 (subst Deliverable (sym is) (mapped_deliverable h)))
       by (P.Some a) k =
           let first : n ≡ begun u c.outputs r (drop i c.gates) = omega (arith, b, z) in
-          (st, ((q, f), (k.0 ∙ ap (answer_with old) is, first ∙ ap (λ v. begun v c.outputs r (drop i c.gates)) eu ∙ ap (λ q. begun (used_settings c.settings) c.outputs q (drop i c.gates)) e)))
+          (st, (stands, (k.0 ∙ ap (answer_with old) is, first ∙ ap (λ v. begun v c.outputs r (drop i c.gates)) eu ∙ ap (λ q. begun (used_settings c.settings) c.outputs q (drop i c.gates)) e)))
 
 pub place_in : (gates : List G.Gate) (i : ℕ) → i < length gates → i < length (map gate_of gates)
 place_in gates i h = omega (arith, length-map gates gate_of)
@@ -103,7 +100,7 @@ module _ (c : Circuit) (i : ℕ) (state : List ℕ) where
   module _ (h : IsRead c) (l : i < length c.gates) where
     pub served_is : (old new : List ℕ) (n : ℕ) (r : P.Result ℕ Refusal) → Served c i state old new n (P.Some r)
         → made (outcome (map_reply r) new) n state ≡ retuned_from c i (before c i) old state
-    unfolding Served StandsIn retuned_from begun_from
+    unfolding Served retuned_from begun_from
     served_is old new n r s =
         let st = s.0 in
         let m = s.1.0.0 in
@@ -115,7 +112,7 @@ module _ (c : Circuit) (i : ℕ) (state : List ℕ) where
     pub kept_is : (old mid new : List ℕ) (m n : ℕ) (after : List ℕ) (r : P.Result ℕ Refusal) → mid ≡ old → Served c i state old mid m P.None
         → outcome (map_reply r) new ≡ answer_with mid (map_circuit c) → n ≡ m + begun_all c → after ≡ kept_over c i (before c i) state
         → made (outcome (map_reply r) new) n after ≡ retuned_from c i (before c i) old state
-    unfolding kept_over retuned_from afresh begun_all StandsIn Served
+    unfolding kept_over retuned_from afresh begun_all Served
     kept_is old mid new m n after r q none a b k = by (before c i) refl k
       where
         answer : outcome (map_reply r) new ≡ answer_with old (map_circuit c)

@@ -10,7 +10,8 @@ ghost use Rattle.retuning.specs.Kept.{kept_length};
 ghost use Rattle.retuning.specs.Retune as definition;
 ghost use Rattle.retuning.specs.Retune.{Unaltered};
 ghost use Rattle.retune.specs.Reply.{IsRead};
-ghost use Rattle.retune.specs.Rest.{rest_of, Reached};
+ghost use Rattle.restore.specs.Standing.{Reached};
+ghost use Rattle.retune.specs.Rest.{rest_of};
 ghost use Rattle.retune.specs.Safety.{Answered, Continued};
 ghost use Rattle.retune.specs.Served.{Served, SafeOrNone};
 

@@ -11,7 +11,8 @@ ghost use Rattle.retuning.specs.Kept.{kept_length};
 ghost use Rattle.retuning.specs.Retune as definition;
 ghost use Rattle.retuning.specs.Retune.{before};
 ghost use Rattle.retune.specs.Reply.{IsRead};
-ghost use Rattle.retune.specs.Rest.{rest_of, Reached};
+ghost use Rattle.restore.specs.Standing.{Reached};
+ghost use Rattle.retune.specs.Rest.{rest_of};
 ghost use Rattle.retune.specs.Served.{begun_all, kept_over};
 
 use arrayvec::ArrayVec;

@@ -9,10 +9,10 @@ is_header-requires c = small_slices c.args.circuit.now c.requires.sound c.args.p
 
 pub returns-then-is_header-clause-right : goal.returns-then-is_header-clause-right
 returns-then-is_header-clause-right c =
-    λ st reached front.
+    λ st stands.
     let circuit = c.args.circuit.now in
-    c.restore_state.ensures.complete st (good_before circuit c.requires.sound c.args.place c.requires.place _ c.len-inputs.ensures.value st reached)
-    (state_behind (circuit_of c.args.settings circuit) c.requires.sound c.args.place _ st front)
+    c.restore_state.ensures.complete st (good_before circuit c.requires.sound c.args.place c.requires.place _ c.len-inputs.ensures.value st stands.0)
+    (state_behind (circuit_of c.args.settings circuit) c.requires.sound c.args.place _ st stands.1)
 
 pub returns-then-is_header-clause-told : goal.returns-then-is_header-clause-told
 returns-then-is_header-clause-told c =
@@ -21,16 +21,16 @@ returns-then-is_header-clause-told c =
     let sound = c.requires.sound in
     let place = c.args.place in
     let header = header_found circuit sound place _ _ _ c.deref.ensures.0 c.deref-2.ensures.0 c.deref-3.ensures.0 _ _ c.is_header.ensures c.if-is_header.true in
-    let (st, reached, front) = header_told (circuit_of c.args.settings circuit) sound place c.args.state.now unaltered header in
+    let (st, stands) = header_told (circuit_of c.args.settings circuit) sound place c.args.state.now unaltered header in
     let read =
-    c.restore_state.ensures.complete st (good_before circuit sound place c.requires.place _ c.len-inputs.ensures.value st reached)
-    (state_behind (circuit_of c.args.settings circuit) sound place _ st front)
+    c.restore_state.ensures.complete st (good_before circuit sound place c.requires.place _ c.len-inputs.ensures.value st stands.0)
+    (state_behind (circuit_of c.args.settings circuit) sound place _ st stands.1)
     in
-    (st, reached, front, read.1)
+    (st, (stands, read.1))
 
 pub returns-else-is_header-clause-right : goal.returns-else-is_header-clause-right
 returns-else-is_header-clause-right c =
-    λ st reached front. absurd (true≢false (
-    sym (finds_header c.args.circuit.now c.requires.sound c.args.place _ _ _ c.deref.ensures.0 c.deref-2.ensures.0 c.deref-3.ensures.0 _ _ c.is_header.ensures st front)
+    λ st stands. absurd (true≢false (
+    sym (finds_header c.args.circuit.now c.requires.sound c.args.place _ _ _ c.deref.ensures.0 c.deref-2.ensures.0 c.deref-3.ensures.0 _ _ c.is_header.ensures st stands.1)
     ∙ c.if-is_header.false
     ))

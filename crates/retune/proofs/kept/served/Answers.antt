@@ -12,7 +12,7 @@ pub restore-requires-clause-sound : goal.restore-requires-clause-sound
 restore-requires-clause-sound c = is_sound c.requires.read
 
 pub returns-then-not-restore-clause-served : goal.returns-then-not-restore-clause-served
-returns-then-not-restore-clause-served c = λ u. none_serves _ _ _ _ _ _ _ c.if-not-restore.true c.requires.none (λ st e f. (c.restore.ensures.right st e f).0)
+returns-then-not-restore-clause-served c = λ u. none_serves _ _ _ _ _ _ _ c.if-not-restore.true c.requires.none (λ st stands. (c.restore.ensures.right st stands).0)
 
 pub returns-then-not-restore-clause-safe : goal.returns-then-not-restore-clause-safe
 unfolding SafeOrNone
@@ -24,7 +24,7 @@ continued-requires-clause-sound c = used_circuit _ _ c.args.circuit.now c.valid_
 pub returns-clause-served : goal.returns-clause-served
 returns-clause-served c = λ u.
     let t = c.restore.ensures.told u c.if-not-restore.false in
-    state_serves _ _ _ c.valid_settings-s.ensures c.requires.read t.0 _ t.1 t.2 t.3 _ _ _ _ c.requires.none c.continued.ensures.begun _ c.continued.ensures.is
+    state_serves _ _ _ c.valid_settings-s.ensures c.requires.read t.0 _ t.1.0 t.1.1 _ _ _ _ c.requires.none c.continued.ensures.begun _ c.continued.ensures.is
 
 pub returns-clause-safe : goal.returns-clause-safe
 returns-clause-safe c = continued_safe _ _ _ _ c.continued.ensures.is
