@@ -1,17 +1,18 @@
-use Rattle.std.proofs.Common.{ℕ, ◌+◌, ◌-◌, ◌≡◌, arith, rules, true, false, length, get_or}
+use Rattle.std.proofs.Common.{ℕ, ◌-◌, ◌≡◌, refl, arith, rules, true, false, map, length}
 use borrow.Author.Tests.{tests}
 use Rattle.std.proofs.lemmas.Iterator.{cases_from_all, YieldsList-from_range}
-use Rattle.rules.specs.declared.Entry.TheVariants.{Zero}
-use Rattle.rules.specs.Builder.{remains}
+use Rattle.std.proofs.lemmas.List.{length-map}
+use Rattle.rules.specs.Builder.{remains_at}
+use Rattle.rotation.specs.Entries.{numbers, numbers-length}
 use Rattle.rotation.specs.Pairs.{all_remain}
 use Rattle.rotation.proofs.pairs.remains_for_all.Goals as goal
 
 -- `rotation::pairs::remains_for_all` meets its contract.
 pub returns : goal.returns
-returns c =
+returns g c f say =
     let n : ℕ = length c.args.known.now - c.args.size in
-    all_remain _ _ _ Zero _
+    all_remain _ _ n _ _ (rw (numbers-length, length-map) refl)
     (cases_from_all _ _ _
-    (λ (i : ℕ). remains c.args.sum (get_or c.args.known.now i Zero) (get_or c.args.known.now (i + c.args.size) Zero) ≡ true)
-    (λ (i : ℕ). remains c.args.sum (get_or c.args.known.now i Zero) (get_or c.args.known.now (i + c.args.size) Zero) ≡ false)
-    c.all.ensures.ran (YieldsList-from_range 0 n n (search rules) (omega arith)) (λ x q k. search (rules, tests)) (λ x q k. search (rules, tests)))
+    (λ (i : ℕ). remains_at c.args.sum c.args.size (numbers (map f c.args.known.now)) i ≡ true)
+    (λ (i : ℕ). remains_at c.args.sum c.args.size (numbers (map f c.args.known.now)) i ≡ false)
+    c.all.ensures.ran (YieldsList-from_range 0 n n (search rules) (omega arith)) (λ x q k. search (rules, tests, say)) (λ x q k. search (rules, tests, say)))
