@@ -1,10 +1,10 @@
 -- A line with no fault, put behind those before it: the lines so far stand for the lines with it.
 use Rattle.std.specs.Prelude as P
-use Rattle.std.specs.Prelude.{◌≡◌, Bool, true, false, ◌||◌, List, [], ◌∷◌, ◌++◌, map, ℕ, ◌+◌, ◌<◌, ◌≤◌, leb, length, All}
-use Rattle.std.proofs.Common.{refl, sym, ap, subst, ◌∙◌, ⊎_elim, arith, true≢false, leb-false}
+use Rattle.std.specs.Prelude.{◌≡◌, Bool, true, false, ◌||◌, List, [], ◌∷◌, ◌++◌, map, ℕ, ◌+◌, ◌<◌, ◌≤◌, leb, ltb, length, All}
+use Rattle.std.proofs.Common.{refl, sym, ap, subst, ◌∙◌, ⊎_elim, arith, true≢false, eqb-true, leb-false}
 use Rattle.std.proofs.Math.Option.{Option, none, some}
 use Rattle.std.proofs.lemmas.List.{length-map, map-append, length-append}
-use borrow.Author.Tests.{lt-leb}
+use borrow.Author.Tests.{lt-leb, lt-ltb, le-ltb}
 use Rattle.laws.specs.Test.{if◌then◌otherwise◌, is_some, lt_or_le, neither_left, neither_right}
 use Rattle.rules.specs.declared.Wire.{Wire}
 use Rattle.rules.specs.declared.Wire.TheVariants.{Const, Node}
@@ -13,7 +13,7 @@ use Rattle.rules.specs.CircuitText.{no_node}
 use Rattle.rules.specs.Rotation.{centre_of}
 use Rattle.rules.specs.Network as W
 use Rattle.rules.specs.Network.{LutNode, Input, Linear, Bootstrap, is_input, is_linear, node_at, node_centre}
-use Rattle.rules.specs.NetworkText.{NetworkLine, NodeLine, network_line, started, unknown, any_bad_source, with_network_line}
+use Rattle.rules.specs.NetworkText.{NetworkLine, NodeLine, network_line, started, all_inputs, unknown, any_bad_source, with_network_line}
 use Rattle.theorems.specs.Counts.{count_snoc, count_most}
 use Rattle.theorems.specs.LineBits.{LineBits, line-bits}
 use Rattle.theorems.specs.NodesAt.{node-before, node_next}
@@ -33,10 +33,10 @@ use Rattle.network_text.specs.declared.table.TableText.{TableText}
 use Rattle.network_text.specs.declared.line.Line.{Line}
 use Rattle.network_text.specs.declared.line.Line.TheVariants as L
 use Rattle.network_judge.specs.Conditions.{line_conditions}
-use Rattle.network_judge.specs.Holds.{Sound, AllSound, GoodOutput, Holds}
+use Rattle.network_judge.specs.Holds.{Sound, AllSound, InputsFirst, GoodOutput, Holds}
 use Rattle.network_judge.specs.View.{net_so_far, prefix_of}
 use Rattle.network_judge.specs.declared.network.Network.{Network}
-use Rattle.network.specs.Put.{Has, Ready, Follows, period}
+use Rattle.network.specs.Put.{InputRoom, Has, Ready, Follows, period}
 use Rattle.network.specs.Verdict.{refusal, with_form, good_refusal, good_refusal_lem, good_same, net_limits, net-first, node-started, node_room, inputs-only, sum_sound, boot_known, out_known}
 use Rattle.text.specs.Judged.{lowest}
 
@@ -70,6 +70,30 @@ module _ (ns : List LutNode) (n : LutNode) where
       (λ (h : length ns ≤ i). let e : length ns ≡ i = omega (arith, length-append ns (n ∷ [])) in subst (Sound (ns ++ (n ∷ []))) (sym (node_next ns n [] i e)) (sound_more n s))
       (lt_or_le i (length ns))
 
+-- an input comes only while all nodes are inputs: so they stay in front
+module _ (ns : List LutNode) (n : LutNode) {inputs i : ℕ} (few : inputs ≤ length ns) (all : is_input n ≡ true → inputs ≡ length ns)
+    (e : i ≡ inputs + (if is_input n then 1 otherwise 0)) where
+  old-first : (b : Bool) → is_input n ≡ b → (j : ℕ) → j < length ns → ltb j inputs ≡ ltb j i
+  old-first true q j h =
+      let one : i ≡ inputs + 1 = rw q at e in
+      let m = all q in
+      lt-ltb j inputs (omega arith) ∙ sym (lt-ltb j i (omega arith))
+  old-first false q j h = let none : i ≡ inputs + 0 = rw q at e in ap (ltb j) (omega (arith, none))
+
+  new-first : (b : Bool) → is_input n ≡ b → is_input n ≡ ltb (length ns) i
+  new-first true q = let one : i ≡ inputs + 1 = rw q at e in let m = all q in q ∙ sym (lt-ltb (length ns) i (omega arith))
+  new-first false q = let none : i ≡ inputs + 0 = rw q at e in q ∙ sym (le-ltb (length ns) i (omega arith))
+
+  first_push : InputsFirst ns inputs → InputsFirst (ns ++ (n ∷ [])) i
+  first_push f j l =
+      ⊎_elim (λ (h : j < length ns). rw (node-before ns (n ∷ []) j h) (f j h ∙ old-first (is_input n) refl j h))
+      (λ (h : length ns ≤ j). let c : length ns ≡ j = omega (arith, length-append ns (n ∷ [])) in rw (node_next ns n [] j c) (new-first (is_input n) refl ∙ ap (λ k. ltb k i) c))
+      (lt_or_le j (length ns))
+
+few_push : (b : Bool) {inputs i : ℕ} → inputs ≤ 32 → (b ≡ true → inputs < 32) → i ≡ inputs + (if b then 1 otherwise 0) → i ≤ 32
+few_push true l f e = let s = f refl in omega arith
+few_push false l f e = omega arith
+
 known_more : (count : ℕ) (w : Wire) → no_node count w ≡ false → no_node (count + 1) w ≡ false
 unfolding no_node
 known_more count (Const b) e = refl
@@ -86,12 +110,15 @@ Limited (P.Some m) = table_limits m.p m.m ≡ true
 
 module _ {net : P.Option Net} {store : Store} {inputs : ℕ} {outs : List Output} (k : Holds net store inputs outs) where
   pub holds_node : P.IsSome net → (after : Store) (c : ℕ) (n : LutNode) → Adds c n store after → ((m : Net) → net ≡ P.Some m → c ≡ node_centre m.p n) → Sound (store_of store) n
-      → {i : ℕ} → i ≡ inputs + (if is_input n then 1 otherwise 0) → Holds net after i outs
-  holds_node z after c n a q s e =
+      → (is_input n ≡ true → InputRoom store inputs) → {i : ℕ} → i ≡ inputs + (if is_input n then 1 otherwise 0) → Holds net after i outs
+  holds_node z after c n a q s r {i} e =
+      let few : inputs ≤ length (store_of store) = rw k.counted (count_most is_input (store_of store)) in
       let one = if is_input n then 1 otherwise 0 in
       let more : length (store_of after) ≡ length (store_of store) + 1 = ap length a.store ∙ length-append (store_of store) (n ∷ []) in
       record {
+        few_inputs = few_push (is_input n) k.few_inputs (λ y. (r y).1) e;
         counted = e ∙ ap (λ m. m + one) k.counted ∙ sym (count_snoc is_input (store_of store) n) ∙ ap (W.count is_input) (sym a.store);
+        first = subst (λ ns. InputsFirst ns i) (sym a.store) (first_push (store_of store) n few (λ y. (r y).0) e k.first);
         sound = subst AllSound (sym a.store) (sound_push (store_of store) n k.sound s);
         few_outputs = k.few_outputs;
         outputs = subst (λ c. All (GoodOutput c) outs) (sym more) (good_more (length (store_of store)) outs k.outputs);
@@ -105,7 +132,9 @@ module _ {net : P.Option Net} {store : Store} {inputs : ℕ} {outs : List Output
   unfolding Limited
   holds_net n f t =
       record {
+        few_inputs = k.few_inputs;
         counted = k.counted;
+        first = k.first;
         sound = k.sound;
         few_outputs = k.few_outputs;
         outputs = k.outputs;
@@ -122,18 +151,18 @@ some_net (P.Some m) h l = refl
 module _ (w : Network) (after : Store) where
   pub input_holds : (g : G.Input) → Ready w (L.In g) → Adds 0 (Input (given_of g)) w.store after → Holds w.net after (w.inputs + 1) w.outputs.items
   unfolding is_input Sound node_centre
-  input_holds g r a = holds_node w.holds r.1 after 0 _ a (λ m q. refl) tt refl
+  input_holds g r a = holds_node w.holds r.1 after 0 _ a (λ m q. refl) tt (λ y. r.2) refl
 
   pub sum_holds : (t : Terms) → Ready w (L.Lin t) → Adds 0 (Linear t.constant (terms_in t)) w.store after → Holds w.net after w.inputs w.outputs.items
   unfolding is_input Sound node_centre
-  sum_holds t r a = holds_node w.holds r.1 after 0 _ a (λ m q. refl) r.3 (omega arith)
+  sum_holds t r a = holds_node w.holds r.1 after 0 _ a (λ m q. refl) r.3 (λ y. absurd (true≢false (sym y))) (omega arith)
 
   pub boot_holds : (p i : ℕ) (t : TableText) → p ≡ period w.net → i < length (store_of w.store) → Adds (centre_of p (bits_of t)) (Bootstrap i (bits_of t)) w.store after
       → Holds w.net after w.inputs w.outputs.items
   unfolding is_input Sound node_centre
   boot_holds p i t e l a =
       holds_node w.holds (some_net w.net w.holds.begun (omega (arith, l))) after (centre_of p (bits_of t)) _ a
-      (λ m q. ap (λ x. centre_of x (bits_of t)) (e ∙ ap period q)) (rw (from_length t.bits.now) t.some) (omega arith)
+      (λ m q. ap (λ x. centre_of x (bits_of t)) (e ∙ ap period q)) (rw (from_length t.bits.now) t.some) (λ y. absurd (true≢false (sym y))) (omega arith)
 
 -- ---- The number of a line that was read is the definition's.
 
@@ -174,11 +203,12 @@ net_none (P.Some n) e = absurd (true≢false e)
 
 module _ (judge : Bool) (w : Network) where
   room : (line : Line) → Within line → LineBits (line_of line) → refusal judge (prefix_of w) (some (line_of line)) ≡ 0 → Ready w line
-  unfolding is_input started Sound LineBits
+  unfolding is_input started all_inputs Sound LineBits
   room (L.Net n) i b e = (net_none w.net (net-first judge (prefix_of w) (net_of n) e), net_limits judge (prefix_of w) (net_of n) e)
   room (L.In g) i b e =
       let o = inputs-only judge (prefix_of w) _ e in
-      (omega (arith, o.1), net_there w.net (node-started judge (prefix_of w) _ e), omega (arith, w.holds.counted, count_most is_input (store_of w.store), store_few w.store), i)
+      let all : w.inputs ≡ length (store_of w.store) = w.holds.counted ∙ eqb-true (W.count is_input (store_of w.store)) (length (store_of w.store)) o.0 in
+      (omega (arith, o.1), net_there w.net (node-started judge (prefix_of w) _ e), (all, omega (arith, o.1)), i)
   room (L.Lin t) i b e =
       let n = Linear t.constant (terms_in t) in
       let s = sum_sound judge (prefix_of w) t.constant (terms_in t) e in

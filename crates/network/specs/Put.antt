@@ -14,6 +14,7 @@ use Rattle.nodes.specs.Store.{store_of, Adds}
 use Rattle.nodes.specs.Terms.{terms_in, GoodTerms, in_length}
 use Rattle.nodes.specs.View.{given, lut_node, Fine, fine_more}
 use Rattle.nodes.specs.declared.node.LutNode as N
+use Rattle.nodes.specs.declared.store.Store.{Store}
 use Rattle.nodes.specs.declared.terms.Terms.{Terms}
 use Rattle.network_text.specs.Table.{bits_of}
 use Rattle.network_text.specs.declared.table.TableText.{TableText}
@@ -26,10 +27,14 @@ use Rattle.network_judge.specs.declared.network.Network.{Network}
 abbrev pub Room : Network → Type 0
 Room w = length (store_of w.store) < 672
 
+-- All nodes are inputs, and there is room for one more of these.
+abbrev pub InputRoom : Store → ℕ → Type 0
+InputRoom store inputs = (inputs ≡ length (store_of store)) × (inputs < 32)
+
 -- There is room for the line, the nodes that it takes are there, and it is a good one.
 abbrev pub Ready : Network → Line → Type 0
 Ready w (L.Net n) = (w.net ≡ P.None) × (table_limits n.p n.m ≡ true)
-Ready w (L.In g) = Room w × P.IsSome w.net × (w.inputs ≤ 672) × GoodGiven (given_of g)
+Ready w (L.In g) = Room w × P.IsSome w.net × InputRoom w.store w.inputs × GoodGiven (given_of g)
 Ready w (L.Lin t) = Room w × P.IsSome w.net × GoodTerms (length (store_of w.store)) t × Sound (store_of w.store) (Linear t.constant (terms_in t))
 Ready w (L.Boot i t) = Room w × P.IsSome w.net × (i < length (store_of w.store))
 Ready w (L.Out o) = (length w.outputs.items < 32) × GoodOutput (length (store_of w.store)) o

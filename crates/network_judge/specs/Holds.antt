@@ -1,6 +1,6 @@
 -- What holds of the lines so far, in the words of the parts of a `Network`.
 use Rattle.std.specs.Prelude as P
-use Rattle.std.specs.Prelude.{◌≡◌, refl, true, false, List, [], ℕ, ◌<◌, ◌≤◌, length, get_or, All}
+use Rattle.std.specs.Prelude.{◌≡◌, refl, true, false, List, [], ℕ, ◌<◌, ◌≤◌, ltb, length, get_or, All}
 use Rattle.std.proofs.Common.{sym, ap, arith, true≢false, not-suc-le-zero}
 use Rattle.std.proofs.Math.Nat.{ℕ_set}
 use mathlib.Core.Bool.{Bool-set}
@@ -28,15 +28,21 @@ Sound ns (Bootstrap i table) = 1 ≤ length table
 abbrev pub AllSound : List LutNode → Type 0
 AllSound ns = (i : ℕ) → i < length ns → Sound ns (node_at ns i)
 
+-- The first ones, as many as are counted, are the inputs.
+abbrev pub InputsFirst : List LutNode → ℕ → Type 0
+InputsFirst ns inputs = (i : ℕ) → i < length ns → is_input (node_at ns i) ≡ ltb i inputs
+
 -- Of an output: it has a name, and its wire goes to one of the nodes, or is a bit.
 pub record GoodOutput (count : ℕ) (o : Output) : Type 0 where
   pub name : Named o.name.now
   pub known : no_node count o.wire ≡ false
   pub bit : WireBit o.wire
 
--- Inputs are counted; behind the `net` line, which stands first, each table has its centre.
+-- Inputs are counted and come first; behind the `net` line, which stands before all nodes, each table has its centre.
 pub record Holds (net : P.Option Net) (store : Store) (inputs : ℕ) (outs : List Output) : Type 0 where
+  pub few_inputs : inputs ≤ 32
   pub counted : inputs ≡ count is_input (store_of store)
+  pub first : InputsFirst (store_of store) inputs
   pub sound : AllSound (store_of store)
   pub few_outputs : length outs ≤ 32
   pub outputs : All (GoodOutput (length (store_of store))) outs
@@ -73,10 +79,15 @@ outputs_prop count outs = Π_prop (λ k. Π_prop (λ d. →_prop (GoodOutput_pro
 sound_prop : (ns : List LutNode) → IsProp (AllSound ns)
 sound_prop ns = Π_prop (λ i. →_prop (Sound_prop ns (node_at ns i)))
 
+first_prop : (ns : List LutNode) (inputs : ℕ) → IsProp (InputsFirst ns inputs)
+first_prop ns inputs = Π_prop (λ i. →_prop (Bool-set (is_input (node_at ns i)) (ltb i inputs)))
+
 pub Holds_prop : (net : P.Option Net) (store : Store) (inputs : ℕ) (outs : List Output) → IsProp (Holds net store inputs outs)
 Holds_prop net store inputs outs a b =
     λ i. record {
+      few_inputs = le_prop a.few_inputs b.few_inputs i;
       counted = ℕ_set inputs (count is_input (store_of store)) a.counted b.counted i;
+      first = first_prop (store_of store) inputs a.first b.first i;
       sound = sound_prop (store_of store) a.sound b.sound i;
       few_outputs = le_prop a.few_outputs b.few_outputs i;
       outputs = outputs_prop (length (store_of store)) outs a.outputs b.outputs i;
@@ -92,7 +103,9 @@ unfolding count
 holds_nothing store e outs f =
     let none : length (store_of store) ≡ 0 = ap length e in
     record {
+      few_inputs = omega arith;
       counted = rw e refl;
+      first = λ i l. absurd (omega arith);
       sound = λ i l. absurd (omega arith);
       few_outputs = rw f (omega arith);
       outputs = λ k d l. absurd (not-suc-le-zero (rw f at l));
