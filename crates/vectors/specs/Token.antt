@@ -1,5 +1,6 @@
 -- One number of a text.
-use Rattle.std.specs.Prelude.{Bool, ◌||◌, List, [], ◌∷◌, ℕ, ◌+◌, ◌*◌, ◌-◌, ◌^◌, min, ltb, eqb, ℤ, pos, negsuc, neg_ℤ, get_or, drop, Option, None, Some, position}
+use Rattle.std.specs.Prelude.{Bool, false, ◌||◌, List, [], ◌∷◌, ℕ, ◌+◌, ◌*◌, ◌-◌, ◌^◌, min, ltb, eqb, ℤ, pos, negsuc, neg_ℤ, get_or, drop, Option, None, Some, position}
+use Rattle.std.specs.List.{position_or_len}
 use Rattle.std.specs.Char.{is_ascii_digit}
 use Rattle.laws.specs.Test.{if◌then◌otherwise◌}
 use Rattle.vectors.specs.declared.Token.{Token}
@@ -43,6 +44,27 @@ number_at s (Some i) = let negative = eqb (get_or s i 0) 45 in signed negative (
 -- The next number of a text.
 unfoldable pub next_token : List ℕ → Told
 next_token s = number_at s (position starts_number s)
+
+-- A number, and what is left of the text.
+pub record Number : Type 0 where
+  pub token : Token
+  pub rest : List ℕ
+
+abbrev pub number : Token → List ℕ → Number
+number t rest = record { token = t; rest = rest }
+
+-- 0 where none was told, and then nothing of the text is left.
+abbrev pub or_zero : Option Token → List ℕ → Number
+or_zero None rest = number (record { value = 0; negative = false }) []
+or_zero (Some t) rest = number t rest
+
+-- The next number of a text, 0 where there is none.
+unfoldable pub next_or_zero : List ℕ → Number
+next_or_zero s = let t = next_token s in or_zero t.token t.rest
+
+-- The text from the first byte on that starts a number, if there is one.
+unfoldable pub from_start : List ℕ → List ℕ
+from_start s = drop (position_or_len starts_number s) s
 
 -- A 32-bit value; the least one where a number is too large.
 unfoldable pub signed_of : Token → ℤ

@@ -1,15 +1,17 @@
 // Numbers of a text, input by bytes and what several programs print, for programs that replay stored cases. It leans on `rules`.
 #![tactic(auto)]
 
-ghost use Rattle.std.specs.Prelude.{◌≡◌, ◌<◌, ◌≤◌, ℕ, List, Option, length, position, OnSome, ⊤};
+ghost use Rattle.std.specs.Prelude.{◌≡◌, ◌<◌, ◌≤◌, ℕ, List, [], Option, Some, length, take, drop, flat_map, position, OnSome, ⊤};
+ghost use Rattle.std.specs.Fmt.{decimal};
 ghost use Rattle.std.specs.Iterator.{at_most};
-ghost use Rattle.vectors.specs.Numbers.{numbers, Filled};
-ghost use Rattle.vectors.specs.Token.{starts_number, read, digits, next_token, told, signed_of};
+ghost use Rattle.vectors.specs.Numbers.{numbers, row};
+ghost use Rattle.vectors.specs.Token.{starts_number, from_start, read, digits, next_token, told, next_or_zero, number, signed_of};
 
+use arrayvec::ArrayVec;
 use rules::Refusal;
+use std::fmt;
 use std::io::Read;
 use std::marker::PhantomData;
-use std::{fmt, io};
 
 // A number of a text: its absolute value and its sign. No i64: a P or a length may be any u64.
 #[derive(Clone, Copy, Default)]
@@ -41,7 +43,7 @@ fn next_start(text: &[u8]) -> Option<usize>
 
 // The number whose digits are in front, and what comes after them. No `split_at`: one loop finds where the digits end and that each is one, and its
 // invariant is all of the proof.
-fn number(text: &[u8]) -> (u64, &[u8])
+pub fn number(text: &[u8]) -> (u64, &[u8])
     ensures read { read result.0 result.1.now ≡ digits 0 text.now }
     ensures shorter { length result.1.now ≤ length text.now }
 {
@@ -88,25 +90,43 @@ impl<'a> Tokens<'a> {
         Tokens { rest: &buffer[..n] }
     }
 
-    // The next numbers into the list, where there are as many.
-    pub fn fill(&mut self, list: &mut [Token]) -> Option<()>
-        ensures numbers { Filled (numbers (length list.old) self.old.rest.now) result list.new self.new.rest.now }
-        ensures shorter { OnSome result (length self.new.rest.now ≤ length self.old.rest.now) }
+    // The next number; 0 where none is left, and then nothing of the text is.
+    #[tactic(auto, unfolding(crate::specs::Token::next_or_zero))]
+    pub fn next_or_zero(&mut self) -> Token
+        ensures number { number result self.new.rest.now ≡ next_or_zero self.old.rest.now }
+        ensures shorter { length self.new.rest.now ≤ length self.old.rest.now }
     {
-        for token in list {
-            *token = self.next()?;
+        match self.next() {
+            Some(token) => token,
+            None => {
+                self.rest = &[];
+                Token::default()
+            }
         }
-        Some(())
     }
 
-    // The next n bytes from a digit or a minus on, whatever they are.
-    pub fn digits(&mut self, n: usize) -> Option<&'a [u8]>
-        ensures { OnSome result (length self.new.rest.now ≤ length self.old.rest.now) }
+    // The next numbers into the list, 0 for each that is missing.
+    pub fn fill(&mut self, list: &mut [Token])
+        ensures numbers { row list.new self.new.rest.now ≡ numbers (length list.old) self.old.rest.now }
+        ensures shorter { length self.new.rest.now ≤ length self.old.rest.now }
     {
-        let start = next_start(self.rest)?;
-        let (digits, rest) = self.rest[start..].split_at_checked(n)?;
+        for token in list {
+            *token = self.next_or_zero();
+        }
+    }
+
+    // The next n bytes from a digit or a minus on, whatever they are, or as many as are left.
+    #[tactic(auto, unfolding(crate::specs::Token::from_start))]
+    pub fn digits(&mut self, n: usize) -> &'a [u8]
+        ensures digits { result.now ≡ take n (from_start self.old.rest.now) }
+        ensures rest { self.new.rest.now ≡ drop n (from_start self.old.rest.now) }
+        ensures shorter { length self.new.rest.now ≤ length self.old.rest.now }
+    {
+        let start = next_start(self.rest).unwrap_or(self.rest.len());
+        let text = &self.rest[start..];
+        let (digits, rest) = text.split_at(n.min(text.len()));
         self.rest = rest;
-        Some(digits)
+        digits
     }
 
     // The n bytes behind the next one, which ends the line and is not looked at.
@@ -163,7 +183,9 @@ pub fn read_full<R: Read>(input: &mut R, buffer: &mut [u8]) -> usize
     ensures { result ≤ length buffer.new }
 {
     let mut done = 0;
-    while let got @ 1.. = input.read(&mut buffer[done..]).unwrap_or(0) {
+    while done < buffer.len()
+        && let got @ 1.. = input.read(&mut buffer[done..]).unwrap_or(0)
+    {
         done += got;
     }
     done
@@ -181,10 +203,25 @@ impl fmt::Display for Numbered {
     }
 }
 
-// Bits as digits.
-pub fn print_bits(rt: &impl Print, bits: &[u8]) -> io::Result<()> {
-    for bit in bits {
-        print!(rt; "{bit}")?;
+// Bits, printed as digits.
+#[derive(Clone, Copy)]
+pub struct Bits<'a>(pub &'a [u8]);
+
+impl fmt::Display for Bits<'_> {
+    ghost output = { λ b. Some (flat_map decimal b.0.now) };
+
+    fn fmt<W: fmt::Write>(&self, f: &mut fmt::Formatter<W>) -> fmt::Result {
+        for bit in self.0 {
+            write!(f, "{bit}")?;
+        }
+        Ok(())
     }
-    Ok(())
+}
+
+// What a case prints, written at once, which leaves room for the next one. A write that fails is let go: the output then differs from the listed one.
+pub fn put<const N: usize>(rt: &impl Print, line: &mut ArrayVec<u8, N>)
+    ensures { line.new.items ≡ [] }
+{
+    let _ = rt.write_all(line.as_slice());
+    line.clear();
 }

@@ -9,7 +9,8 @@ ghost use Rattle.rules.specs.Composition.{union_support};
 ghost use Rattle.cone.specs.View.{cone_of};
 ghost use Rattle.nodes.specs.Store.{store_of};
 
-use crate::rows::ConeRows;
+use crate::rows::{ConeRows, fill_bits};
+use arrayvec::ArrayVec;
 use compose::basis::Basis;
 use compose::simplify::simplify_cone;
 use cone::Cone;
@@ -20,8 +21,9 @@ use nodes::node::LutNode;
 use nodes::store::Store;
 use rules::{Limit, Policy, Reason, Settings};
 use scale_pair::pair::merge_rows;
+use std::io::Write;
 use std::{fmt, io};
-use vectors::{Cases, FromTokens, Tokens, print_bits};
+use vectors::{Cases, FromTokens, Tokens, put};
 
 #[derive(Drop)]
 struct Case {
@@ -34,16 +36,15 @@ struct Case {
 impl<'a> FromTokens<'a> for Case {
     fn read(input: &mut Tokens<'a>) -> Option<Case> {
         let p = input.next()?.value as usize;
-        let m = input.next()?.value as usize;
-        let norm = match input.next()?.value {
+        let m = input.next_or_zero().value as usize;
+        let norm = match input.next_or_zero().value {
             0 => Limit::Unlimited,
             n => Limit::AtMost(n as usize),
         };
-        let left = ConeRows::read(input)?;
-        let right = ConeRows::read(input)?;
-        let &[a, b, c, d] = input.digits(4)? else {
-            return None;
-        };
+        let left = ConeRows::read(input);
+        let right = ConeRows::read(input);
+        let mut gate = [0; 4];
+        fill_bits(&mut gate, input.digits(4));
         Some(Case {
             settings: Settings {
                 p,
@@ -55,7 +56,7 @@ impl<'a> FromTokens<'a> for Case {
             },
             left,
             right,
-            gate: [a % 2, b % 2, c % 2, d % 2],
+            gate,
         })
     }
 }
@@ -91,35 +92,52 @@ impl fmt::Display for Verdict {
 // ---- writing
 
 // A value within -31..31 as a letter: P for 0.
-fn letter(value: i32) -> char {
-    u8::try_from(value.saturating_add(80)).map_or('?', char::from)
+fn letter(value: i32) -> u8 {
+    u8::try_from(value.saturating_add(80)).unwrap_or(b'?')
 }
 
-fn show_values(rt: &impl Print, values: &[i32]) -> io::Result<()> {
-    for value in values {
-        print!(rt; "{}", letter(*value))?;
+// Letters, written at once.
+fn show_values(out: &mut impl Write, values: &[i32]) -> io::Result<()>
+    requires { length values.now ≤ 2048 }
+{
+    let mut letters = [0; 2048];
+    for (place, value) in letters.iter_mut().zip(values) {
+        *place = letter(*value);
     }
-    print!(rt; " ")
+    out.write_all(&letters[..values.len()])?;
+    write!(out, " ")
 }
 
-fn show_truth(rt: &impl Print, truth: &[u8]) -> io::Result<()> {
-    print_bits(rt, truth)?;
-    print!(rt; " ")
+// Bits as digits, written at once.
+fn show_truth(out: &mut impl Write, truth: &[u8]) -> io::Result<()>
+    requires { length truth.now ≤ 2048 }
+{
+    let mut digits = [0; 2048];
+    for (digit, bit) in digits.iter_mut().zip(truth) {
+        *digit = bit | b'0';
+    }
+    out.write_all(&digits[..truth.len()])?;
+    write!(out, " ")
 }
 
 // Each source of a basis with both coefficients.
-fn show_basis(rt: &impl Print, basis: &Basis) -> io::Result<()> {
-    print!(rt; "{} ", basis.n)?;
+fn show_basis(out: &mut impl Write, basis: &Basis) -> io::Result<()> {
+    write!(out, "{} ", basis.n)?;
     for ((source, left), right) in basis.sources().iter().zip(basis.left()).zip(basis.right()) {
-        print!(rt; "{source} {left} {right} ")?;
+        write!(out, "{source} {left} {right} ")?;
     }
     Ok(())
 }
 
 // Span, norm and divisor.
-fn show_measures(rt: &impl Print, inputs: &UnitInputs, cone: Cone) -> io::Result<()> {
+fn show_measures(out: &mut impl Write, inputs: &UnitInputs, cone: Cone) -> io::Result<()> {
     let divisor = scale::coefficient_normalization_divisor(cone.coefficients());
-    print!(rt; "{} {} {divisor} ", cone.span(), cone.norm2(&inputs.store))
+    write!(
+        out,
+        "{} {} {divisor} ",
+        cone.span(),
+        cone.norm2(&inputs.store)
+    )
 }
 
 fn judged(s: Settings, inputs: &UnitInputs, cone: Cone) -> Verdict {
@@ -134,36 +152,41 @@ fn judged(s: Settings, inputs: &UnitInputs, cone: Cone) -> Verdict {
 
 // A cone, and what validate_cone says of it.
 #[tactic(auto, using(cone::specs::View::rows_fit, crate::specs::Made::taken_rows))]
-fn show_judged(rt: &impl Print, s: Settings, inputs: &UnitInputs, cone: Cone) -> io::Result<()> {
-    print!(rt; "{} ", cone.n)?;
+fn show_judged(
+    out: &mut impl Write,
+    s: Settings,
+    inputs: &UnitInputs,
+    cone: Cone,
+) -> io::Result<()> {
+    write!(out, "{} ", cone.n)?;
     for (source, coef) in cone.sources().iter().zip(cone.coefficients()) {
-        print!(rt; "{source} {coef} ")?;
+        write!(out, "{source} {coef} ")?;
     }
     let mut values = [0; 2048];
     let mut truth = [0; 2048];
     truths_of(cone, &mut values, &mut truth);
-    show_truth(rt, &truth[..rows_of(cone.n)])?;
-    print!(rt; "{}", judged(s, inputs, cone))
+    show_truth(out, &truth[..rows_of(cone.n)])?;
+    write!(out, "{}", judged(s, inputs, cone))
 }
 
 // ---- running
 
 // The cone normalised and without unused sources.
 fn show_simplified(
-    rt: &impl Print,
+    out: &mut impl Write,
     s: Settings,
     inputs: &UnitInputs,
     cone: Cone,
 ) -> io::Result<()> {
     match ConeRows::normalised(cone).cone() {
-        Some(cone) => show_judged(rt, s, inputs, simplify_cone(cone)),
-        None => print!(rt; "no cone"),
+        Some(cone) => show_judged(out, s, inputs, simplify_cone(cone)),
+        None => write!(out, "no cone"),
     }
 }
 
 // The gate's truth over the union, with a times the left coefficients and the right ones.
 fn show_merged(
-    rt: &impl Print,
+    out: &mut impl Write,
     s: Settings,
     inputs: &UnitInputs,
     basis: &Basis,
@@ -181,15 +204,15 @@ fn show_merged(
         truth,
     };
     match merged.cone() {
-        Some(cone) => show_simplified(rt, s, inputs, cone),
-        None => print!(rt; "no cone"),
+        Some(cone) => show_simplified(out, s, inputs, cone),
+        None => write!(out, "no cone"),
     }
 }
 
 // The union with both rows of coefficients, the three tables, and four cones simplified: both, and both merged, the left one once and as often as the right span.
 #[tactic(auto, using(cone::specs::View::span_narrow, linear::specs::Table::few_rows, compose::specs::Basis::few_room, crate::specs::Made::taken_rows))]
 fn run(
-    rt: &impl Print,
+    out: &mut impl Write,
     s: Settings,
     inputs: &UnitInputs,
     left: Cone,
@@ -203,30 +226,31 @@ fn run(
     let mut ys = [0; 2048];
     let mut truth = [0; 2048];
     compose::cone_composition_tables(left, right, &basis, gate, &mut xs, &mut ys, &mut truth);
-    show_basis(rt, &basis)?;
+    show_basis(out, &basis)?;
     let rows = rows_of(basis.n);
-    show_values(rt, &xs[..rows])?;
-    show_values(rt, &ys[..rows])?;
-    show_truth(rt, &truth[..rows])?;
-    show_simplified(rt, s, inputs, left)?;
-    print!(rt; " ")?;
-    show_simplified(rt, s, inputs, right)?;
-    print!(rt; " ")?;
-    show_merged(rt, s, inputs, &basis, 1, truth)?;
-    print!(rt; " ")?;
-    show_merged(rt, s, inputs, &basis, right.span(), truth)
+    show_values(out, &xs[..rows])?;
+    show_values(out, &ys[..rows])?;
+    show_truth(out, &truth[..rows])?;
+    show_simplified(out, s, inputs, left)?;
+    write!(out, " ")?;
+    show_simplified(out, s, inputs, right)?;
+    write!(out, " ")?;
+    show_merged(out, s, inputs, &basis, 1, truth)?;
+    write!(out, " ")?;
+    show_merged(out, s, inputs, &basis, right.span(), truth)
 }
 
-fn replay(rt: &impl Print, inputs: &UnitInputs, case: &Case) -> io::Result<()> {
+fn replay(out: &mut impl Write, inputs: &UnitInputs, case: &Case) -> io::Result<()> {
     let (Some(left), Some(right)) = (case.left.cone(), case.right.cone()) else {
-        return print!(rt; "no cone");
+        return writeln!(out, "no cone");
     };
     if support::union_support_size(left.sources(), right.sources()) > 11 {
-        return print!(rt; "no cone");
+        return writeln!(out, "no cone");
     }
-    show_measures(rt, inputs, left)?;
-    show_measures(rt, inputs, right)?;
-    run(rt, case.settings, inputs, left, right, case.gate)
+    show_measures(out, inputs, left)?;
+    show_measures(out, inputs, right)?;
+    run(out, case.settings, inputs, left, right, case.gate)?;
+    writeln!(out)
 }
 
 // ---- all cases
@@ -240,12 +264,13 @@ fn unit_inputs() -> UnitInputs {
     UnitInputs { store }
 }
 
-fn main(rt: HostRuntime) -> io::Result<()> {
+// A case prints less than 16,000 bytes, so the line has room for it.
+fn main(rt: HostRuntime) {
     let mut buffer = [0; 65536];
     let inputs = unit_inputs();
+    let mut line = ArrayVec::<u8, 16384>::new();
     for case in Cases::<Case>::read(&mut rt.stdin(), &mut buffer) {
-        replay(&rt, &inputs, &case)?;
-        println!(rt)?;
+        let _ = replay(&mut line, &inputs, &case);
+        put(&rt, &mut line);
     }
-    Ok(())
 }

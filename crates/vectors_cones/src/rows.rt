@@ -11,7 +11,7 @@ use cone::Cone;
 use linear::linear_span;
 use rules::Entry;
 use support::are_different;
-use vectors::{FromTokens, Token, Tokens};
+use vectors::{Token, Tokens};
 
 // The first n sources and coefficients, and a truth for each assignment of them. As `Cone`, whose fields they become.
 #[derive(Clone, Copy)]
@@ -55,24 +55,10 @@ fn enter_rows(coefs: &[i64], truth: &[u8]) -> Option<[Entry; 32]>
     known_rows::enter(values, truth, known_rows::bounds_of(values).low)
 }
 
-impl<'a> FromTokens<'a> for ConeRows {
-    fn read(input: &mut Tokens<'a>) -> Option<ConeRows> {
-        let n = input.next()?.value.min(11) as usize;
-        let mut numbers = [Token::default(); 11];
-        input.fill(&mut numbers[..n])?;
-        let support = numbers.map(|t| t.value as usize);
-        input.fill(&mut numbers[..n])?;
-        let coefs = numbers.map(|t| i64::from(t.signed()));
-        let mut truth = [0; 2048];
-        for (t, digit) in truth.iter_mut().zip(input.digits(1 << n)?) {
-            *t = digit % 2;
-        }
-        Some(ConeRows {
-            n,
-            support,
-            coefs,
-            truth,
-        })
+// A bit for each digit, in the places in front.
+pub(crate) fn fill_bits(places: &mut [u8], digits: &[u8]) {
+    for (place, digit) in places.iter_mut().zip(digits) {
+        *place = digit % 2;
     }
 }
 
@@ -82,6 +68,25 @@ impl ConeRows {
     ghost use Rattle.cone.specs.View.{cone_of};
     ghost use Rattle.cone.specs.Fields.{Form};
     ghost use Rattle.vectors_cones.specs.Made.{rows_of};
+
+    pub fn read(input: &mut Tokens<'_>) -> ConeRows
+        ensures { length input.new.rest.now ≤ length input.old.rest.now }
+    {
+        let n = input.next_or_zero().value.min(11) as usize;
+        let mut numbers = [Token::default(); 11];
+        input.fill(&mut numbers[..n]);
+        let support = numbers.map(|t| t.value as usize);
+        input.fill(&mut numbers[..n]);
+        let coefs = numbers.map(|t| i64::from(t.signed()));
+        let mut truth = [0; 2048];
+        fill_bits(&mut truth, input.digits(1 << n));
+        ConeRows {
+            n,
+            support,
+            coefs,
+            truth,
+        }
+    }
 
     // What has to hold of the sources and coefficients.
     fn is_form(&self) -> bool

@@ -33,10 +33,10 @@ fn replay(rt: &impl Print, case: &Case<'_>, buffer: &mut [u8]) -> io::Result<()>
     println!(rt)
 }
 
-fn main(rt: HostRuntime) -> io::Result<()> {
+// The first 100,000 cases. A write that fails is let go: the output then differs from the listed one.
+fn main(rt: HostRuntime) {
     let mut buffer = [0u8; 655360];
-    for case in Cases::<Case>::read(&mut rt.stdin(), &mut buffer) {
-        replay(&rt, &case, &mut [b'#'; 131072])?;
+    for case in Cases::<Case>::read(&mut rt.stdin(), &mut buffer).take(100_000) {
+        let _ = replay(&rt, &case, &mut [b'#'; 131072]);
     }
-    Ok(())
 }

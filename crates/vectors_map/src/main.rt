@@ -2,7 +2,7 @@
 // For each: the answer with its `(end)`, then a line that says what every buffer got.
 #![tactic(auto)]
 
-ghost use Rattle.std.specs.Prelude.{◌≡◌, ◌==◌, ◌≤◌, length, drop, OnOk};
+ghost use Rattle.std.specs.Prelude.{◌≡◌, ◌==◌, ◌≤◌, length, drop};
 ghost use Rattle.std.specs.List.{list_all};
 ghost use Rattle.framing.specs.Feeding.{state_with, fed_all};
 
@@ -84,21 +84,20 @@ fn replay(rt: &impl Print, text: &[u8]) -> io::Result<()> {
     println!(rt)
 }
 
-// A job that is closed is replayed.
-fn take_bytes(rt: &impl Print, feed: &mut Feed, bytes: &[u8], job: &mut [u8]) -> io::Result<()>
+// A job that is closed is replayed. A write that fails is let go: the output then differs from the listed one.
+fn take_bytes(rt: &impl Print, feed: &mut Feed, bytes: &[u8], job: &mut [u8])
     requires { 32768 ≤ length job.old }
-    ensures { OnOk result (state_with feed.new job.new ≡ fed_all (state_with feed.old job.old) bytes.now) }
+    ensures { state_with feed.new job.new ≡ fed_all (state_with feed.old job.old) bytes.now }
 {
     for b in bytes {
         if let Some(Ok(n)) = feed.feed_byte(*b, job) {
-            replay(rt, &job[..n])?;
+            let _ = replay(rt, &job[..n]);
         }
     }
-    Ok(())
 }
 
 // A proved loop has to end: no input has as many parts.
-fn main(rt: HostRuntime) -> io::Result<()> {
+fn main(rt: HostRuntime) {
     let mut job = [0u8; 65536];
     let mut bytes = [0u8; 4096];
     let mut feed = Feed::default();
@@ -107,7 +106,6 @@ fn main(rt: HostRuntime) -> io::Result<()> {
         if n == 0 {
             break;
         }
-        take_bytes(&rt, &mut feed, &bytes[..n], &mut job)?;
+        take_bytes(&rt, &mut feed, &bytes[..n], &mut job);
     }
-    Ok(())
 }

@@ -4,7 +4,7 @@
 
 use rules::{Refusal, Shown};
 use std::io;
-use vectors::{Cases, FromTokens, Numbered, Tokens, print_bits};
+use vectors::{Bits, Cases, FromTokens, Numbered, Tokens};
 
 #[derive(Drop)]
 struct Case<'a> {
@@ -24,31 +24,20 @@ impl<'a> FromTokens<'a> for Case<'a> {
 }
 
 fn show(rt: &impl Print, reply: Result<Option<Shown>, Refusal>) -> io::Result<()> {
-    let bits = match reply {
-        Ok(Some(shown)) => {
-            print!(rt; "0 {} ", shown.count)?;
-            shown.bits
-        }
-        Ok(None) => {
-            print!(rt; "none ")?;
-            [0; 11]
-        }
-        Err(refusal) => {
-            print!(rt; "no {} ", Numbered(refusal))?;
-            [0; 11]
-        }
-    };
-    print_bits(rt, &bits)?;
-    println!(rt)
+    match reply {
+        Ok(Some(shown)) => println!(rt; "0 {} {}", shown.count, Bits(&shown.bits)),
+        Ok(None) => println!(rt; "none {}", Bits(&[0; 11])),
+        Err(refusal) => println!(rt; "no {} {}", Numbered(refusal), Bits(&[0; 11])),
+    }
 }
 
-fn main(rt: HostRuntime) -> io::Result<()> {
+// A write that fails is let go: the output then differs from the listed one.
+fn main(rt: HostRuntime) {
     let mut buffer = [0u8; 262144];
     for case in Cases::<Case>::read(&mut rt.stdin(), &mut buffer) {
-        show(
+        let _ = show(
             &rt,
             sum_reading::sum_reading(case.text, case.node, case.value),
-        )?;
+        );
     }
-    Ok(())
 }

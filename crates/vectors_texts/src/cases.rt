@@ -1,12 +1,13 @@
 // A case is a header line, LEN bytes of text and a newline; the header is `A LEN`, `C LEN`, `R LEN BITS COUNT` or
 // `N LEN BITS COUNT`, BITS a digit for each byte handed in as a bit or `-` for none, COUNT the length of the lent buffer, filled with 7.
+ghost use Rattle.std.specs.Prelude.{◌≡◌, ◌+◌, ◌≤◌, length, drop};
+
 use crate::circuits::show_circuit;
 use circuit::Circuit;
 use rules::{RunError, Stats};
 use std::fmt::Display;
-use std::io::Read;
-use std::{io, str};
-use vectors::{Numbered, read_full};
+use std::io::{self, Read, Write};
+use vectors::{Numbered, number, read_full};
 
 // Who answers a text.
 #[derive(Clone, Copy)]
@@ -25,32 +26,48 @@ pub struct Case<'a> {
     text: &'a [u8],
 }
 
-impl From<&[u8]> for Kind {
-    fn from(word: &[u8]) -> Kind {
-        match word {
-            b"A" => Kind::Admission,
-            b"C" => Kind::CircuitReader,
-            b"N" => Kind::NetworkRun,
+// By the header's first byte alone.
+impl From<u8> for Kind {
+    fn from(letter: u8) -> Kind {
+        match letter {
+            b'A' => Kind::Admission,
+            b'C' => Kind::CircuitReader,
+            b'N' => Kind::NetworkRun,
             _ => Kind::CircuitRun,
         }
     }
 }
 
-// A line of less than 128 bytes, its newline left out. By index, since each place is lent to the reader by itself.
-fn read_line<'a, R: Read>(input: &mut R, line: &'a mut [u8; 128]) -> Option<&'a [u8]> {
+// A line of at most 128 bytes, its newline read and left out; empty at the input's end. By index, since each place is lent to the reader by itself.
+fn read_line<'a, R: Read>(input: &mut R, line: &'a mut [u8; 128]) -> &'a [u8]
+    ensures { length result.now ≤ 128 }
+{
     for i in 0..128 {
-        if read_full(input, &mut line[i..=i]) == 0 {
-            return None;
-        }
-        if line[i] == b'\n' {
-            return Some(&line[..i]);
+        if read_full(input, &mut line[i..=i]) == 0 || line[i] == b'\n' {
+            return &line[..i];
         }
     }
-    None
+    &line[..]
 }
 
-fn number(word: &[u8]) -> Option<usize> {
-    str::from_utf8(word).ok()?.parse().ok()
+// Past one byte, a space between two words.
+fn past(word: &[u8]) -> &[u8]
+    ensures { result.now ≡ drop 1 word.now }
+{
+    word.get(1..).unwrap_or(&[])
+}
+
+// At most 64 digits, and what comes after them, or after the one byte that stands for none.
+fn digits(word: &[u8]) -> (&[u8], &[u8])
+    ensures few { length result.0.now ≤ 64 }
+    ensures shorter { length result.0.now + length result.1.now ≤ length word.now }
+{
+    let most = &word[..word.len().min(64)];
+    match most.iter().position(|b| !b.is_ascii_digit()) {
+        Some(0) => (&[], past(word)),
+        Some(n) => word.split_at(n),
+        None => word.split_at(most.len()),
+    }
 }
 
 // The next case, of which the buffers hold the header and the text.
@@ -59,74 +76,73 @@ pub fn read_case<'a, R: Read>(
     line: &'a mut [u8; 128],
     room: &'a mut [u8],
 ) -> Option<Case<'a>> {
-    let mut words = read_line(input, line)?.split(|b| *b == b' ');
-    let kind = Kind::from(words.next()?);
-    let size = number(words.next()?)?;
-    let bits = words.next().unwrap_or(b"-");
-    let count = words.next().and_then(number).unwrap_or(0);
-    let text = room.get_mut(..size)?;
+    let header = read_line(input, line);
+    let kind = Kind::from(*header.first()?);
+    let (size, rest) = number(header.get(2..).unwrap_or(&[]));
+    let (bits, rest) = digits(past(rest));
+    let (count, _) = number(past(rest));
+    let text = room.get_mut(..size as usize)?;
     read_full(input, text);
     read_full(input, &mut [0]);
     Some(Case {
         kind,
         bits,
-        count,
+        count: count as usize,
         text,
     })
 }
 
 // Admission's answer to a good network, in the order of its fields.
-fn show_stats(rt: &impl Print, s: Stats) -> io::Result<()> {
-    print!(rt;
+fn show_stats(out: &mut impl Write, s: Stats) -> io::Result<()> {
+    write!(
+        out,
         "0 {} {} {} {} {} {} ",
         s.inputs, s.sums, s.boots, s.sources, s.longest, s.norm
     )?;
-    println!(rt;
+    writeln!(
+        out,
         "{} {} {} {} {}",
         s.outputs, s.depth, s.centre0, s.centre1, s.centre2
     )
 }
 
 // What stands in the lent buffer.
-fn show_values<T: Display>(rt: &impl Print, values: &[T]) -> io::Result<()> {
-    print!(rt; " |")?;
+fn show_values<T: Display>(out: &mut impl Write, values: &[T]) -> io::Result<()> {
+    write!(out, " |")?;
     for value in values {
-        print!(rt; " {value}")?;
+        write!(out, " {value}")?;
     }
-    println!(rt)
+    writeln!(out)
 }
 
 // What a run answers: its count, or how it ended.
-fn show_run(rt: &impl Print, reply: Result<usize, RunError>) -> io::Result<()> {
+fn show_run(out: &mut impl Write, reply: Result<usize, RunError>) -> io::Result<()> {
     match reply {
-        Ok(n) => print!(rt; "0 {n}"),
-        Err(RunError::Unreadable(refusal)) => print!(rt; "no {}", Numbered(refusal)),
-        Err(RunError::BadBits) => print!(rt; "bits"),
-        Err(RunError::ShortBuffer) => print!(rt; "short"),
-        Err(RunError::BrokenOff) => print!(rt; "broken"),
+        Ok(n) => write!(out, "0 {n}"),
+        Err(RunError::Unreadable(refusal)) => write!(out, "no {}", Numbered(refusal)),
+        Err(RunError::BadBits) => write!(out, "bits"),
+        Err(RunError::ShortBuffer) => write!(out, "short"),
+        Err(RunError::BrokenOff) => write!(out, "broken"),
     }
 }
 
-fn answer_admission(rt: &impl Print, text: &[u8]) -> io::Result<()> {
+fn answer_admission(out: &mut impl Write, text: &[u8]) -> io::Result<()> {
     match admission::admit(text) {
-        Ok(stats) => show_stats(rt, stats),
-        Err(refusal) => println!(rt; "{}", Numbered(refusal)),
+        Ok(stats) => show_stats(out, stats),
+        Err(refusal) => writeln!(out, "{}", Numbered(refusal)),
     }
 }
 
-fn answer_reader(rt: &impl Print, text: &[u8]) -> io::Result<()> {
+fn answer_reader(out: &mut impl Write, text: &[u8]) -> io::Result<()> {
     let mut circuit = Circuit::new();
     match circuit::read(text, &mut circuit) {
-        Ok(settings) => show_circuit(rt, settings, &circuit),
-        Err(refusal) => println!(rt; "{}", Numbered(refusal)),
+        Ok(settings) => show_circuit(out, settings, &circuit),
+        Err(refusal) => writeln!(out, "{}", Numbered(refusal)),
     }
 }
 
 // The bits that the digits stand for, as many as there are places. By `% 16`, since the runs are handed bytes over 1 too.
 fn bits_of<'a>(digits: &[u8], places: &'a mut [u8; 64]) -> &'a [u8] {
-    if digits == b"-".as_slice() {
-        return &[];
-    }
     for (bit, digit) in places.iter_mut().zip(digits) {
         *bit = digit % 16;
     }
@@ -135,31 +151,32 @@ fn bits_of<'a>(digits: &[u8], places: &'a mut [u8; 64]) -> &'a [u8] {
 
 // A run into the lent buffer.
 fn answer_run<T: Display, F: FnOnce(&mut [T]) -> Result<usize, RunError>>(
-    rt: &impl Print,
+    out: &mut impl Write,
     lent: &mut [T],
     run: F,
 ) -> io::Result<()>
     requires { F.IsAlwaysCallable run }
 {
-    show_run(rt, run(lent))?;
-    show_values(rt, lent)
+    show_run(out, run(lent))?;
+    show_values(out, lent)
 }
 
-pub fn answer(rt: &impl Print, case: Case<'_>) -> io::Result<()> {
+// A run whose count is over 64 is answered by nothing.
+pub fn answer(out: &mut impl Write, case: Case<'_>) -> io::Result<()> {
     let Case { text, count, .. } = case;
     let mut places = [0; 64];
     let bits = bits_of(case.bits, &mut places);
-    let count = count.min(64);
     match case.kind {
-        Kind::Admission => answer_admission(rt, text),
-        Kind::CircuitReader => answer_reader(rt, text),
+        Kind::Admission => answer_admission(out, text),
+        Kind::CircuitReader => answer_reader(out, text),
+        _ if count > 64 => Ok(()),
         Kind::NetworkRun => answer_run(
-            rt,
+            out,
             &mut [7i64; 64][..count],
             |lent| network_run::run_network(text, bits, lent),
         ),
         Kind::CircuitRun => answer_run(
-            rt,
+            out,
             &mut [7u8; 64][..count],
             |lent| circuit_run::run_circuit(text, bits, lent),
         ),

@@ -3,14 +3,14 @@
 use circuit::{Circuit, Function, Gate};
 use forms::{Input, Output};
 use rules::{Limit, Policy, Settings, Wire};
-use std::io;
-use vectors::print_bits;
+use std::io::{self, Write};
+use vectors::Bits;
 
-fn show_settings(rt: &impl Print, s: Settings) -> io::Result<()> {
-    print!(rt; "(fbs {} {} {} ", s.p, s.m, s.t)?;
+fn show_settings(out: &mut impl Write, s: Settings) -> io::Result<()> {
+    write!(out, "(fbs {} {} {} ", s.p, s.m, s.t)?;
     match s.norm {
-        Limit::Unlimited => print!(rt; "none")?,
-        Limit::AtMost(n) => print!(rt; "{n}")?,
+        Limit::Unlimited => write!(out, "none")?,
+        Limit::AtMost(n) => write!(out, "{n}")?,
     }
     let policy = match s.policy {
         Policy::Basic => "basic",
@@ -18,60 +18,60 @@ fn show_settings(rt: &impl Print, s: Settings) -> io::Result<()> {
         Policy::Span => "span",
     };
     let tables = if s.many { "many" } else { "one" };
-    print!(rt; " {policy} {tables})")
+    write!(out, " {policy} {tables})")
 }
 
 // The weight 1 is not written.
-fn show_input(rt: &impl Print, input: Input<'_>) -> io::Result<()> {
-    print!(rt; "(in ")?;
-    rt.write_all(input.name)?;
+fn show_input(out: &mut impl Write, input: Input<'_>) -> io::Result<()> {
+    write!(out, "(in ")?;
+    out.write_all(input.name)?;
     if input.weight != 1 {
-        print!(rt; " {}", input.weight)?;
+        write!(out, " {}", input.weight)?;
     }
-    print!(rt; ")")
+    write!(out, ")")
 }
 
-fn show_wire(rt: &impl Print, wire: Wire) -> io::Result<()> {
+fn show_wire(out: &mut impl Write, wire: Wire) -> io::Result<()> {
     match wire {
-        Wire::Const(b) => print!(rt; " (k {b})"),
-        Wire::Node(id) => print!(rt; " (n {id})"),
+        Wire::Const(b) => write!(out, " (k {b})"),
+        Wire::Node(id) => write!(out, " (n {id})"),
     }
 }
 
-fn show_gate(rt: &impl Print, gate: Gate) -> io::Result<()> {
-    print!(rt; "(gate {} ", gate.line)?;
+fn show_gate(out: &mut impl Write, gate: Gate) -> io::Result<()> {
+    write!(out, "(gate {} ", gate.line)?;
     match gate.function {
         Function::Unary(wire, answers) => {
-            print_bits(rt, &answers)?;
-            show_wire(rt, wire)?;
+            write!(out, "{}", Bits(&answers))?;
+            show_wire(out, wire)?;
         }
         Function::Binary(left, right, answers) => {
-            print_bits(rt, &answers)?;
-            show_wire(rt, left)?;
-            show_wire(rt, right)?;
+            write!(out, "{}", Bits(&answers))?;
+            show_wire(out, left)?;
+            show_wire(out, right)?;
         }
     }
-    print!(rt; ")")
+    write!(out, ")")
 }
 
-fn show_output(rt: &impl Print, output: Output<'_>) -> io::Result<()> {
-    print!(rt; "(out ")?;
-    rt.write_all(output.name)?;
-    show_wire(rt, output.wire)?;
-    print!(rt; ")")
+fn show_output(out: &mut impl Write, output: Output<'_>) -> io::Result<()> {
+    write!(out, "(out ")?;
+    out.write_all(output.name)?;
+    show_wire(out, output.wire)?;
+    write!(out, ")")
 }
 
-pub fn show_circuit(rt: &impl Print, s: Settings, c: &Circuit<'_>) -> io::Result<()> {
-    print!(rt; "0 ")?;
-    show_settings(rt, s)?;
+pub fn show_circuit(out: &mut impl Write, s: Settings, c: &Circuit<'_>) -> io::Result<()> {
+    write!(out, "0 ")?;
+    show_settings(out, s)?;
     for &input in &c.inputs {
-        show_input(rt, input)?;
+        show_input(out, input)?;
     }
     for &gate in &c.gates {
-        show_gate(rt, gate)?;
+        show_gate(out, gate)?;
     }
     for &output in &c.outputs {
-        show_output(rt, output)?;
+        show_output(out, output)?;
     }
-    println!(rt)
+    writeln!(out)
 }
