@@ -2,7 +2,7 @@
 #![tactic(auto)]
 
 pub mod live;
-mod norm;
+pub mod norm;
 
 ghost use Rattle.std.specs.Prelude.{◌≡◌, ◌&&◌, not, List, map, ℕ, length};
 ghost use Rattle.rules.specs.Cone.{within_norm};

@@ -2,4 +2,4 @@
 #![tactic(auto)]
 
 pub mod map;
-mod sides;
+pub mod sides;

@@ -1,8 +1,8 @@
 // Writing a network's text in edition 2 from the node store, its nodes in a new order. It leans on `writer`, `lines`, `nodes` and `rotation`.
 #![tactic(auto)]
 
-mod many;
-mod tables;
+pub mod many;
+pub mod tables;
 
 ghost use Rattle.lines.specs.Front.{Written};
 ghost use Rattle.lines.specs.Put.{Room};
