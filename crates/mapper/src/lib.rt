@@ -43,11 +43,12 @@ pub fn finish(
 pub fn map(text: &[u8], out: &mut [u8]) -> Result<usize, Refusal>
     ensures { outcome (map_reply result) out.new ≡ mapper text.now out.old }
 {
+    // All three before the text is read: a function pays at its entry for its locals, and what is set up later is so a second time.
     let mut circuit = Circuit::new();
-    let settings = used_settings(read(text, &mut circuit)?);
-    let valid = ValidSettings { settings };
     let mut store = Store::new();
     let mut wires = ArrayVec::new();
+    let settings = used_settings(read(text, &mut circuit)?);
+    let valid = ValidSettings { settings };
     start(&circuit, &mut store, &mut wires);
     let mut begun = 0;
     map_gates(

@@ -32,6 +32,10 @@ fn place(store: &Store, order: &[u16], k: usize) -> usize
     ensures { Behind (shares (store_of store.now) k) order.now result }
 {
     let node = store.node(k);
+    // An input or a sum shares no node: without this test each would look at all before it.
+    let LutNode::Bootstrap { .. } = node else {
+        return order.len();
+    };
     let last = order
         .iter()
         .rposition(|&i| same_group(node, store.node(i as usize)));

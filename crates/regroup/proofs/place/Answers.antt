@@ -1,11 +1,17 @@
-use Rattle.std.proofs.Common.{◌≡◌, ◌<◌, ◌∙◌, length, get_or, List, ℕ, ◌-◌, rules, arith, ap, subst, reverse, [], ◌∷◌, Iter}
+use Rattle.std.proofs.Common.{◌≡◌, ◌<◌, ◌∙◌, length, get_or, List, ℕ, ◌-◌, rules, refl, false, arith, ap, subst, reverse, [], ◌∷◌, Iter}
 use Rattle.std.specs.Slice.Iter.{iter_rest, iter_steps_back}
 use Rattle.std.proofs.lemmas.Iterator.{YieldsList}
 use Rattle.std.proofs.lemmas.Iterator.Consumers.{YieldsList-from_shown}
 use Rattle.std.proofs.lemmas.Iterator.Adapters.{serves_from_places}
 use Rattle.std.proofs.lemmas.List.{get_or_default, get_or-reverse, length-reverse}
 use mathlib.Core.List.{reverse-append}
+use Rattle.rules.specs.Network.{LutNode, node_at}
+use Rattle.rules.specs.Regroup.{same_group}
+use Rattle.packed.specs.Short.{Short}
 use Rattle.nodes.specs.Store.{store_of}
+use Rattle.nodes.specs.View.{lut_node}
+use Rattle.nodes.specs.declared.node.LutNode as L
+use Rattle.nodes.specs.declared.node.LutNode.TheVariants as Code
 use Rattle.regroup.specs.Behind.{at_none, at_last}
 use Rattle.regroup.specs.Order.{shares, Below}
 use Rattle.regroup.proofs.place.Goals as goal
@@ -32,3 +38,16 @@ returns-in-Some c = at_last (shares (store_of c.args.store.now) c.args.k) c.args
 pub returns-in-None : goal.returns-in-None
 unfolding shares
 returns-in-None c = at_none (shares (store_of c.args.store.now) c.args.k) c.args.order.now (search rules)
+
+-- what is no table shares its place with none
+alone : (n : L.LutNode) → ((source : ℕ) → (table : Short ℕ) → n ≡ Code.Bootstrap source table → ⊥) → (y : LutNode) → same_group (lut_node n) y ≡ false
+unfolding lut_node same_group
+alone (Code.Input name weight) h y = refl
+alone (Code.Linear constant terms) h y = refl
+alone (Code.Bootstrap source table) h y = absurd (h source table refl)
+
+pub returns-in_default : goal.returns-in_default
+unfolding shares
+returns-in_default c =
+    at_none (shares (store_of c.args.store.now) c.args.k) c.args.order.now
+    (λ i h. subst (λ n. same_group n (node_at (store_of c.args.store.now) (get_or c.args.order.now i 0)) ≡ false) c.node-node.ensures (alone _ c.in_default.not-Bootstrap _))
