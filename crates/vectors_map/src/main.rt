@@ -2,8 +2,8 @@
 // For each: the answer with its `(end)`, then a line that says what every buffer got.
 #![tactic(auto)]
 
-ghost use Rattle.std.specs.Prelude.{◌≡◌, ◌==◌, ◌≤◌, length, drop};
-ghost use Rattle.std.specs.List.{list_all};
+ghost use Rattle.std.specs.Prelude.{◌≡◌, ◌==◌, ◌≤◌, nat_eq, length, drop, replicate};
+ghost use Rattle.std.specs.List.{list_all, starts_with};
 ghost use Rattle.framing.specs.Feeding.{state_with, fed_all};
 
 use framing::Feed;
@@ -14,11 +14,25 @@ use vectors::{Numbered, read_full};
 // Every byte of a buffer before it is lent: no text has it.
 const UNTOUCHED: u8 = 165;
 
+// A buffer as it is before it is lent.
+fn untouched() -> [u8; 65536]
+    ensures { result ≡ replicate 65536 165 }
+{
+    [UNTOUCHED; 65536]
+}
+
 // The bytes from a place on are as they were before the buffer was lent.
 fn is_kept(out: &[u8], from: usize) -> bool
     ensures { result ≡ list_all (λ b. b == 165) (drop from out.now) }
 {
     out.iter().skip(from).all(|b| *b == UNTOUCHED)
+}
+
+// The buffer begins with the network.
+fn is_same(network: &[u8], out: &[u8]) -> bool
+    ensures { result ≡ starts_with nat_eq out.now network.now }
+{
+    out.starts_with(network)
 }
 
 // A reply's number with its count or line, and whether what no answer was written on is kept.
@@ -39,12 +53,12 @@ fn show_reply(rt: &impl Print, reply: Result<usize, Refusal>, out: &[u8]) -> io:
 fn map_again(rt: &impl Print, text: &[u8], network: &[u8], k: usize) -> io::Result<()>
     requires { k ≤ 65536 }
 {
-    let mut out = [UNTOUCHED; 65536];
+    let mut out = untouched();
     let reply = mapper::map(text, &mut out[..k]);
     print!(rt; " | ")?;
     show_reply(rt, reply, &out)?;
     if reply.is_ok() {
-        let same = if out.starts_with(network) {
+        let same = if is_same(network, &out) {
             "same"
         } else {
             "other"
@@ -65,7 +79,7 @@ fn map_shorter(rt: &impl Print, text: &[u8], network: &[u8]) -> io::Result<()> {
 }
 
 fn replay(rt: &impl Print, text: &[u8]) -> io::Result<()> {
-    let mut out = [UNTOUCHED; 65536];
+    let mut out = untouched();
     let reply = mapper::map(text, &mut out);
     match reply {
         Ok(n) => {
