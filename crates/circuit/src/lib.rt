@@ -9,8 +9,8 @@ ghost use Rattle.rules.specs.declared.Wire.TheVariants.{Const};
 ghost use Rattle.rules.specs.CircuitText.{read_circuit};
 ghost use Rattle.circuit.specs.View.{gate_of, reading_of};
 
-use arrayvec::ArrayVec;
 use forms::{Input, Output};
+use packed::short::Short;
 use rules::{Refusal, Settings, Wire};
 
 // What a gate computes: its answer for each assignment of its wires, the first wire's bit the higher.
@@ -27,7 +27,7 @@ pub struct Gate {
     pub function: Function,
 }
 
-// What an `ArrayVec` holds where it has no gate. By hand: `#[default]` takes only a case without fields.
+// What a list in place holds where it has no gate. By hand: `#[default]` takes only a case without fields.
 impl Default for Gate {
     fn default() -> Self
         ensures { gate_of result ≡ record { bits = 0 ∷ 0 ∷ []; wires = Const 0 ∷ []; line = 0 } }
@@ -41,12 +41,12 @@ impl Default for Gate {
 
 // What the lines so far say, and behind the last one the whole circuit: the `fbs` line, once it came, the inputs, the gates and the outputs, whose names
 // are parts of the text.
-#[derive(Drop)]
+#[derive(Clone, Copy)]
 pub struct Circuit<'a> {
     pub settings: Option<Settings>,
-    pub inputs: ArrayVec<Input<'a>, 32>,
-    pub gates: ArrayVec<Gate, 96>,
-    pub outputs: ArrayVec<Output<'a>, 32>,
+    pub inputs: Short<Input<'a>, 32>,
+    pub gates: Short<Gate, 96>,
+    pub outputs: Short<Output<'a>, 32>,
 }
 
 // The circuit that a text describes. It takes the place of the lent one, so that none is copied; the answer is the `fbs` line alone, as a network's

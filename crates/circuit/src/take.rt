@@ -14,10 +14,10 @@ ghost use Rattle.circuit.specs.View.{wires_of, answers_of, counts_of, option_of,
 ghost use Rattle.circuit.specs.Took.{line_number, with_form};
 
 use crate::{Circuit, Function, Gate};
-use arrayvec::ArrayVec;
 use circuit_conditions::{Counts, GateWires, Wires, is_astray};
 use circuit_text::line::{Line, read_line};
 use forms::{Input, Output};
+use packed::short::Short;
 use rules::{Reason, Refusal, Settings};
 use text::digit_of;
 
@@ -53,9 +53,9 @@ impl<'a> Circuit<'a> {
     {
         Circuit {
             settings: None,
-            inputs: ArrayVec::new(),
-            gates: ArrayVec::new(),
-            outputs: ArrayVec::new(),
+            inputs: Short::new(),
+            gates: Short::new(),
+            outputs: Short::new(),
         }
     }
 

@@ -24,7 +24,7 @@ use forms::Net;
 use many_judge::check_many;
 use many_text::{Line, Tables, read_line};
 use network::{put_boot, take_lines};
-use network_judge::{Network, check_line};
+use network_judge::{Network, check_net};
 use rules::{Reason, Refusal};
 use text::read_word;
 
@@ -56,7 +56,7 @@ fn take_net(network: &mut Network, net: Net) -> Result<(), Reason>
     ensures number { number_met result ≡ refusal2 (prefix_of network.old) (some (Plain (NetLine (net_of net)))) }
     ensures added { (i : ℕ) → OnOk result (prefix_of network.new ≡ with_network_line i (prefix_of network.old) (NetLine (net_of net))) }
 {
-    check_line(network, true, &network_text::Line::Net(net))?;
+    check_net(network)?;
     network.net = Some(net);
     Ok(())
 }

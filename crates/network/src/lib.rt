@@ -61,22 +61,22 @@ fn put_in(store: &mut Store, name: &[u8], weight: u8)
 }
 
 // A line for which there is room, put behind those before it; a table stands behind the `net` line.
-fn put_line<'a>(network: &mut Network<'a>, line: Line<'a>)
-    requires { Ready network.old line }
-    ensures { Follows network.old line.entry network.new }
+fn put_line<'a>(network: &mut Network<'a>, line: &Line<'a>)
+    requires { Ready network.old line.now }
+    ensures { Follows network.old line.now network.new }
 {
     match line {
-        Line::Net(net) => network.net = Some(net),
+        Line::Net(net) => network.net = Some(*net),
         Line::In(input) => {
             put_in(&mut network.store, input.name, input.weight);
             network.inputs += 1;
         }
-        Line::Lin(terms) => put_sum(&mut network.store, terms),
+        Line::Lin(terms) => put_sum(&mut network.store, *terms),
         Line::Boot { source, table } => {
             let net = network.net.unwrap();
-            put_boot(&mut network.store, net.p, source, table);
+            put_boot(&mut network.store, net.p, *source, *table);
         }
-        Line::Out(output) => network.outputs.push(output),
+        Line::Out(output) => network.outputs.push(*output),
     }
 }
 
@@ -89,7 +89,7 @@ pub fn take_line<'a>(network: &mut Network<'a>, judge: bool, l: &'a [u8]) -> Res
         return Err(Reason::BadLine);
     };
     check_line(network, judge, &line)?;
-    put_line(network, line);
+    put_line(network, &line);
     Ok(())
 }
 

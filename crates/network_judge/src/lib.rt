@@ -6,7 +6,7 @@ mod network;
 ghost use Rattle.std.specs.Prelude.{◌≡◌, Bool, ◌<◌, length};
 ghost use Rattle.rules.specs.CircuitText.{listed};
 ghost use Rattle.rules.specs.Network.{node_at, Input as In, Linear, Bootstrap};
-ghost use Rattle.rules.specs.NetworkText.{NodeLine, OutLine, fits_table, names, sources, any_bad_source};
+ghost use Rattle.rules.specs.NetworkText.{Net, NetLine, NodeLine, OutLine, fits_table, names, sources, any_bad_source};
 ghost use Rattle.rules.specs.Refusal.{number_met};
 ghost use Rattle.text.specs.Judged.{lowest};
 ghost use Rattle.forms.specs.Forms.{given_of, output_of};
@@ -48,6 +48,17 @@ fn is_known_name(store: &Store, name: &[u8]) -> bool
         .nodes
         .iter()
         .any(|stored| has_name(&stored.node, name))
+}
+
+// The `net` line, whatever it says: it stands before all others. Edition 2 has it in another form.
+#[tactic(auto, using(crate::specs::Conditions::tests), unfolding(crate::specs::Conditions::conditions))]
+pub fn check_net(network: &Network) -> Result<(), Reason>
+    ensures { (judge : Bool) (net : Net) → number_met result ≡ lowest (line_conditions judge (prefix_of network.now) (NetLine net)) }
+{
+    if network.net.is_some() {
+        return Err(Reason::BadLine);
+    }
+    Ok(())
 }
 
 // An input.
@@ -156,11 +167,7 @@ pub fn check_line(network: &Network, judge: bool, line: &Line) -> Result<(), Rea
     ensures { number_met result ≡ lowest (line_conditions judge (prefix_of network.now) (line_of line.now)) }
 {
     match line {
-        Line::Net(_) => if network.net.is_none() {
-            Ok(())
-        } else {
-            Err(Reason::BadLine)
-        },
+        Line::Net(_) => check_net(network),
         Line::In(input) => check_in(network, *input),
         Line::Lin(terms) => check_lin(network, judge, terms),
         Line::Boot { source, table } => check_boot(network, judge, *source, *table),

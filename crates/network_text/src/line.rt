@@ -11,7 +11,7 @@ use nodes::terms::Terms;
 use text::{read_number, read_word};
 
 // What a line says: P, M and NORM; an input; a sum; a table and its node; an output.
-#[derive(Drop)]
+#[derive(Clone, Copy)]
 pub enum Line<'a> {
     Net(Net),
     In(Input<'a>),
@@ -61,7 +61,9 @@ fn read_form(s: &[u8]) -> Option<(Line<'_>, &[u8])>
         return Some((Line::In(input), rest));
     }
     if let Some(s) = read_word(s, b"(lin ") {
-        let (terms, rest) = read_sum(s)?;
+        let Some((terms, rest)) = read_sum(s) else {
+            return None;
+        };
         return Some((Line::Lin(terms), rest));
     }
     if let Some(s) = read_word(s, b"(boot ") {
@@ -76,7 +78,9 @@ fn read_form(s: &[u8]) -> Option<(Line<'_>, &[u8])>
 pub fn read_line(l: &[u8]) -> Option<Line<'_>>
     ensures { LineRead l.now result }
 {
-    let (line, rest) = read_form(l)?;
+    let Some((line, rest)) = read_form(l) else {
+        return None;
+    };
     if !rest.is_empty() {
         return None;
     }

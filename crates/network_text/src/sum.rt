@@ -10,6 +10,7 @@ ghost use Rattle.network_text.specs.Terms.{term_of, cap_coef, spaced_term, good_
 use arrayvec::ArrayVec;
 use forms::read_signed;
 use nodes::terms::{Summand, Terms};
+use packed::short::Short;
 use text::{read_digits, read_word, value_of};
 
 // A space and `(COEF ID)`: the coefficient and the node's digits.
@@ -75,7 +76,7 @@ fn read_terms(constant: i64, s: &[u8]) -> Option<(Terms, &[u8])>
     let mut t = SoFar {
         sum: Terms {
             constant,
-            terms: ArrayVec::new(),
+            terms: Short::new(),
         },
         nodes: ArrayVec::new(),
     };
@@ -102,7 +103,10 @@ pub fn read_sum(s: &[u8]) -> Option<(Terms, &[u8])>
     if !is_small(constant) {
         return None;
     }
-    let (terms, s) = read_terms(constant, s)?;
+    // Here and where this is called no `?`: of an Option that holds a `Short` beside a slice the check does not cover it.
+    let Some((terms, s)) = read_terms(constant, s) else {
+        return None;
+    };
     let s = read_word(s, b")\n")?;
     Some((terms, s))
 }

@@ -13,7 +13,7 @@ use Rattle.theorems.specs.EarlierNodes.{Ordered}
 use Rattle.theorems.specs.Members.{member_cons}
 use Rattle.theorems.specs.NodesAt.{node-before, node_next}
 use Rattle.theorems.specs.Weights.{GoodWeight}
-use Rattle.arrayvec.specs.ArrayVec.{ArrayVec}
+use Rattle.packed.specs.Short.{Short}
 use Rattle.nodes.specs.declared.node.LutNode.TheVariants as Code
 use Rattle.nodes.specs.declared.node.LutNode as L
 use Rattle.nodes.specs.declared.node.Term as T
@@ -47,15 +47,15 @@ table_in (Bootstrap j table) = table
 
 -- ---- laws: a node by its kind
 
-pub seen_input : (n : L.LutNode) (m : LutNode) (name : ArrayVec ℕ) (w : ℕ) → lut_node n ≡ m → n ≡ Code.Input name w → m ≡ Input (given name.items w)
+pub seen_input : (n : L.LutNode) (m : LutNode) (name : Short ℕ) (w : ℕ) → lut_node n ≡ m → n ≡ Code.Input name w → m ≡ Input (given name.items w)
 unfolding lut_node
 seen_input n m name w e f = sym e ∙ ap lut_node f
 
-pub seen_linear : (n : L.LutNode) (m : LutNode) (c : ℤ) (ts : ArrayVec T.Term) → lut_node n ≡ m → n ≡ Code.Linear c ts → m ≡ Linear c (terms_seen ts.items)
+pub seen_linear : (n : L.LutNode) (m : LutNode) (c : ℤ) (ts : Short T.Term) → lut_node n ≡ m → n ≡ Code.Linear c ts → m ≡ Linear c (terms_seen ts.items)
 unfolding lut_node
 seen_linear n m c ts e f = sym e ∙ ap lut_node f
 
-pub seen_bootstrap : (n : L.LutNode) (m : LutNode) (source : ℕ) (table : ArrayVec ℕ) → lut_node n ≡ m → n ≡ Code.Bootstrap source table → m ≡ Bootstrap source table.items
+pub seen_bootstrap : (n : L.LutNode) (m : LutNode) (source : ℕ) (table : Short ℕ) → lut_node n ≡ m → n ≡ Code.Bootstrap source table → m ≡ Bootstrap source table.items
 unfolding lut_node
 seen_bootstrap n m source table e f = sym e ∙ ap lut_node f
 

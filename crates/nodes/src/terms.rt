@@ -4,7 +4,7 @@ ghost use mathlib.Core.List.{zip_with};
 ghost use Rattle.nodes.specs.Terms.{terms_in};
 ghost use Rattle.nodes.specs.View.{term};
 
-use arrayvec::ArrayVec;
+use packed::short::Short;
 
 // A coefficient and the number of its node. A text's number is kept up to 65536, which a stored node's (`Term`) has no room for.
 #[derive(Clone, Copy, Default)]
@@ -13,10 +13,10 @@ pub struct Summand {
     pub node: usize,
 }
 
-#[derive(Drop)]
+#[derive(Clone, Copy)]
 pub struct Terms {
     pub constant: i64,
-    pub terms: ArrayVec<Summand, 11>,
+    pub terms: Short<Summand, 11>,
 }
 
 impl Terms {
@@ -27,7 +27,7 @@ impl Terms {
         ensures terms { terms_in result ≡ zip_with term coefs.now nodes.now }
         ensures few { length result.terms.items ≤ 11 }
     {
-        let mut terms = ArrayVec::new();
+        let mut terms = Short::new();
         for (&coef, &node) in coefs.iter().zip(nodes) {
             terms.push(Summand { coef, node });
         }

@@ -1,2 +1,3 @@
 -- Numbers in two bytes.
 pub mod Number
+pub mod Short

@@ -6,25 +6,34 @@ ghost use Rattle.std.specs.Cmp.Lexicographic.{pointwise, lists_per, lists_equiv}
 use std::marker::Model;
 use std::ops::DerefSlice;
 
-// No ArrayVec: its count takes eight bytes, and then the store is larger than the first cache, which costs jobs of a gate or two as much as all else.
-#[derive(Drop)]
+// No ArrayVec: its count takes eight bytes, and then the store is larger than the first cache, which costs jobs of a gate or two as much as all else;
+// nor is it `Copy`, as a sum's terms and a circuit are.
+#[derive(Clone, Copy)]
 pub struct Short<T, const N: usize> {
     places: [T; N],
     count: u8,
 }
 
-// Contracts see it as they see an ArrayVec: by its items.
+// Contracts see it by its items, as they see an ArrayVec. What stands behind them they may not name; with it a value gives its fields back, so it is `Copy`.
 impl<T, const N: usize> Model for Short<T, N> {
-    ghost use Rattle.std.specs.Prelude.{◌≡◌, ◌≤◌, length, take};
-    ghost use Rattle.arrayvec.specs.ArrayVec.{ArrayVec, array_vec_code};
+    ghost use Rattle.std.specs.Prelude.{◌≡◌, ◌≤◌, ◌++◌, length, take, drop};
+    ghost use Rattle.std.proofs.Common.{arith, take-append-drop, length-take-le};
+    ghost use Rattle.packed.specs.Short.{Short as Items, short_code};
 
-    ghost Value = { ArrayVec T };
+    ghost Value = { Items T };
 
-    ghost coded = { array_vec_code T.code };
+    ghost coded = { short_code T.code };
 
-    ghost view = { λ s. record { items = take s.count s.places } };
+    ghost view = { λ s. record { items = take s.count s.places; spare = drop s.count s.places } };
 
     ghost invariant = { λ s. (s.count ≤ N) × (length s.places ≡ N) };
+
+    ghost inverse = { λ s. record { places = s.items ++ s.spare; count = length s.items } };
+
+    ghost inverse_ok = { λ s h i. record {
+      places = take-append-drop s.count s.places i;
+      count = length-take-le s.count s.places (omega (arith, h.0, h.1)) i;
+    } };
 }
 
 impl<T: Default, const N: usize> Short<T, N> {
@@ -51,6 +60,15 @@ impl<T: Copy + Default, const N: usize> Short<T, N> {
             places,
             count: items.len() as u8,
         }
+    }
+}
+
+impl<T, const N: usize> Short<T, N> {
+    // Of no items again.
+    pub fn clear(&mut self)
+        ensures { self.new.items ≡ [] }
+    {
+        self.count = 0;
     }
 }
 

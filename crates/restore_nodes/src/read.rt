@@ -8,9 +8,9 @@ ghost use Rattle.nodes.specs.Terms.{summand_of};
 ghost use Rattle.nodes.specs.View.{lut_node, Fine};
 
 use crate::fields::{number, read_coef};
-use arrayvec::ArrayVec;
 use nodes::node::LutNode;
 use nodes::terms::{Summand, Terms};
+use packed::short::Short;
 
 #[tactic(auto, using(crate::specs::Cells::input_cell), unfolding(retuning::specs::GoodState::GoodNode, theorems::specs::Weights::GoodWeight))]
 fn read_input(cell: &[u8]) -> Option<LutNode>
@@ -54,7 +54,7 @@ fn read_sum(cell: &[u8], count: usize) -> Option<LutNode>
     }
     let mut sum = Terms {
         constant,
-        terms: ArrayVec::new(),
+        terms: Short::new(),
     };
     for k in 0..length {
         let term = read_term(&cell[3 + 3 * k..6 + 3 * k], count)?;

@@ -27,13 +27,19 @@ use nodes::terms::Terms;
 use rules::{Entry, Policy};
 use scale_pair::pair::{Pair, evaluate, prepare_coefficients};
 use scale_pair::score::{Rank, Score, better};
-use std::ops::Range;
+
+// The scales from start up to and not including end. No `Range`: the pairs are `Copy`, and a `Range` is not.
+#[derive(Clone, Copy)]
+pub struct Scales {
+    pub start: i64,
+    pub end: i64,
+}
 
 // The scale pairs that are tried: each a with each b.
-#[derive(Drop)]
+#[derive(Clone, Copy)]
 pub struct Ranges {
-    pub a: Range<i64>,
-    pub b: Range<i64>,
+    pub a: Scales,
+    pub b: Scales,
 }
 
 impl Ranges {
@@ -43,8 +49,14 @@ impl Ranges {
         ensures { result ≡ one_pair a b }
     {
         Ranges {
-            a: a..a + 1,
-            b: b..b + 1,
+            a: Scales {
+                start: a,
+                end: a + 1,
+            },
+            b: Scales {
+                start: b,
+                end: b + 1,
+            },
         }
     }
 }
@@ -142,7 +154,6 @@ fn search(context: Context, ranges: Ranges, xs: &[i32], ys: &[i32], truth: &[u8]
 {
     let weights = weights_of(context.store, context.basis.sources());
     let mut best = None;
-    // By its ends: the range of b is walked for each a, and a `Range` that was walked is used up.
     for a in ranges.a.start..ranges.a.end {
         'pair: for b in ranges.b.start..ranges.b.end {
             let Some(pair) = evaluate(context.basis, &weights, context.settings, a, b) else {
@@ -176,8 +187,14 @@ fn ranges_of(same_form: bool, policy: Policy, left: usize, right: usize) -> Rang
         (Policy::Naive, _) => Ranges::one(right, 1),
         (_, true) => Ranges::one(0, 1),
         (_, false) => Ranges {
-            a: 0..right + 1,
-            b: -left..left + 1,
+            a: Scales {
+                start: 0,
+                end: right + 1,
+            },
+            b: Scales {
+                start: -left,
+                end: left + 1,
+            },
         },
     }
 }

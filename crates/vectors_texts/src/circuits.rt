@@ -64,13 +64,13 @@ fn show_output(out: &mut impl Write, output: Output<'_>) -> io::Result<()> {
 pub fn show_circuit(out: &mut impl Write, s: Settings, c: &Circuit<'_>) -> io::Result<()> {
     write!(out, "0 ")?;
     show_settings(out, s)?;
-    for &input in &c.inputs {
+    for &input in c.inputs.iter() {
         show_input(out, input)?;
     }
-    for &gate in &c.gates {
+    for &gate in c.gates.iter() {
         show_gate(out, gate)?;
     }
-    for &output in &c.outputs {
+    for &output in c.outputs.iter() {
         show_output(out, output)?;
     }
     writeln!(out)

@@ -4,7 +4,7 @@ use mathlib.Core.Bool.{Bool-set}
 use mathlib.Core.HLevel.{Π_prop, →_prop}
 use Rattle.std.proofs.Common.{ap₂, subst, arith, drop_of_length-le, drop-cons}
 use Rattle.std.proofs.Math.Numerals.{add-one}
-use Rattle.arrayvec.specs.ArrayVec.{ArrayVec}
+use Rattle.packed.specs.Short.{Short}
 use Rattle.laws.specs.Test.{if◌then◌otherwise◌}
 use Rattle.rules.specs.Network.{Term, LutNode, Input, Linear, Bootstrap, member, node_at}
 use Rattle.rules.specs.NetworkText.{sources}
@@ -76,13 +76,13 @@ pub ready : (live : NewNumbers) (store : Store) (i : ℕ) → Sourced live store
 unfolding Sourced
 ready live store i s h n = record { fine = node_within store i h; needed = s i h n }
 
-pub sum_ready : {live : NewNumbers} {n : L.LutNode} {c : ℤ} {ts : ArrayVec T.Term} → n ≡ Code.Linear c ts → Ready live (lut_node n) → (nat_abs c ≤ 31) × TermsReady live (terms_seen ts.items)
+pub sum_ready : {live : NewNumbers} {n : L.LutNode} {c : ℤ} {ts : Short T.Term} → n ≡ Code.Linear c ts → Ready live (lut_node n) → (nat_abs c ≤ 31) × TermsReady live (terms_seen ts.items)
 unfolding lut_node Fine needs
 sum_ready {live} e r =
     let q = subst (λ (m : L.LutNode). Ready live (lut_node m)) e r in
     (q.fine.1, record { fine = q.fine.2; needed = q.needed })
 
-pub boot_ready : {live : NewNumbers} {n : L.LutNode} {j : ℕ} {table : ArrayVec ℕ} → n ≡ Code.Bootstrap j table → Ready live (lut_node n)
+pub boot_ready : {live : NewNumbers} {n : L.LutNode} {j : ℕ} {table : Short ℕ} → n ≡ Code.Bootstrap j table → Ready live (lut_node n)
     → ((j < 672) × HasNumber live j) × ((k : ℕ) → get_or table.items k 0 ≤ 1)
 unfolding lut_node Fine needs
 boot_ready {live} {n} {j} e r =

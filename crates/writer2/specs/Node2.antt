@@ -1,7 +1,7 @@
 -- A node of the store in edition 2, and the nodes in their new order.
 use Rattle.std.specs.Prelude.{◌≡◌, ◌⊎◌, ℤ, refl, List, [], ◌++◌, map, ℕ, ◌+◌, ◌<◌, ◌≤◌, T, length, get_or, drop, Option}
 use Rattle.std.proofs.Common.{inl, inr, add-one, append-nil, drop_of_length-le, drop-cons}
-use Rattle.arrayvec.specs.ArrayVec.{ArrayVec}
+use Rattle.packed.specs.Short.{Short}
 use Rattle.rules.specs.Network.{LutNode, Input, Linear, Bootstrap, node_at}
 use Rattle.rules.specs.Rotation.{rotatable, centre_of}
 use Rattle.rules.specs.Runs.{all_bits}
@@ -46,13 +46,13 @@ bits_of table b = all-bits_of table (λ k q. b k)
 -- ---- laws: a node behind what is open
 
 module _ (P : ℕ) (o : Option ℕ) (live : NewNumbers) (n : L.LutNode) where
-  pub boot_piece : {j m : ℕ} {table : ArrayVec ℕ} {l : List ℕ} → n ≡ Code.Bootstrap j table → m ≡ new_number live j → l ≡ table.items
+  pub boot_piece : {j m : ℕ} {table : Short ℕ} {l : List ℕ} → n ≡ Code.Bootstrap j table → m ≡ new_number live j → l ≡ table.items
       → piece P o (new_node live (lut_node n)) ≡ opening o m ++ table_text l (centre_of P l)
   unfolding lut_node new_node piece
   boot_piece e f g = rw (e, f, g) refl
 
 pub plain-piece : (P : ℕ) (o : Option ℕ) (live : NewNumbers) (n : L.LutNode)
-    → ((name : ArrayVec ℕ) × (weight : ℕ) × (n ≡ Code.Input name weight)) ⊎ ((c : ℤ) × (ts : ArrayVec T.Term) × (n ≡ Code.Linear c ts))
+    → ((name : Short ℕ) × (weight : ℕ) × (n ≡ Code.Input name weight)) ⊎ ((c : ℤ) × (ts : Short T.Term) × (n ≡ Code.Linear c ts))
     → piece P o (new_node live (lut_node n)) ≡ closing o ++ node_text (new_node live (lut_node n))
 unfolding lut_node new_node piece
 plain-piece P o live n (inl h) = rw h.2 refl

@@ -11,7 +11,7 @@ pub returns-then-is_header-clause-right : goal.returns-then-is_header-clause-rig
 returns-then-is_header-clause-right c =
     λ st stands.
     let circuit = c.args.circuit.now in
-    c.restore_state.ensures.complete st (good_before circuit c.requires.sound c.args.place c.requires.place _ c.len-inputs.ensures.value st stands.0)
+    c.restore_state.ensures.complete st (good_before circuit c.requires.sound c.args.place c.requires.place _ c.len-inputs.ensures.0 st stands.0)
     (state_behind (circuit_of c.args.settings circuit) c.requires.sound c.args.place _ st stands.1)
 
 pub returns-then-is_header-clause-told : goal.returns-then-is_header-clause-told
@@ -23,7 +23,7 @@ returns-then-is_header-clause-told c =
     let header = header_found circuit sound place _ _ _ c.deref.ensures.0 c.deref-2.ensures.0 c.deref-3.ensures.0 _ _ c.is_header.ensures c.if-is_header.true in
     let (st, stands) = header_told (circuit_of c.args.settings circuit) sound place c.args.state.now unaltered header in
     let read =
-    c.restore_state.ensures.complete st (good_before circuit sound place c.requires.place _ c.len-inputs.ensures.value st stands.0)
+    c.restore_state.ensures.complete st (good_before circuit sound place c.requires.place _ c.len-inputs.ensures.0 st stands.0)
     (state_behind (circuit_of c.args.settings circuit) sound place _ st stands.1)
     in
     (st, (stands, read.1))

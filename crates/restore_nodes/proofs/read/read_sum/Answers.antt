@@ -11,7 +11,7 @@ returns-in_err-term-clause-complete c =
 
 pub loop-k-preserved : goal.loop-k-preserved
 loop-k-preserved c =
-    summing_turn c.args.count c.args.cell.now c.loop-k.k c.loop-k.sum c.loop-k.invariant c.in_ok-term.term _ refl c.push.ensures.items c.in_ok-term.ensures.sound c.in_ok-term.ensures.complete
+    summing_turn c.args.count c.args.cell.now c.loop-k.k c.loop-k.sum c.loop-k.invariant c.in_ok-term.term _ refl c.push.ensures c.in_ok-term.ensures.sound c.in_ok-term.ensures.complete
     c.loop-k-test.true
 
 pub of_terms-requires : goal.of_terms-requires

@@ -23,7 +23,7 @@ pub loop-coef-preserved : goal.loop-coef-preserved
 loop-coef-preserved c =
     let t = this (goal.at.loop-coef-preserved c).In-Some in
     let o = c.loop-coef in
-    let i = c.push.ensures.items in (
+    let i = c.push.ensures in (
       rw (length_push o.yielded _)
           (over_more _ _ _ _ _ _ c.requires.1 (omega (arith, t.0, c.requires.1)) o.invariant.0 i (read_back _ (search rules) ∙ t.1.0) t.1.1),
       ap length i ∙ length_push o.terms.items _ ∙ ap (λ n. n + 1) o.invariant.1 ∙ sym (length_push o.yielded _),
