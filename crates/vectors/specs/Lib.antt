@@ -2,3 +2,4 @@
 pub mod Token
 pub mod Shorter
 pub mod Numbers
+pub mod NumbersOrZero

@@ -1,10 +1,14 @@
 // Numbers of a text, input by bytes and what several programs print, for programs that replay stored cases. It leans on `rules`.
 #![tactic(auto)]
 
-ghost use Rattle.std.specs.Prelude.{◌≡◌, ◌<◌, ◌≤◌, ℕ, List, [], Option, Some, length, take, drop, flat_map, position, OnSome, ⊤};
+#[cfg(test)]
+mod tests;
+
+ghost use Rattle.std.specs.Prelude.{◌≡◌, ◌&&◌, ◌<◌, ◌≤◌, ℕ, List, [], Option, Some, length, take, drop, flat_map, position, leb, is_some, OnSome, IfSome, IfNone, ⊤};
 ghost use Rattle.std.specs.Fmt.{decimal};
 ghost use Rattle.std.specs.Iterator.{at_most};
-ghost use Rattle.vectors.specs.Numbers.{numbers, row};
+ghost use Rattle.vectors.specs.Numbers.{numbers, Filled};
+ghost use Rattle.vectors.specs.NumbersOrZero.{numbers_or_zero, row};
 ghost use Rattle.vectors.specs.Token.{starts_number, from_start, read, digits, next_token, told, next_or_zero, number, signed_of};
 
 use arrayvec::ArrayVec;
@@ -105,9 +109,20 @@ impl<'a> Tokens<'a> {
         }
     }
 
+    // The next numbers into the list, where there are as many.
+    pub fn fill(&mut self, list: &mut [Token]) -> Option<()>
+        ensures numbers { Filled (numbers (length list.old) self.old.rest.now) result list.new self.new.rest.now }
+        ensures shorter { OnSome result (length self.new.rest.now ≤ length self.old.rest.now) }
+    {
+        for token in list {
+            *token = self.next()?;
+        }
+        Some(())
+    }
+
     // The next numbers into the list, 0 for each that is missing.
-    pub fn fill(&mut self, list: &mut [Token])
-        ensures numbers { row list.new self.new.rest.now ≡ numbers (length list.old) self.old.rest.now }
+    pub fn fill_or_zero(&mut self, list: &mut [Token])
+        ensures numbers { row list.new self.new.rest.now ≡ numbers_or_zero (length list.old) self.old.rest.now }
         ensures shorter { length self.new.rest.now ≤ length self.old.rest.now }
     {
         for token in list {
@@ -115,9 +130,24 @@ impl<'a> Tokens<'a> {
         }
     }
 
+    // The next n bytes from a digit or a minus on, whatever they are, where there are as many; else the text stays as it is.
+    pub fn digits(&mut self, n: usize) -> Option<&'a [u8]>
+        ensures there { is_some result ≡ (leb 1 (length (from_start self.old.rest.now)) && leb n (length (from_start self.old.rest.now))) }
+        ensures digits { IfSome result (λ d. d.now ≡ take n (from_start self.old.rest.now)) }
+        ensures rest { OnSome result (self.new.rest.now ≡ drop n (from_start self.old.rest.now)) }
+        ensures kept { IfNone result (self.new.rest.now ≡ self.old.rest.now) }
+        ensures shorter { OnSome result (length self.new.rest.now ≤ length self.old.rest.now) }
+    {
+        let start = next_start(self.rest)?;
+        if self.rest.len() - start < n {
+            return None;
+        }
+        Some(self.digits_or_fewer(n))
+    }
+
     // The next n bytes from a digit or a minus on, whatever they are, or as many as are left.
     #[tactic(auto, unfolding(crate::specs::Token::from_start))]
-    pub fn digits(&mut self, n: usize) -> &'a [u8]
+    pub fn digits_or_fewer(&mut self, n: usize) -> &'a [u8]
         ensures digits { result.now ≡ take n (from_start self.old.rest.now) }
         ensures rest { self.new.rest.now ≡ drop n (from_start self.old.rest.now) }
         ensures shorter { length self.new.rest.now ≤ length self.old.rest.now }

@@ -5,7 +5,7 @@
 
 ghost use Rattle.std.specs.Prelude.{◌≡◌, map, ◌≤◌, length};
 ghost use Rattle.rules.specs.Builder.{builder};
-ghost use Rattle.vectors.specs.Numbers.{numbers};
+ghost use Rattle.vectors.specs.NumbersOrZero.{numbers_or_zero};
 ghost use Rattle.vectors.specs.Token.{signed_of};
 ghost use Rattle.vectors_builder.specs.Filled.{Filled};
 ghost use Rattle.vectors_builder.specs.Shown.{byte_of, shown_byte};
@@ -31,7 +31,7 @@ struct Truths {
 
 // The next numbers into the list, 0 for each that is missing.
 fn fill_values(input: &mut Tokens<'_>, values: &mut [i32])
-    ensures values { Filled signed_of (numbers (length values.old) input.old.rest.now) values.new input.new.rest.now }
+    ensures values { Filled signed_of (numbers_or_zero (length values.old) input.old.rest.now) values.new input.new.rest.now }
     ensures shorter { length input.new.rest.now ≤ length input.old.rest.now }
 {
     for value in values {
@@ -41,7 +41,7 @@ fn fill_values(input: &mut Tokens<'_>, values: &mut [i32])
 
 // As `fill_values`.
 fn fill_truths(input: &mut Tokens<'_>, truths: &mut [u8])
-    ensures truths { Filled byte_of (numbers (length truths.old) input.old.rest.now) truths.new input.new.rest.now }
+    ensures truths { Filled byte_of (numbers_or_zero (length truths.old) input.old.rest.now) truths.new input.new.rest.now }
     ensures shorter { length input.new.rest.now ≤ length input.old.rest.now }
 {
     for truth in truths {

@@ -44,7 +44,7 @@ impl<'a> FromTokens<'a> for Case {
         let left = ConeRows::read(input);
         let right = ConeRows::read(input);
         let mut gate = [0; 4];
-        fill_bits(&mut gate, input.digits(4));
+        fill_bits(&mut gate, input.digits_or_fewer(4));
         Some(Case {
             settings: Settings {
                 p,

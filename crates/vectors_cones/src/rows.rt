@@ -74,12 +74,12 @@ impl ConeRows {
     {
         let n = input.next_or_zero().value.min(11) as usize;
         let mut numbers = [Token::default(); 11];
-        input.fill(&mut numbers[..n]);
+        input.fill_or_zero(&mut numbers[..n]);
         let support = numbers.map(|t| t.value as usize);
-        input.fill(&mut numbers[..n]);
+        input.fill_or_zero(&mut numbers[..n]);
         let coefs = numbers.map(|t| i64::from(t.signed()));
         let mut truth = [0; 2048];
-        fill_bits(&mut truth, input.digits(1 << n));
+        fill_bits(&mut truth, input.digits_or_fewer(1 << n));
         ConeRows {
             n,
             support,

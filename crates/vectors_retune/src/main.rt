@@ -47,7 +47,7 @@ struct Case<'a> {
 impl<'a> FromTokens<'a> for Case<'a> {
     fn read(input: &mut Tokens<'a>) -> Option<Case<'a>> {
         let mut numbers = [Token::default(); 9];
-        input.fill(&mut numbers);
+        input.fill_or_zero(&mut numbers);
         let [size, fill, len, line, room, how, first, last, xor] = numbers;
         let text = input.text(len.value as usize)?;
         Some(Case {

@@ -1,11 +1,15 @@
 use Rattle.std.proofs.Common.{arith}
-use Rattle.vectors.specs.Numbers.{fill_next, fill_end}
+use Rattle.vectors.specs.Numbers.{fill_stops, fill_next, fill_end}
 use Rattle.vectors.proofs.Tokens.fill.Goals as goal
+
+pub returns-in_err-token-clause-numbers : goal.returns-in_err-token-clause-numbers
+returns-in_err-token-clause-numbers c =
+    rw (fill_stops _ _ _ _ _ c.loop-token.invariant.read _ (omega arith) c.in_err-token.ensures.steps) c.from_residual.ensures
 
 pub loop-token-preserved : goal.loop-token-preserved
 loop-token-preserved c = record {
-  read = fill_next _ _ _ _ _ c.loop-token.invariant.read _ _ (omega arith) (omega arith) c.next_or_zero.ensures.number;
-  shorter = omega arith;
+  read = fill_next _ _ _ _ _ c.loop-token.invariant.read _ _ (omega arith) (omega arith) c.in_ok-token.ensures.steps;
+  shorter = omega (arith, c.in_ok-token.ensures.goes.on tt);
 }
 
 pub returns-clause-numbers : goal.returns-clause-numbers
