@@ -16,17 +16,19 @@ digits_shorter v (b ∷ s) =
     if_both (λ (r : Read). length r.rest ≤ length (b ∷ s)) (is_ascii_digit b) (omega arith) (omega arith)
 
 module _ (s : List ℕ) (i : ℕ) (e : Some i ≡ position starts_number s) where
-  found : (i < length s) × (starts_number (get_or s i 0) ≡ true)
-  found =
+  -- the place that is told is the first one, within the text
+  pub start_is : (i ≡ position_or_len starts_number s) × (position_or_len starts_number s < length s)
+  start_is =
       let n = position_or_len starts_number s in
       ⊎_elim
-      (λ (t : ltb n (length s) ≡ true).
-      let k : Some i ≡ Some n = rw t at e in
-      let m : i ≡ n = cc in
-      let l : n < length s = ltb-true n (length s) t in
-      (omega arith, rw m (not-false _ (prefix_len_stops (λ x. not (starts_number x)) s 0 l))))
+      (λ (t : ltb n (length s) ≡ true). let k : Some i ≡ Some n = rw t at e in (cc, ltb-true n (length s) t))
       (λ (f : ltb n (length s) ≡ false). let k : Some i ≡ None = rw f at e in cc)
       (decide (ltb n (length s)))
+
+  found : (i < length s) × (starts_number (get_or s i 0) ≡ true)
+  found =
+      let (m, l) = start_is in
+      (omega arith, rw m (not-false _ (prefix_len_stops (λ x. not (starts_number x)) s 0 l)))
 
   digits_used : (negative : Bool) → negative ≡ eqb (get_or s i 0) 45 → length (digits 0 (drop (i + (if negative then 1 otherwise 0)) s)).rest < length s
   digits_used true q = let h = digits_shorter 0 (drop (i + 1) s) in omega (arith, found.0, length-drop (i + 1) s)

@@ -1,8 +1,9 @@
-use Rattle.std.proofs.Common.{◌≡◌, refl, ◌-◌, ◌<◌, ⊎_elim, ℕ, List, Option, None, Some, length, position, ltb, true, false, arith, length-drop, le-leb, ltb-true, ltb-false}
+use Rattle.std.proofs.Common.{◌≡◌, refl, ◌-◌, ◌<◌, ⊎_elim, ℕ, List, Option, None, Some, length, position, ltb, true, false, arith, length-drop, le-leb, ltb-false}
 use Rattle.std.specs.List.{position_or_len}
 use Rattle.std.proofs.lemmas.Bool.{lt-leb}
 use Rattle.laws.specs.Test.{decide}
 use Rattle.vectors.specs.Token.{starts_number, from_start}
+use Rattle.vectors.specs.Shorter.{start_is}
 use Rattle.vectors.proofs.Tokens.digits.Goals as goal
 
 -- What is left of a text from where a number starts: nothing where none does,
@@ -19,15 +20,8 @@ none_left s e =
 some_left : (s : List ℕ) (i : ℕ) → Some i ≡ position starts_number s → (i < length s) × (length (from_start s) ≡ length s - i)
 unfolding from_start
 some_left s i e =
-    let n = position_or_len starts_number s in
-    ⊎_elim
-    (λ (t : ltb n (length s) ≡ true).
-    let k : Some i ≡ Some n = rw t at e in
-    let m : i ≡ n = cc in
-    let l : n < length s = ltb-true n (length s) t in
-    (omega arith, omega (arith, length-drop n s)))
-    (λ (f : ltb n (length s) ≡ false). let k : Some i ≡ None = rw f at e in cc)
-    (decide (ltb n (length s)))
+    let (m, l) = start_is s i e in
+    (omega arith, omega (arith, length-drop (position_or_len starts_number s) s))
 
 -- `vectors::Tokens::digits` meets its contract.
 pub returns-in_err-start-clause-there : goal.returns-in_err-start-clause-there
